@@ -1,0 +1,55 @@
+-- Templates as trees (source 000, section 2, "XML Templates"). Templates, the values of a run and pages are all lists of items; a
+-- page has no gap left. An element keeps its mark, the offset of its `23`: no operation changes it, and it gives verdict 12 its place.
+use Prim.Native.Nat.{ℕ}
+use mathlib.Core.List.{List, [], _∷_}
+use mathlib.Core.Bool.{Bool, true, false, _||_}
+use lib.Dec.{eqb}
+
+-- What an attribute holds: a string, or an attribute gap. The named strings are 0 to 63, all others the numbers from 64 on.
+pub data Value : Type 0 where
+  string : ℕ → Value
+  open-gap : ℕ → Value
+
+pub record Attribute : Type 0 where
+  pub name : ℕ
+  pub value : Value
+
+mutual
+  pub data Item : Type 0 where
+    text : Item
+    gap : ℕ → Item
+    element : ℕ → ℕ → List Attribute → Items → Item
+
+  pub data Items : Type 0 where
+    none : Items
+    more : Item → Items → Items
+
+abbrev pub one : Item → Items
+one i = more i none
+
+infixr 40 _⋈_
+
+-- Two lists of items, one after the other: the Φ₁Φ₂ of section 2.
+unfoldable pub _⋈_ : Items → Items → Items
+none ⋈ js = js
+more i is ⋈ js = more i (is ⋈ js)
+
+unfoldable pub gapsOfAttributes : List Attribute → ℕ → Bool
+gapsOfAttributes [] h = false
+gapsOfAttributes (a ∷ more′) h = isGap (a .value) h || gapsOfAttributes more′ h
+  where
+    isGap : Value → ℕ → Bool
+    isGap (string s) h = false
+    isGap (open-gap k) h = eqb k h
+
+-- Section 2's gaps, for template gaps and for attribute gaps, at any depth.
+unfoldable mutual
+  unfolding gapsOfAttributes
+  pub gapIn : Items → ℕ → Bool
+  gapIn none g = false
+  gapIn (more i is) g = gapInItem i g || gapIn is g
+
+  pub gapInItem : Item → ℕ → Bool
+  gapInItem text g = false
+  gapInItem (gap k) g = eqb k g
+  gapInItem (element e mark δ φ) g = gapIn φ g

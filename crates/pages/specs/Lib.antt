@@ -1,0 +1,3 @@
+pub mod Items
+pub mod ItemReading
+pub mod RightPages

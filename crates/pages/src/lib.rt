@@ -1,0 +1,1 @@
+// Pages and templates: how their items are read.

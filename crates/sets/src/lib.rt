@@ -1,0 +1,1 @@
+// Sets of the numbers 0 to 63 as words.

@@ -1,0 +1,125 @@
+// What a call answers: acceptance, or a refusal with its kind and place (document 01, "Verdicts").
+ghost use mathlib.Core.Path.{_≡_};
+ghost use Rattle.verdicts.specs.Printed.{formNumber, coverNumbers, faultNumbers, refusalNumbers, numbersOf};
+
+// Why bytes cannot be read.
+pub enum Form {
+    // 1: more than 65,535 bytes.
+    TooLong,
+    // 2: the bytes end in a command, or before one.
+    Ended,
+    // 3: a command that is unknown or not allowed there.
+    NotAllowed,
+    // 4: an operand outside its range.
+    OutOfRange,
+    // 5: not rising, a rule given twice, an attribute twice in one element.
+    NotRising,
+    // 6: nesting or count too high.
+    TooMany,
+    // 7: too many facts in a clause.
+    TooManyFacts,
+    // 8: an element without a rule, or a template or point that is not there.
+    Missing,
+}
+
+// Where bytes cannot be read: an offset of a slice. A job is slice 0; a page is slice 1 beside its vocabulary.
+pub struct Place {
+    pub at: usize,
+    pub slice: usize,
+}
+
+// What a proposal does not cover.
+pub enum Cover {
+    // 9: the start, at the lowest such variable.
+    Start(usize),
+    // 10: the step from a point to a next point, at the lowest such variable.
+    Step {
+        point: usize,
+        next: usize,
+        variable: usize,
+    },
+}
+
+// What is wrong in a page that a point shows. A page that is judged alone has point 0 and template 0.
+pub enum Fault {
+    // 11: a page of this root template is not exactly the root element.
+    NotRoot { point: usize, template: usize },
+    // 12: the element whose `23` stands at this offset is wrong in some page.
+    WrongElement {
+        point: usize,
+        template: usize,
+        at: usize,
+    },
+}
+
+pub enum Refusal {
+    Form(Form, Place),
+    Cover(Cover),
+    Page(Fault),
+}
+
+pub enum Verdict {
+    Accepted,
+    Refused(Refusal),
+}
+
+// A verdict as document 01 prints it: the number, and the places, unused ones 0.
+pub struct Numbers {
+    pub n: usize,
+    pub a: usize,
+    pub b: usize,
+    pub c: usize,
+}
+
+fn form_number(f: Form) -> usize
+    ensures { λ r. ⌜ r ≡ formNumber f ⌝ }
+{
+    match f {
+        Form::TooLong => 1,
+        Form::Ended => 2,
+        Form::NotAllowed => 3,
+        Form::OutOfRange => 4,
+        Form::NotRising => 5,
+        Form::TooMany => 6,
+        Form::TooManyFacts => 7,
+        Form::Missing => 8,
+    }
+}
+
+fn cover_numbers(c: Cover) -> Numbers
+    ensures { λ r. ⌜ r ≡ coverNumbers c ⌝ }
+{
+    match c {
+        Cover::Start(variable) => Numbers { n: 9, a: 0, b: 0, c: variable },
+        Cover::Step { point, next, variable } => Numbers { n: 10, a: point, b: next, c: variable },
+    }
+}
+
+fn fault_numbers(f: Fault) -> Numbers
+    ensures { λ r. ⌜ r ≡ faultNumbers f ⌝ }
+{
+    match f {
+        Fault::NotRoot { point, template } => Numbers { n: 11, a: point, b: template, c: 0 },
+        Fault::WrongElement { point, template, at } => Numbers { n: 12, a: point, b: template, c: at },
+    }
+}
+
+fn refusal_numbers(r: Refusal) -> Numbers
+    ensures { λ q. ⌜ q ≡ refusalNumbers r ⌝ }
+{
+    match r {
+        Refusal::Form(form, place) => Numbers { n: form_number(form), a: place.at, b: place.slice, c: 0 },
+        Refusal::Cover(cover) => cover_numbers(cover),
+        Refusal::Page(fault) => fault_numbers(fault),
+    }
+}
+
+// The four numbers of a verdict.
+pub fn numbers_of(v: Verdict) -> Numbers
+    ensures { λ r. ⌜ r ≡ numbersOf v ⌝ }
+{
+    match v {
+        Verdict::Accepted => Numbers { n: 0, a: 0, b: 0, c: 0 },
+        Verdict::Refused(refusal) => refusal_numbers(refusal),
+    }
+}

@@ -1,0 +1,5 @@
+//! Job records from standard input, a verdict a line.
+
+fn main() -> std::io::Result<()> {
+    independent::records::print_jobs(independent::check)
+}

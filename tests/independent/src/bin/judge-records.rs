@@ -1,0 +1,5 @@
+//! Page records from standard input, a verdict a line.
+
+fn main() -> std::io::Result<()> {
+    independent::records::print_pages(independent::judge)
+}

@@ -1,0 +1,117 @@
+//! Checking a job: reading, covering, then each show over its whole language.
+
+use crate::cover::covering;
+use crate::graph::Graph;
+use crate::job::Job;
+use crate::patterns::{Clause, Patterns, WordFacts};
+use crate::program::Statement;
+use crate::reader::*;
+use crate::summary::members;
+use crate::templates::Element;
+
+/// The verdict on a job.
+pub fn check(job: &[u8]) -> Verdict {
+    let job = match Job::read(job) {
+        Ok(job) => job,
+        Err(fault) => return fault.verdict(0),
+    };
+    let verdict = covering(&job);
+    if verdict != ACCEPTED {
+        return verdict;
+    }
+    let clauses = clauses(&job);
+    for (point, at) in job.program.points.iter().enumerate() {
+        let Statement::Show(x) = at.statement else { continue };
+        let graph = Graph::new(&job.templates, job.entries.summary(point, x));
+        if let Some(root) = not_the_root(&job, &graph) {
+            return [NOT_THE_ROOT, point as u32, root as u32, 0];
+        }
+        if let Some((template, offset)) = wrong_element(&job, &clauses, &graph) {
+            return [WRONG_ELEMENT, point as u32, template as u32, offset];
+        }
+    }
+    ACCEPTED
+}
+
+/// The clauses of all rules; those with the same content and pair facts stand together.
+fn clauses(job: &Job) -> Vec<Clause> {
+    let vocabulary = &job.vocabulary;
+    let mut clauses = Vec::new();
+    for element in 1..64u8 {
+        let rule = &vocabulary.rules[element as usize];
+        let mut from = rule.from as usize;
+        while from < rule.to as usize {
+            let nodes = &vocabulary.nodes[from + 1..rule.to as usize];
+            let length = nodes.iter().position(|node| *node == crate::vocabulary::Node::Clause).unwrap_or(nodes.len());
+            clauses.push(Clause::new(element, &vocabulary.nodes, from + 1..from + 1 + length));
+            from += 1 + length;
+        }
+    }
+    clauses.sort_by_key(|clause| (clause.word, clause.element));
+    clauses
+}
+
+/// The lowest root with a page that is not exactly the root element.
+fn not_the_root(job: &Job, graph: &Graph) -> Option<usize> {
+    let root = job.vocabulary.root;
+    // There, and not out of order with itself: exactly one.
+    let facts = WordFacts::new(1 << root, &[(root, root)]);
+    let exactly_one = Patterns::one(1);
+    let sets = graph.patterns(&facts);
+    members(graph.roots)
+        .find(|&template| graph.outer_contents[template] & !(1 << root) != 0 || !sets[template].within(&exactly_one))
+}
+
+/// A live element with its template.
+type Standing<'a> = (usize, &'a Element);
+
+/// The lowest element that is wrong in some page: its template and offset.
+fn wrong_element(job: &Job, clauses: &[Clause], graph: &Graph) -> Option<(usize, u32)> {
+    let mut by_name: [Vec<Standing>; 64] = [const { Vec::new() }; 64];
+    let mut lowest: Option<(usize, u32)> = None;
+    for template in members(graph.live) {
+        for element in job.templates.elements(template) {
+            let rule = &job.vocabulary.rules[element.name as usize];
+            let allowed = element.attributes & !rule.attributes == 0
+                && graph.contents(template, &element.items) & !rule.contents == 0;
+            if !allowed && lowest.is_none() {
+                lowest = Some((template, element.at));
+            }
+            by_name[element.name as usize].push((template, element));
+        }
+    }
+    for alike in clauses.chunk_by(|a, b| a.word == b.word) {
+        // The sets of patterns are worked out once for all these clauses, and only if an element needs them.
+        let mut sets = None;
+        for clauses in alike.chunk_by(|a, b| a.element == b.element) {
+            for &(template, element) in &by_name[clauses[0].element as usize] {
+                if lowest.is_some_and(|(_, offset)| offset <= element.at) {
+                    break;
+                }
+                let sets = sets.get_or_insert_with(|| graph.patterns(&alike[0].word));
+                if fails(job, clauses, graph, sets, (template, element)) {
+                    lowest = Some((template, element.at));
+                }
+            }
+        }
+    }
+    lowest
+}
+
+/// Some clause of these, all with the same content and pair facts, fails in some page.
+fn fails(job: &Job, clauses: &[Clause], graph: &Graph, sets: &[Patterns; 32], (template, element): Standing) -> bool {
+    let contents = graph.patterns_of(&clauses[0].word, sets, template, &element.items);
+    let strings = |attribute: u8| {
+        let mut attributes = job.templates.attributes(element).iter();
+        attributes.find(|(a, _)| *a == attribute).map(|&(_, value)| graph.strings(template, value))
+    };
+    clauses.iter().any(|clause| {
+        let holds = clause.holds(&job.vocabulary.nodes, element.attributes);
+        if holds == Patterns::ALL {
+            return false;
+        }
+        let values = clause.of_attributes(strings);
+        let fails = values.members().any(|value| contents.members().any(|content| !holds.has(content | value)));
+        fails
+    })
+}

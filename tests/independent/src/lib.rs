@@ -1,0 +1,25 @@
+//! The page check of document 01: reading a job, checking it, judging one page.
+
+pub mod check;
+pub mod cover;
+pub mod graph;
+pub mod job;
+pub mod judge;
+pub mod patterns;
+pub mod program;
+pub mod proposal;
+pub mod reader;
+pub mod records;
+pub mod summary;
+pub mod templates;
+pub mod vocabulary;
+
+pub mod damage;
+pub mod page_limits;
+pub mod random;
+pub mod random_pages;
+pub mod random_vocabulary;
+
+pub use check::check;
+pub use job::read_job;
+pub use judge::judge;
