@@ -41,7 +41,6 @@ abbrev pub _▸_ : ℕ → List Operand → Format
 _▸_ c os = record { code = c; operands = os }
 
 infixr 20 _▸_
-
 -- The commands that have operands, part by part: vocabulary and formulas, templates and pages, program, proposal.
 abbrev pub formats : List Format
 formats =

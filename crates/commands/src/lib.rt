@@ -34,3 +34,9 @@ pub enum Decoded {
     Moved(u8, Position),
     Refused(Form, usize),
 }
+
+// A part that was read, with the position after it; or the refusal and its offset.
+pub enum Part {
+    Whole(Position),
+    Refused(Form, usize),
+}

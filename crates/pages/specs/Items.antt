@@ -28,28 +28,39 @@ abbrev pub one : Item → Items
 one i = more i none
 
 infixr 40 _⋈_
-
 -- Two lists of items, one after the other: the Φ₁Φ₂ of section 2.
 unfoldable pub _⋈_ : Items → Items → Items
 none ⋈ js = js
 more i is ⋈ js = more i (is ⋈ js)
 
-unfoldable pub gapsOfAttributes : List Attribute → ℕ → Bool
-gapsOfAttributes [] h = false
-gapsOfAttributes (a ∷ more′) h = isGap (a .value) h || gapsOfAttributes more′ h
-  where
-    isGap : Value → ℕ → Bool
-    isGap (string s) h = false
-    isGap (open-gap k) h = eqb k h
-
--- Section 2's gaps, for template gaps and for attribute gaps, at any depth.
+-- Section 2's gaps: the template gaps of a list of items, at any depth.
 unfoldable mutual
-  unfolding gapsOfAttributes
   pub gapIn : Items → ℕ → Bool
   gapIn none g = false
-  gapIn (more i is) g = gapInItem i g || gapIn is g
+  gapIn (more i φ) g = gapInItem i g || gapIn φ g
 
   pub gapInItem : Item → ℕ → Bool
   gapInItem text g = false
   gapInItem (gap k) g = eqb k g
   gapInItem (element e mark δ φ) g = gapIn φ g
+
+abbrev pub isOpenGap : Value → ℕ → Bool
+isOpenGap (string s) h = false
+isOpenGap (open-gap k) h = eqb k h
+
+unfoldable pub openIn : List Attribute → ℕ → Bool
+openIn [] h = false
+openIn (a ∷ δ) h = isOpenGap (a .value) h || openIn δ h
+
+-- Section 2's gaps: the attribute gaps.
+unfoldable mutual
+  unfolding openIn
+
+  pub attributeGapIn : Items → ℕ → Bool
+  attributeGapIn none h = false
+  attributeGapIn (more i φ) h = attributeGapInItem i h || attributeGapIn φ h
+
+  pub attributeGapInItem : Item → ℕ → Bool
+  attributeGapInItem text h = false
+  attributeGapInItem (gap k) h = false
+  attributeGapInItem (element e mark δ φ) h = openIn δ h || attributeGapIn φ h

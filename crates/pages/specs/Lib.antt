@@ -1,3 +1,4 @@
 pub mod Items
 pub mod ItemReading
 pub mod RightPages
+pub mod PageVerdict

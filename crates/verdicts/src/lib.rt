@@ -43,7 +43,10 @@ pub enum Cover {
 // What is wrong in a page that a point shows. A page that is judged alone has point 0 and template 0.
 pub enum Fault {
     // 11: a page of this root template is not exactly the root element.
-    NotRoot { point: usize, template: usize },
+    NotRoot {
+        point: usize,
+        template: usize,
+    },
     // 12: the element whose `23` stands at this offset is wrong in some page.
     WrongElement {
         point: usize,
@@ -90,8 +93,22 @@ fn cover_numbers(c: Cover) -> Numbers
     ensures { λ r. ⌜ r ≡ coverNumbers c ⌝ }
 {
     match c {
-        Cover::Start(variable) => Numbers { n: 9, a: 0, b: 0, c: variable },
-        Cover::Step { point, next, variable } => Numbers { n: 10, a: point, b: next, c: variable },
+        Cover::Start(variable) => Numbers {
+            n: 9,
+            a: 0,
+            b: 0,
+            c: variable,
+        },
+        Cover::Step {
+            point,
+            next,
+            variable,
+        } => Numbers {
+            n: 10,
+            a: point,
+            b: next,
+            c: variable,
+        },
     }
 }
 
@@ -99,8 +116,22 @@ fn fault_numbers(f: Fault) -> Numbers
     ensures { λ r. ⌜ r ≡ faultNumbers f ⌝ }
 {
     match f {
-        Fault::NotRoot { point, template } => Numbers { n: 11, a: point, b: template, c: 0 },
-        Fault::WrongElement { point, template, at } => Numbers { n: 12, a: point, b: template, c: at },
+        Fault::NotRoot { point, template } => Numbers {
+            n: 11,
+            a: point,
+            b: template,
+            c: 0,
+        },
+        Fault::WrongElement {
+            point,
+            template,
+            at,
+        } => Numbers {
+            n: 12,
+            a: point,
+            b: template,
+            c: at,
+        },
     }
 }
 
@@ -108,7 +139,12 @@ fn refusal_numbers(r: Refusal) -> Numbers
     ensures { λ q. ⌜ q ≡ refusalNumbers r ⌝ }
 {
     match r {
-        Refusal::Form(form, place) => Numbers { n: form_number(form), a: place.at, b: place.slice, c: 0 },
+        Refusal::Form(form, place) => Numbers {
+            n: form_number(form),
+            a: place.at,
+            b: place.slice,
+            c: 0,
+        },
         Refusal::Cover(cover) => cover_numbers(cover),
         Refusal::Page(fault) => fault_numbers(fault),
     }
@@ -119,7 +155,12 @@ pub fn numbers_of(v: Verdict) -> Numbers
     ensures { λ r. ⌜ r ≡ numbersOf v ⌝ }
 {
     match v {
-        Verdict::Accepted => Numbers { n: 0, a: 0, b: 0, c: 0 },
+        Verdict::Accepted => Numbers {
+            n: 0,
+            a: 0,
+            b: 0,
+            c: 0,
+        },
         Verdict::Refused(refusal) => refusal_numbers(refusal),
     }
 }

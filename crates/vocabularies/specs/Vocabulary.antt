@@ -26,6 +26,10 @@ pub record Vocabulary : Type 0 where
   pub rules : List Rule
   pub root : ℕ
 
+unfoldable pub isIn : ℕ → List ℕ → Bool
+isIn n [] = false
+isIn n (m ∷ ms) = eqb n m || isIn n ms
+
 -- The rule of an element: at most one, since a rule given twice is refused.
 unfoldable pub ruleOf : List Rule → ℕ → Option Rule
 ruleOf [] e = none

@@ -38,24 +38,24 @@ formulaNesting = 16
 unfoldable pub formula : ℕ → List ℕ → ℕ → ℕ → Read Formula
 formula zero s depth at = unfinished
 formula (suc f) s depth at = onCommand Formulas s at λ code next. elim (shapeAt s at code) [
-    binary two ↦ when (ltb depth formulaNesting)
+  | binary two ↦ when (ltb depth formulaNesting)
       (λ _. andThen (formula f s (depth + 1) next) λ ψ₁ middle. andThen (formula f s (depth + 1) middle) λ ψ₂ end. whole (two ψ₁ ψ₂) end)
       (λ _. refused TooMany at)
   | unary one ↦ when (ltb depth formulaNesting)
       (λ _. andThen (formula f s (depth + 1) next) λ ψ end. whole (one ψ) end)
       (λ _. refused TooMany at)
   | leaf ψ ↦ whole ψ next
-  ]
+]
 
 -- The numbers of a rising list, each of which is at least `least`.
 unfoldable pub rising : ℕ → Context → List ℕ → ℕ → ℕ → Read (List ℕ)
 unfolding allowed
 rising zero x s least at = unfinished
 rising (suc f) x s least at = when (allowed x (byte s at))
-  (λ _. onCommand x s at λ code next. when (leb least (byte s (at + 1)))
+    (λ _. onCommand x s at λ code next. when (leb least (byte s (at + 1)))
     (λ _. andThen (rising f x s (byte s (at + 1) + 1) next) λ ns end. whole (byte s (at + 1) ∷ ns) end)
     (λ _. refused NotRising at))
-  (λ _. whole [] at)
+    (λ _. whole [] at)
 
 abbrev pub mostFacts : ℕ
 mostFacts = 8
@@ -65,10 +65,10 @@ unfoldable pub clauses : ℕ → List ℕ → ℕ → Read (List Formula)
 unfolding formula
 clauses zero s at = unfinished
 clauses (suc f) s at = when (eqb (byte s at) 0x04)
-  (λ _. andThen (formula f s 0 (at + 1)) λ ψ next. when (leb (length (factsOf ψ)) mostFacts)
+    (λ _. andThen (formula f s 0 (at + 1)) λ ψ next. when (leb (length (factsOf ψ)) mostFacts)
     (λ _. andThen (clauses f s next) λ ψs end. whole (ψ ∷ ψs) end)
     (λ _. refused TooManyFacts at))
-  (λ _. whole [] at)
+    (λ _. whole [] at)
 
 -- What follows `01 e`.
 abbrev pub ruleBody : ℕ → List ℕ → ℕ → ℕ → Read Rule
@@ -83,10 +83,10 @@ unfoldable pub rules : ℕ → List ℕ → List Rule → ℕ → Read Vocabular
 unfolding rising clauses
 rules zero s given at = unfinished
 rules (suc f) s given at = onCommand Rules s at λ code next. when (eqb code 0x05)
-  (λ _. when (declared given (byte s (at + 1)))
+    (λ _. when (declared given (byte s (at + 1)))
     (λ _. whole (record { rules = given; root = byte s (at + 1) }) next)
     (λ _. refused Missing at))
-  (λ _. when (declared given (byte s (at + 1)))
+    (λ _. when (declared given (byte s (at + 1)))
     (λ _. refused NotRising at)
     (λ _. andThen (ruleBody f s (byte s (at + 1)) next) λ r end. rules f s (given ++ (r ∷ [])) end))
 
@@ -103,8 +103,8 @@ module _ {A : Type 0} where
   -- Bytes that are not too long, are read whole, and have nothing after.
   abbrev pub alone : List ℕ → Read A → Read A
   alone s r = when (leb (length s) mostBytes)
-    (λ _. andThen r λ a end. when (ltb end (length s)) (λ _. refused NotAllowed end) (λ _. whole a end))
-    (λ _. refused TooLong 0)
+      (λ _. andThen r λ a end. when (ltb end (length s)) (λ _. refused NotAllowed end) (λ _. whole a end))
+      (λ _. refused TooLong 0)
 
 -- A vocabulary that is a slice of its own.
 unfoldable pub vocabularySlice : List ℕ → Read Vocabulary

@@ -15,10 +15,15 @@ pub mod templates;
 pub mod vocabulary;
 
 pub mod damage;
+pub mod job_limits;
+pub mod language;
+pub mod least;
 pub mod page_limits;
 pub mod random;
 pub mod random_pages;
+pub mod random_jobs;
 pub mod random_vocabulary;
+pub mod run;
 
 pub use check::check;
 pub use job::read_job;

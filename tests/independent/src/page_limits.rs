@@ -4,13 +4,13 @@ use crate::random_pages::Record;
 use crate::reader::LONGEST;
 
 /// Element 1, the root, allows attribute 0, text and itself, and has text somewhere; element 2 has an empty rule.
-const RULES: [u8; 13] = [0x01, 2, 0x01, 1, 0x02, 0, 0x03, 0, 0x03, 1, 0x04, 0x15, 0];
-const ROOT: [u8; 2] = [0x05, 1];
+pub const RULES: [u8; 13] = [0x01, 2, 0x01, 1, 0x02, 0, 0x03, 0, 0x03, 1, 0x04, 0x15, 0];
+pub const ROOT: [u8; 2] = [0x05, 1];
 const RIGHT_PAGE: [u8; 5] = [0x23, 1, 0x21, 0x26, 0x27];
 
 pub fn all() -> Vec<Record> {
     let mut records = lengths();
-    for (clause, _) in nested_formulas() {
+    for clause in nested_formulas() {
         records.push(Record { vocabulary: with_clause(&clause), page: RIGHT_PAGE.to_vec() });
     }
     records.extend(nested_pages());
@@ -20,12 +20,12 @@ pub fn all() -> Vec<Record> {
     records
 }
 
-fn with_clause(clause: &[u8]) -> Vec<u8> {
+pub fn with_clause(clause: &[u8]) -> Vec<u8> {
     [&RULES[..], &[0x04], clause, &ROOT].concat()
 }
 
 /// A vocabulary of `length` bytes whose last clause is `last`; the clauses before it hold always.
-fn long_vocabulary(length: usize, last: &[u8]) -> Vec<u8> {
+pub fn long_vocabulary(length: usize, last: &[u8]) -> Vec<u8> {
     let mut vocabulary = RULES.to_vec();
     let end = [&[0x04][..], last, &ROOT].concat();
     while vocabulary.len() + end.len() < length {
@@ -77,16 +77,16 @@ fn lengths() -> Vec<Record> {
     records
 }
 
-/// Formulas of 16 and 17 nested connectives, with their depth.
-pub fn nested_formulas() -> Vec<(Vec<u8>, usize)> {
+/// Formulas of 16 and 17 nested connectives.
+pub fn nested_formulas() -> Vec<Vec<u8>> {
     let mut formulas = Vec::new();
     for depth in [16, 17] {
-        formulas.push(([vec![0x12; depth], vec![0x13]].concat(), depth));
+        formulas.push([vec![0x12; depth], vec![0x13]].concat());
         for connective in [0x10, 0x11] {
             let left = [vec![connective; depth], vec![0x13; depth + 1]].concat();
             let right = [[connective, 0x13].repeat(depth), vec![0x13]].concat();
-            formulas.push((left, depth));
-            formulas.push((right, depth));
+            formulas.push(left);
+            formulas.push(right);
         }
         // The deep side comes second, under connectives of each kind.
         let mut mixed = Vec::new();
@@ -94,7 +94,7 @@ pub fn nested_formulas() -> Vec<(Vec<u8>, usize)> {
             mixed.extend([&[0x10, 0x15, 0][..], &[0x12], &[0x11, 0x14, 0]][level % 3]);
         }
         mixed.push(0x13);
-        formulas.push((mixed, depth));
+        formulas.push(mixed);
     }
     formulas
 }

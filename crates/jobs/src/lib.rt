@@ -1,0 +1,1 @@
+// Jobs: a vocabulary, templates, a program and a proposal, read from one string of bytes.

@@ -1,0 +1,1 @@
+// The judge of one page under a vocabulary.

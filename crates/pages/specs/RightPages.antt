@@ -1,0 +1,93 @@
+-- Right pages: the acceptance relation of source 000, section 6, as it is printed there, and document 01's "exactly one element,
+-- the root". Nothing here computes: how it is decided is another matter.
+use Prim.Native.Nat.{ℕ, _≤_, _<_}
+use mathlib.Core.Path.{_≡_}
+use mathlib.Core.List.{List, [], _∷_, map, List·Memᴰ}
+use mathlib.Core.Option.{Option, some}
+use mathlib.Core.Logic.{_⊎_}
+use mathlib.Core.Bool.{true}
+use lib.ListN.{length, getD}
+use Rattle.sets.specs.Sets.{member}
+use Rattle.vocabularies.specs.Vocabulary.{Formula, conj, disj, neg, truth, attr, content, order, value, Rule, Vocabulary, ruleOf}
+use Rattle.pages.specs.Items.{Value, string, Attribute, Item, text, gap, element, Items, none, more, one}
+
+abbrev pub _∈_ : {A : Type 0} → A → List A → Type 0
+_∈_ a l = List·Memᴰ a l
+
+infix 30 _∈_
+-- names(δ); atts(δ) is the list δ itself, whose members are the pairs of a name and a value.
+abbrev pub names : List Attribute → List ℕ
+names δ = map (λ a. a .name) δ
+
+-- word(φ): the contents in their order, 0 for character data. set(φ) has the members of word(φ): the two have the same equations.
+unfoldable pub wordItem : Item → List ℕ → List ℕ
+wordItem text w = 0 ∷ w
+wordItem (gap g) w = w
+wordItem (element e mark δ φ) w = e ∷ w
+
+unfoldable pub word : Items → List ℕ
+unfolding wordItem
+word none = []
+word (more i φ) = wordItem i (word φ)
+
+-- exists(w₁…w_k, c) and before(w₁…w_k, c₁, c₂), counted from 0.
+abbrev pub Exists : List ℕ → ℕ → Type 0
+Exists w c = (i : ℕ) × (i < length w) × (getD w i 0 ≡ c)
+
+abbrev pub Before : List ℕ → ℕ → ℕ → Type 0
+Before w c₁ c₂ = (i j : ℕ) → i < length w → j < length w → getD w i 0 ≡ c₁ → getD w j 0 ≡ c₂ → i ≤ j
+
+-- D, δ, φ ⊨ ψ. The strings of `value` are those whose bit is set.
+unfoldable pub Meets : List Attribute → Items → Formula → Type 0
+unfolding word
+Meets δ φ (conj ψ₁ ψ₂) = Meets δ φ ψ₁ × Meets δ φ ψ₂
+Meets δ φ (disj ψ₁ ψ₂) = Meets δ φ ψ₁ ⊎ Meets δ φ ψ₂
+Meets δ φ (neg ψ) = Meets δ φ ψ → ⊥
+Meets δ φ truth = Unit {0}
+Meets δ φ (attr a) = a ∈ names δ
+Meets δ φ (content c) = Exists (word φ) c
+Meets δ φ (order c₁ c₂) = Before (word φ) c₁ c₂
+Meets δ φ (value a m) = (a ∈ names δ → ⊥) ⊎ ((s : ℕ) × (record { name = a; value = string s } ∈ δ) × (member m s ≡ true))
+
+-- What section 6 asks of an element e(δ)φ besides D ⊨ φ. 𝓕(e) is the conjunction of the rule's clauses.
+pub record ElementRight (D : Vocabulary) (e : ℕ) (δ : List Attribute) (φ : Items) : Type 0 where
+  pub rule : Rule
+  pub declares : ruleOf (D .rules) e ≡ some rule
+  pub attributes : (a : ℕ) → a ∈ names δ → a ∈ rule .attributes
+  pub contents : (c : ℕ) → c ∈ word φ → c ∈ rule .contents
+  pub clauses : (ψ : Formula) → ψ ∈ rule .clauses → Meets δ φ ψ
+
+-- D ⊨ φ. A gap has no rule in section 6: a page has none left.
+unfoldable mutual
+  pub Accepts : Vocabulary → Items → Type 0
+  Accepts D none = Unit {0}
+  Accepts D (more i φ) = AcceptsItem D i × Accepts D φ
+
+  pub AcceptsItem : Vocabulary → Item → Type 0
+  AcceptsItem D text = Unit {0}
+  AcceptsItem D (gap g) = ⊥
+  AcceptsItem D (element e mark δ φ) = ElementRight D e δ φ × Accepts D φ
+
+-- Exactly one element, the root.
+abbrev pub RootAlone : Vocabulary → Items → Type 0
+RootAlone D φ = (mark : ℕ) × (δ : List Attribute) × (contents : Items) × (φ ≡ one (element (D .root) mark δ contents))
+
+pub record Right (D : Vocabulary) (φ : Items) : Type 0 where
+  pub alone : RootAlone D φ
+  pub accepted : Accepts D φ
+
+-- Some element of the items, at any depth, is as P says.
+unfoldable mutual
+  pub SomeElement : (ℕ → ℕ → List Attribute → Items → Type 0) → Items → Type 0
+  SomeElement P none = ⊥
+  SomeElement P (more i φ) = SomeElementOf P i ⊎ SomeElement P φ
+
+  pub SomeElementOf : (ℕ → ℕ → List Attribute → Items → Type 0) → Item → Type 0
+  SomeElementOf P text = ⊥
+  SomeElementOf P (gap g) = ⊥
+  SomeElementOf P (element e mark δ φ) = P e mark δ φ ⊎ SomeElement P φ
+
+-- An element with this mark stands in the page and is wrong there.
+unfoldable pub WrongAt : Vocabulary → ℕ → Items → Type 0
+unfolding SomeElement
+WrongAt D mark φ = SomeElement (λ e m δ contents. (m ≡ mark) × (ElementRight D e δ contents → ⊥)) φ

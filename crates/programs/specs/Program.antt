@@ -1,0 +1,74 @@
+-- Programs as trees (document 01, "A job, command by command", Program; source 000, section 2, "Programs"). The statement of point i
+-- is the i-th of the list. Variables x and y are 0 to 3, templates are numbered from 1, template 0 is empty.
+use Prim.Native.Nat.{ℕ, zero, suc}
+use mathlib.Core.List.{List, [], _∷_}
+use mathlib.Core.Bool.{Bool, true, false, cond, _||_}
+use mathlib.Core.Option.{Option, some, none}
+use lib.Dec.{eqb}
+use Rattle.pages.specs.Items.{Items}
+use Rattle.pages.specs.Items as Items
+
+pub data Act : Type 0 where
+  copyTemplate : ℕ → ℕ → Act
+  setTemplate : ℕ → ℕ → Act
+  copyString : ℕ → ℕ → Act
+  setString : ℕ → ℕ → Act
+  anyString : ℕ → Act
+  plug : ℕ → ℕ → ℕ → ℕ → Act
+  plugString : ℕ → ℕ → ℕ → ℕ → Act
+  show : ℕ → Act
+
+-- A statement with its two next points, or `38`.
+pub data Statement : Type 0 where
+  step : Act → ℕ → ℕ → Statement
+  stop : Statement
+
+unfoldable pub statementAt : List Statement → ℕ → Statement
+statementAt [] p = stop
+statementAt (t ∷ ts) zero = t
+statementAt (t ∷ ts) (suc p) = statementAt ts p
+
+-- Template t of a job; template 0 is empty and always there.
+unfoldable pub templateAt : List Items → ℕ → Items
+templateAt [] t = Items.none
+templateAt (φ ∷ φs) zero = Items.none
+templateAt (φ ∷ φs) (suc zero) = φ
+templateAt (φ ∷ φs) (suc (suc t)) = templateAt φs (suc t)
+
+-- A variable as `40` numbers it: 0 to 3 the template variables, 4 to 7 the string variables 0 to 3.
+pub data Variable : Type 0 where
+  templates : ℕ → Variable
+  strings : ℕ → Variable
+
+-- Whether a statement names a variable, in any operand.
+abbrev pub actNamesTemplate : Act → ℕ → Bool
+actNamesTemplate (copyTemplate x x′) v = eqb v x || eqb v x′
+actNamesTemplate (setTemplate x t) v = eqb v x
+actNamesTemplate (copyString y y′) v = false
+actNamesTemplate (setString y s) v = false
+actNamesTemplate (anyString y) v = false
+actNamesTemplate (plug x x′ g x″) v = eqb v x || eqb v x′ || eqb v x″
+actNamesTemplate (plugString x x′ h y) v = eqb v x || eqb v x′
+actNamesTemplate (show x) v = eqb v x
+
+abbrev pub actNamesString : Act → ℕ → Bool
+actNamesString (copyTemplate x x′) v = false
+actNamesString (setTemplate x t) v = false
+actNamesString (copyString y y′) v = eqb v y || eqb v y′
+actNamesString (setString y s) v = eqb v y
+actNamesString (anyString y) v = eqb v y
+actNamesString (plug x x′ g x″) v = false
+actNamesString (plugString x x′ h y) v = eqb v y
+actNamesString (show x) v = false
+
+abbrev pub actNames : Act → Variable → Bool
+actNames a (templates x) = actNamesTemplate a x
+actNames a (strings y) = actNamesString a y
+
+abbrev pub statementNames : Statement → Variable → Bool
+statementNames (step a p q) v = actNames a v
+statementNames stop v = false
+
+unfoldable pub named : List Statement → Variable → Bool
+named [] v = false
+named (t ∷ ts) v = statementNames t v || named ts v

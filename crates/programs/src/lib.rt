@@ -1,0 +1,1 @@
+// Page programs: one statement a point, and how they are read.

@@ -1,0 +1,5 @@
+pub mod Proposal
+pub mod ProposalReading
+pub mod Summaries
+pub mod Covering
+pub mod Languages

@@ -1,0 +1,1 @@
+// Summaries: what a proposal claims of each variable at the entry of each point.

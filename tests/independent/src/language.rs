@@ -1,0 +1,74 @@
+//! Pages of a show's language, drawn at random: from a root each gap takes one edge's template and each attribute gap one
+//! string, each occurrence by itself.
+
+use crate::damage::operands;
+use crate::job::Job;
+use crate::random::Random;
+use crate::summary::*;
+
+const DEPTH: usize = 12;
+const LENGTH: usize = 3000;
+
+/// A page of the language of variable `x` shown at `point`, ended by `27`. Nothing where the draw leads nowhere, or too
+/// far.
+pub fn draw(random: &mut Random, job: &Job, bytes: &[u8], point: usize, x: u8) -> Option<Vec<u8>> {
+    let mut closed = job.entries.summary(point, x).clone();
+    for gap in 0..8 {
+        members(closed.origins[gap]).for_each(|origin| closed.add_edges(origin, gap, 1));
+        members(closed.attribute_origins[gap]).for_each(|origin| closed.add_strings(origin, gap, 1));
+    }
+    let root = pick(random, closed.roots)?;
+    let mut page = Vec::new();
+    unfold(random, job, bytes, &closed, root, 0, &mut page)?;
+    page.push(0x27);
+    Some(page)
+}
+
+fn pick(random: &mut Random, set: u32) -> Option<usize> {
+    let list: Vec<usize> = members(set).collect();
+    if list.is_empty() {
+        return None;
+    }
+    Some(random.pick(&list))
+}
+
+fn unfold(
+    random: &mut Random,
+    job: &Job,
+    bytes: &[u8],
+    closed: &Summary,
+    template: usize,
+    depth: usize,
+    page: &mut Vec<u8>,
+) -> Option<()> {
+    if depth > DEPTH || page.len() > LENGTH {
+        return None;
+    }
+    let items = &bytes[job.templates.list[template].bytes.clone()];
+    let mut at = 0;
+    while at < items.len() {
+        let command = &items[at..at + 1 + operands(items[at])];
+        at += command.len();
+        match *command {
+            [0x22, gap] => {
+                let next = pick(random, closed.edges(template)[gap as usize])?;
+                unfold(random, job, bytes, closed, next, depth + 1, page)?;
+            }
+            [0x25, attribute, gap] => {
+                let set = closed.strings(template)[gap as usize];
+                let list: Vec<u8> = (0..65).filter(|string| set >> string & 1 == 1).collect();
+                if list.is_empty() {
+                    return None;
+                }
+                // The strings outside 0-63 are many, whatever their share of the list.
+                let outside = list.len() == 65 && random.percent(20);
+                match if outside { 64 } else { random.pick(&list) } {
+                    64 => page.extend([0x28, attribute]),
+                    string => page.extend([0x24, attribute, string]),
+                }
+            }
+            _ => page.extend(command),
+        }
+    }
+    Some(())
+}

@@ -1,0 +1,46 @@
+//! Verdicts on shows against pages of their languages, drawn at random and judged one by one.
+
+use independent::job::Job;
+use independent::language::draw;
+use independent::program::Statement;
+use independent::random::Random;
+use independent::random_jobs;
+use independent::{check, judge};
+
+const JOBS: usize = 1500;
+const DRAWS: usize = 400;
+
+/// A page drawn at this show that is not right, if one comes.
+fn wrong_page(random: &mut Random, job: &Job, bytes: &[u8], point: usize, x: u8) -> Option<[u32; 4]> {
+    let vocabulary = &bytes[..job.vocabulary_end];
+    (0..DRAWS).filter_map(|_| draw(random, job, bytes, point, x)).map(|page| judge(vocabulary, &page)).find(|v| v[0] != 0)
+}
+
+#[test]
+fn shows_are_judged_as_their_pages() {
+    let mut random = Random::new(7);
+    let (mut accepted, mut refused, mut unseen) = (0, 0, 0);
+    for _ in 0..JOBS {
+        let bytes = random_jobs::job(&mut random);
+        let verdict = check(&bytes);
+        if !matches!(verdict[0], 0 | 11 | 12) {
+            continue;
+        }
+        let Ok(job) = Job::read(&bytes) else { unreachable!() };
+        for (point, at) in job.program.points.iter().enumerate() {
+            let Statement::Show(x) = at.statement else { continue };
+            let wrong = wrong_page(&mut random, &job, &bytes, point, x);
+            if verdict[0] == 0 || point < verdict[1] as usize {
+                assert_eq!(wrong, None, "accepted, but a page is wrong: {bytes:02X?}");
+                accepted += 1;
+            } else if point == verdict[1] as usize {
+                refused += 1;
+                unseen += wrong.is_none() as usize;
+            }
+        }
+    }
+    println!("{accepted} shows passed, {refused} refused, of these {unseen} without a wrong page drawn");
+    assert!(accepted > JOBS / 4 && refused > JOBS / 8);
+    // A wrong page may be rare, but not often.
+    assert!(unseen * 50 < refused, "{unseen} of {refused}");
+}
