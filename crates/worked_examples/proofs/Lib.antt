@@ -1,0 +1,3 @@
+pub mod ReadingJ1
+pub mod RunningJ1
+pub mod JudgingJ1

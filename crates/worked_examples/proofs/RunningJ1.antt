@@ -1,0 +1,44 @@
+-- J1's run over four choices shows its one page, and that page is of the language of its show.
+use Prim.Native.Nat.{ℕ}
+use mathlib.Core.Path.{_≡_, refl}
+use mathlib.Core.List.{List, [], _∷_}
+use mathlib.Core.Bool.{false, true}
+use mathlib.Core.Option.{some}
+use Rattle.pages.specs.Items.{Items, text, element, one, _⋈_}
+use Rattle.programs.specs.Program.{statementAt, templateAt}
+use Rattle.programs.specs.Runs.{Choice, shown, closed, plugged}
+use Rattle.summaries.specs.Proposal.{root, edge, string, gapFrom, attributeGapFrom}
+use Rattle.summaries.specs.Summaries.{Summary, sameNumbers, held, under, entries}
+use Rattle.summaries.specs.Languages.{Language, closedSummary, graphShown, nothing, item-then, text-stays, gap-takes, element-keeps, no-attribute}
+use Rattle.jobs.specs.Job.{Job}
+use Rattle.worked_examples.proofs.ReadingJ1.{j1-job}
+
+abbrev first : Choice
+first = record { second = false; string = 0 }
+
+abbrev page : Items
+page = one (element 1 20 [] (one (element 2 27 [] (one text))))
+
+pub shows : shown (j1-job .templates) (j1-job .program) (first ∷ first ∷ first ∷ first ∷ []) ≡ page ∷ []
+unfolding shown statementAt templateAt closed plugged
+shows = refl
+
+-- The closed graph of the show at point 3.
+abbrev graph : Summary
+graph = closedSummary (entries (j1-job .proposal) 3 .template 0)
+
+graph-shown : graphShown (j1-job .program) (j1-job .proposal) 3 ≡ some graph
+unfolding graphShown statementAt
+graph-shown = refl
+
+pub stands : Language (j1-job .templates) graph page
+unfolding templateAt entries held under sameNumbers _⋈_
+stands = (
+  1,
+  (
+    refl,
+    item-then (element-keeps no-attribute
+        (item-then (gap-takes 2 refl (item-then (element-keeps no-attribute (item-then text-stays nothing refl)) nothing refl)) nothing refl))
+        nothing refl,
+  ),
+)

@@ -1,0 +1,1 @@
+// Worked examples of document 01, computed from the definitions.
