@@ -6,32 +6,28 @@ cd "$(dirname "$0")"
 : "${CARGO_TARGET_DIR:=target}"
 export CARGO_TARGET_DIR
 cargo build --release --offline --quiet
-programs=$CARGO_TARGET_DIR/release
+work=$(mktemp -d)
+trap 'rm -rf "$work"' EXIT
 status=0
 
-# compare WORDS RECORDS EXPECTED: the output so far is on standard input
+# compare PROGRAM RECORDS VERDICTS
 compare() {
-    if differing=$(diff - "$3" | grep -c '^[<>]'); then
-        echo "$1 $(basename "$2"): $differing lines differ"
-        status=1
-    else
+    "$CARGO_TARGET_DIR/release/$1" < "$2" > "$work/found"
+    if diff "$3" "$work/found" > "$work/differing"; then
         echo "$1 $(basename "$2"): all $(wc -l < "$3") agree"
+    else
+        echo "$1 $(basename "$2"): $(grep -c '^>' "$work/differing" || true) of $(wc -l < "$3") differ"
+        status=1
     fi
 }
 
-expected=$(mktemp)
-trap 'rm -f "$expected"' EXIT
 for records in "$vectors"/pages*.bin; do
-    "$programs/judge-records" < "$records" > "$expected.out"
-    compare judge "$records" "${records%.bin}.verdicts" < "$expected.out"
+    compare judge-records "$records" "${records%.bin}.verdicts"
 done
-for records in "$vectors"/jobs-*.bin; do
+for records in "$vectors"/jobs*.bin; do
     # A job refused by 9 to 12 reads.
-    awk '{ print ($1 > 8) ? "0 0 0 0" : $0 }' "${records%.bin}.verdicts" > "$expected"
-    "$programs/read-records" < "$records" > "$expected.out"
-    compare read "$records" "$expected" < "$expected.out"
-    "$programs/check-records" < "$records" > "$expected.out"
-    compare check "$records" "${records%.bin}.verdicts" < "$expected.out"
+    awk '{ print ($1 > 8) ? "0 0 0 0" : $0 }' "${records%.bin}.verdicts" > "$work/reading"
+    compare read-records "$records" "$work/reading"
+    compare check-records "$records" "${records%.bin}.verdicts"
 done
-rm -f "$expected.out"
 exit $status

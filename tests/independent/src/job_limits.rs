@@ -154,7 +154,9 @@ fn many_points() -> Vec<Vec<u8>> {
         for end in [&[0x37, 0, last, last, 0x38][..], &[0x37, 0, last, 0, 0x37, 0, last, last]] {
             jobs.push(job(&shortest(), &TEMPLATES, &[&first[..], &stops, end, &[0x3F]].concat()));
         }
-        for fault in [[0x31, 0, 9, 0, 0], [0x31, 4, 1, 0, 0], [0x31, 0, 1, 32, 0], [0x31, 0, 1, 0, 31], [0x39, 0, 0, 0, 0]] {
+        for fault in
+            [[0x31, 0, 9, 0, 0], [0x31, 4, 1, 0, 0], [0x31, 0, 1, 32, 0], [0x31, 0, 1, 0, 31], [0x39, 0, 0, 0, 0]]
+        {
             let program = [&vec![0x38; count - 1][..], &fault, &[0x3F]].concat();
             jobs.push(job(&shortest(), &TEMPLATES, &program));
         }

@@ -20,8 +20,8 @@ pub mod language;
 pub mod least;
 pub mod page_limits;
 pub mod random;
-pub mod random_pages;
 pub mod random_jobs;
+pub mod random_pages;
 pub mod random_vocabulary;
 pub mod run;
 

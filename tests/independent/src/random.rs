@@ -18,7 +18,7 @@ impl Random {
     }
 
     pub fn below(&mut self, bound: usize) -> usize {
-        ((self.word() >> 32) * bound as u64 >> 32) as usize
+        (((self.word() >> 32) * bound as u64) >> 32) as usize
     }
 
     pub fn from_to(&mut self, from: usize, to: usize) -> usize {
@@ -55,7 +55,7 @@ impl Random {
         }
     }
 
-    /// Some of the numbers below `bound`, rising.
+    /// At most `count` of the numbers from `from` to before `below`, rising.
     pub fn rising(&mut self, from: u8, below: u8, count: usize) -> Vec<u8> {
         let mut all: Vec<u8> = (from..below).collect();
         self.shuffle(&mut all);

@@ -82,7 +82,7 @@ pub fn formula(random: &mut Random, rule: &RuleDraft) -> Vec<u8> {
     let mut bytes = Vec::new();
     let depth = random.weighted(&[35, 30, 20, 10, 3, 2]);
     if random.percent(3) {
-        bytes.extend(std::iter::repeat(0x12).take(random.from_to(8, 16 - depth)));
+        bytes.extend(std::iter::repeat_n(0x12, random.from_to(8, 16 - depth)));
     }
     grow(random, rule, depth, &mut bytes);
     bytes

@@ -52,12 +52,16 @@ pub fn line([n, a, b, c]: Verdict) -> String {
     format!("{n} {a} {b} {c}\n")
 }
 
+fn print(out: &mut impl Write, [n, a, b, c]: Verdict) -> io::Result<()> {
+    writeln!(out, "{n} {a} {b} {c}")
+}
+
 /// Prints the verdict on each job of standard input.
 pub fn print_jobs(verdict: fn(&[u8]) -> Verdict) -> io::Result<()> {
     let mut records = Records::from_stdin()?;
     let mut out = BufWriter::new(io::stdout().lock());
     while let Some(job) = records.slice() {
-        out.write_all(line(verdict(job)).as_bytes())?;
+        print(&mut out, verdict(job))?;
     }
     out.flush()
 }
@@ -67,7 +71,7 @@ pub fn print_pages(verdict: fn(&[u8], &[u8]) -> Verdict) -> io::Result<()> {
     let mut records = Records::from_stdin()?;
     let mut out = BufWriter::new(io::stdout().lock());
     while let Some((vocabulary, page)) = records.two_slices() {
-        out.write_all(line(verdict(vocabulary, page)).as_bytes())?;
+        print(&mut out, verdict(vocabulary, page))?;
     }
     out.flush()
 }

@@ -65,9 +65,11 @@ impl Summary {
             && sets(&self.origins, &other.origins)
             && sets(&self.attribute_origins, &other.attribute_origins)
             && self.edges.iter().enumerate().all(|(template, edges)| sets(edges, other.edges(template)))
-            && self.strings.iter().enumerate().all(|(template, strings)| {
-                strings.iter().zip(other.strings(template)).all(|(a, b)| a & !b == 0)
-            })
+            && self
+                .strings
+                .iter()
+                .enumerate()
+                .all(|(template, strings)| strings.iter().zip(other.strings(template)).all(|(a, b)| a & !b == 0))
     }
 }
 

@@ -99,7 +99,12 @@ impl Templates {
         &self.items[items.from as usize..items.to as usize]
     }
 
-    fn template(&mut self, reader: &mut Reader, vocabulary: &Vocabulary, inside: &mut Inside) -> Result<Template, Fault> {
+    fn template(
+        &mut self,
+        reader: &mut Reader,
+        vocabulary: &Vocabulary,
+        inside: &mut Inside,
+    ) -> Result<Template, Fault> {
         let mut template = Template::default();
         let first_element = self.elements.len();
         template.bytes.start = reader.at;

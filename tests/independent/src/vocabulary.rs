@@ -57,7 +57,7 @@ impl Vocabulary {
     }
 
     pub fn read(reader: &mut Reader) -> Result<Vocabulary, Fault> {
-        let mut vocabulary = Vocabulary { rules: [NO_RULE; 64], given: 0, root: 0, nodes: Vec::new() };
+        let mut vocabulary = Vocabulary { rules: [NO_RULE; 64], given: 0, root: 0, nodes: Vec::with_capacity(32) };
         let mut stage = Stage::NoRule;
         let mut element = 0;
         loop {

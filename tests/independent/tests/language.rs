@@ -13,7 +13,10 @@ const DRAWS: usize = 400;
 /// A page drawn at this show that is not right, if one comes.
 fn wrong_page(random: &mut Random, job: &Job, bytes: &[u8], point: usize, x: u8) -> Option<[u32; 4]> {
     let vocabulary = &bytes[..job.vocabulary_end];
-    (0..DRAWS).filter_map(|_| draw(random, job, bytes, point, x)).map(|page| judge(vocabulary, &page)).find(|v| v[0] != 0)
+    (0..DRAWS)
+        .filter_map(|_| draw(random, job, bytes, point, x))
+        .map(|page| judge(vocabulary, &page))
+        .find(|v| v[0] != 0)
 }
 
 #[test]

@@ -32,12 +32,12 @@ fn main() -> std::io::Result<()> {
         push(&mut records, &job);
         verdicts.push_str(&line(verdict));
     }
-    println!("{shown} pages shown by accepted jobs, all right");
+    println!("{shown} pages shown by accepted jobs judged right, none wrong");
     std::fs::write(records_path, records)?;
     std::fs::write(verdicts_path, verdicts)
 }
 
-/// Runs over choices at random; panics at a page that is not right. Tells how many were judged.
+/// Runs over choices at random; panics at a page that is not right. Tells how many were judged right.
 fn run(random: &mut Random, bytes: &[u8]) -> usize {
     let job = Job::read(bytes).unwrap_or_else(|_| unreachable!());
     let vocabulary = &bytes[..job.vocabulary_end];
@@ -50,11 +50,13 @@ fn run(random: &mut Random, bytes: &[u8]) -> usize {
         let string = if random.percent(30) { 64 } else { random.below(64) as u8 };
         run.step(Choice { second: random.percent(50), string });
     }
+    let mut right = 0;
     for page in &run.pages {
         let verdict = judge(vocabulary, page);
-        // The judge has limits that runs have not.
-        let right = verdict == ACCEPTED || verdict[0] == TOO_LONG || verdict[0] == TOO_MANY;
-        assert!(right, "page {page:02X?} of accepted job {bytes:02X?}: {verdict:?}");
+        // The judge has limits that runs have not; pages beyond them are not counted.
+        let beyond = verdict[0] == TOO_LONG || verdict[0] == TOO_MANY;
+        assert!(beyond || verdict == ACCEPTED, "page {page:02X?} of accepted job {bytes:02X?}: {verdict:?}");
+        right += (verdict == ACCEPTED) as usize;
     }
-    run.pages.len()
+    right
 }
