@@ -1,9 +1,10 @@
 // The commands of a job, and the reading position that moves over one command at a time
 // (document 01, "A job, command by command").
 ghost use mathlib.Core.Path.{_≡_};
-ghost use Prim.Native.Nat.{_+_};
-ghost use lib.ListN.{getD};
-ghost use Rattle.commands.specs.Commands.{allowed, command};
+ghost use mathlib.Core.Bool.{_&&_};
+ghost use Prim.Native.Nat.{_+_, _*_, _^_, _<_};
+ghost use lib.Dec.{leb};
+ghost use Rattle.commands.specs.Commands.{byte, setAt, either, between, allowed, operandsOf, operandBytes, inRange, element, attribute, strings-set, allInRange, command};
 use verdicts::Form;
 
 // Where reading stands: an offset of the bytes.
@@ -39,4 +40,210 @@ pub enum Decoded {
 pub enum Part {
     Whole(Position),
     Refused(Form, usize),
+}
+
+// The byte at an offset; 0 past the end.
+pub fn byte_at(s: &[u8], i: usize) -> u8
+    ensures { λ r. ⌜ r ≡ byte (now (s .entry)) i ⌝ }
+{
+    if i < s.len() {
+        return s[i];
+    }
+    0
+}
+
+// A number with the byte at an offset put after it.
+fn with_byte(high: u64, s: &[u8], i: usize) -> u64
+    requires { ⌜ high < 2 ^ 56 ⌝ }
+    ensures { λ r. ⌜ (r ≡ high * 256 + byte (now (s .entry)) i) × (r < (high + 1) * 256) ⌝ }
+{
+    high * 256 + (byte_at(s, i) as u64)
+}
+
+// The set of strings at an offset: eight bytes, highest first.
+pub fn set_at(s: &[u8], i: usize) -> u64
+    ensures { λ r. ⌜ r ≡ setAt (now (s .entry)) i ⌝ }
+{
+    if s.len() <= i {
+        return 0;
+    }
+    let b0 = with_byte(0, s, i);
+    let b1 = with_byte(b0, s, i + 1);
+    let b2 = with_byte(b1, s, i + 2);
+    let b3 = with_byte(b2, s, i + 3);
+    let b4 = with_byte(b3, s, i + 4);
+    let b5 = with_byte(b4, s, i + 5);
+    let b6 = with_byte(b5, s, i + 6);
+    with_byte(b6, s, i + 7)
+}
+
+fn is_either(a: u8, b: u8, code: u8) -> bool
+    ensures { λ r. ⌜ r ≡ either a b code ⌝ }
+{
+    code == a || code == b
+}
+
+fn is_between(low: u8, high: u8, code: u8) -> bool
+    ensures { λ r. ⌜ r ≡ between low high code ⌝ }
+{
+    low <= code && code <= high
+}
+
+// Whether a command may stand at a place.
+pub fn is_allowed(context: Context, code: u8) -> bool
+    ensures { λ r. ⌜ r ≡ allowed context code ⌝ }
+{
+    match context {
+        Context::Rules => is_either(0x01, 0x05, code),
+        Context::Attributes => code == 0x02,
+        Context::Contents => code == 0x03,
+        Context::Formulas => is_between(0x10, 0x17, code),
+        Context::Templates => is_either(0x20, 0x2F, code),
+        Context::TemplateItems => is_between(0x21, 0x23, code),
+        Context::TemplateAttributes => is_either(0x24, 0x25, code),
+        Context::PageItems => is_either(0x21, 0x23, code),
+        Context::PageAttributes => is_either(0x24, 0x28, code),
+        Context::FirstStatement => is_between(0x30, 0x38, code),
+        Context::Statements => is_between(0x30, 0x38, code) || code == 0x3F,
+        Context::Heads => is_either(0x40, 0x4F, code),
+        Context::TemplateFacts => is_between(0x41, 0x46, code),
+        Context::StringFacts => is_either(0x47, 0x48, code),
+    }
+}
+
+// How many bytes follow a command's first byte: an arm for each format.
+pub fn operand_bytes(code: u8) -> usize
+    ensures { λ r. ⌜ r ≡ operandBytes code ⌝ }
+{
+    match code {
+        0x01 | 0x05 | 0x23 => 1,
+        0x02 | 0x14 | 0x28 => 1,
+        0x03 | 0x15 => 1,
+        0x16 => 2,
+        0x17 => 9,
+        0x22 => 1,
+        0x24 => 2,
+        0x25 => 2,
+        0x30 | 0x32 => 4,
+        0x31 => 4,
+        0x33 => 4,
+        0x34 | 0x37 => 3,
+        0x35 => 6,
+        0x36 => 6,
+        0x40 => 2,
+        0x41 => 1,
+        0x42 => 3,
+        0x43 => 3,
+        0x44 => 2,
+        0x45 => 2,
+        0x46 => 2,
+        0x47 => 1,
+        _ => 0,
+    }
+}
+
+fn is_most(s: &[u8], i: usize, most: u8) -> bool
+    ensures { λ r. ⌜ r ≡ leb (byte (now (s .entry)) i) most ⌝ }
+{
+    byte_at(s, i) <= most
+}
+
+fn are_most(s: &[u8], i: usize, first: u8, second: u8) -> bool
+    requires { ⌜ i + 1 < 2 ^ 64 ⌝ }
+    ensures { λ r. ⌜ r ≡ (leb (byte (now (s .entry)) i) first && leb (byte (now (s .entry)) (i + 1)) second) ⌝ }
+{
+    is_most(s, i, first) && is_most(s, i + 1, second)
+}
+
+fn is_element(s: &[u8], i: usize) -> bool
+    ensures { λ r. ⌜ r ≡ inRange element (now (s .entry)) i ⌝ }
+{
+    is_between(1, 63, byte_at(s, i))
+}
+
+// An attribute, and a set that is not empty.
+fn is_value(s: &[u8], i: usize) -> bool
+    requires { ⌜ i + 1 < 2 ^ 64 ⌝ }
+    ensures { λ r. ⌜ r ≡ (inRange attribute (now (s .entry)) i && inRange strings-set (now (s .entry)) (i + 1)) ⌝ }
+{
+    is_most(s, i, 31) && set_at(s, i + 1) != 0
+}
+
+// Two variables, a gap and a variable.
+fn is_plug(s: &[u8], i: usize) -> bool
+    requires { ⌜ i + 3 < 2 ^ 64 ⌝ }
+    ensures { λ r. ⌜ r ≡ allInRange (operandsOf 0x35) (now (s .entry)) i ⌝ }
+{
+    are_most(s, i, 3, 3) && are_most(s, i + 2, 7, 3)
+}
+
+// Whether the operands of a command that stands at an offset are in range.
+fn in_range(s: &[u8], at: usize, code: u8) -> bool
+    requires { ⌜ at < 2 ^ 63 ⌝ }
+    ensures { λ r. ⌜ r ≡ allInRange (operandsOf code) (now (s .entry)) (at + 1) ⌝ }
+{
+    let i = at + 1;
+    match code {
+        0x01 | 0x05 | 0x23 => is_element(s, i),
+        0x02 | 0x14 | 0x28 => is_most(s, i, 31),
+        0x03 | 0x15 => is_most(s, i, 63),
+        0x16 => are_most(s, i, 63, 63),
+        0x17 => is_value(s, i),
+        0x22 => is_most(s, i, 7),
+        0x24 => are_most(s, i, 31, 63),
+        0x25 => are_most(s, i, 31, 7),
+        0x30 | 0x32 => are_most(s, i, 3, 3),
+        0x31 => is_most(s, i, 3),
+        0x33 => are_most(s, i, 3, 63),
+        0x34 | 0x37 => is_most(s, i, 3),
+        0x35 => is_plug(s, i),
+        0x36 => is_plug(s, i),
+        0x40 => is_most(s, i + 1, 7),
+        0x41 => true,
+        0x42 => is_most(s, i + 1, 7),
+        0x43 => are_most(s, i + 1, 7, 63),
+        0x44 => is_most(s, i + 1, 7),
+        0x45 => is_most(s, i, 7),
+        0x46 => is_most(s, i, 7),
+        0x47 => is_most(s, i, 63),
+        _ => true,
+    }
+}
+
+impl Position {
+    // The command here, if it may stand here and is whole and in range, with the position moved over it.
+    pub fn command(self, s: &[u8], context: Context) -> Decoded
+        ensures { λ r. ⌜ r ≡ command context (now (s .entry)) (self .at) ⌝ }
+    {
+        let at = self.at;
+        if s.len() <= at {
+            return Decoded::Refused(Form::Ended, s.len());
+        }
+        let code = s[at];
+        if !is_allowed(context, code) {
+            return Decoded::Refused(Form::NotAllowed, at);
+        }
+        let more = operand_bytes(code);
+        if s.len() - at <= more {
+            return Decoded::Refused(Form::Ended, at);
+        }
+        if !in_range(s, at, code) {
+            return Decoded::Refused(Form::OutOfRange, at);
+        }
+        Decoded::Moved(code, Position { at: at + 1 + more })
+    }
+
+    // The byte this far on; 0 past the end.
+    pub fn operand(self, s: &[u8], i: usize) -> u8
+        ensures { λ r. ⌜ r ≡ byte (now (s .entry)) (self .at + i) ⌝ }
+    {
+        let at = self.at;
+        if s.len() <= at {
+            return 0;
+        }
+        if s.len() - at <= i {
+            return 0;
+        }
+        s[at + i]
+    }
 }

@@ -1,0 +1,116 @@
+-- What holds of the command at an offset, and of readings that go on from it.
+use Prim.Native.Nat.{ℕ, _+_, _≤_, _<_}
+use mathlib.Core.Path.{_≡_, refl}
+use mathlib.Core.List.{List}
+use mathlib.Core.Bool.{Bool, true, false, cond}
+use native.Mathlib.Omega.{arith}
+use lib.ListN.{length, List·getD-eq-default}
+use lib.Dec.{ltb}
+use borrow.Author.Tests.{ltb-true, lt-ltb, le-ltb}
+use Rattle.verdicts.specs.declared.Form.{Form}
+use Rattle.verdicts.specs.declared.Form.the-variants.{Ended, NotAllowed, OutOfRange}
+use Rattle.commands.specs.declared.Context.{Context}
+use Rattle.commands.specs.declared.Position.{Position}
+use Rattle.commands.specs.declared.Decoded.{Decoded}
+use Rattle.commands.specs.declared.Decoded.the-variants.{Moved, Refused}
+use Rattle.commands.specs.Commands.{byte, operandsOf, operandBytes, allInRange, allowed, command}
+use Rattle.commands.specs.Reading.{Read, whole, refused, unfinished, andThen, onDecoded, onCommand, when}
+
+pub byte-past : (s : List ℕ) (at : ℕ) → length s ≤ at → byte s at ≡ 0
+byte-past s at h = List·getD-eq-default s 0 h
+
+-- The five answers, each from the tests that lead to it.
+module _ (x : Context) (s : List ℕ) (at : ℕ) where
+  pub ended-before : length s ≤ at → Refused Ended (length s) ≡ command x s at
+  unfolding command
+  ended-before h = rw (le-ltb at (length s) h)
+
+  module _ (here : at < length s) where
+    pub not-allowed : allowed x (byte s at) ≡ false → Refused NotAllowed at ≡ command x s at
+    unfolding command
+    not-allowed a = rw (lt-ltb at (length s) here, a)
+
+    module _ (a : allowed x (byte s at) ≡ true) where
+      pub ended-in : length s ≤ at + operandBytes (byte s at) → Refused Ended at ≡ command x s at
+      unfolding command
+      ended-in h = rw (lt-ltb at (length s) here, a, le-ltb (at + operandBytes (byte s at)) (length s) h)
+
+      module _ (fits : at + operandBytes (byte s at) < length s) where
+        pub out-of-range : allInRange (operandsOf (byte s at)) s (at + 1) ≡ false → Refused OutOfRange at ≡ command x s at
+        unfolding command
+        out-of-range r = rw (lt-ltb at (length s) here, a, lt-ltb (at + operandBytes (byte s at)) (length s) fits, r)
+
+        pub moves : allInRange (operandsOf (byte s at)) s (at + 1) ≡ true → Moved (byte s at) (record { at = at + 1 + operandBytes (byte s at) }) ≡ command x s at
+        unfolding command
+        moves r = rw (lt-ltb at (length s) here, a, lt-ltb (at + operandBytes (byte s at)) (length s) fits, r)
+
+-- What a command that was read tells.
+pub record MovedOver (x : Context) (s : List ℕ) (at code : ℕ) (next : Position) : Type 0 where
+  pub first : code ≡ byte s at
+  pub after : next .at ≡ at + 1 + operandBytes (byte s at)
+  pub forward : at < next .at
+  pub inside : next .at ≤ length s
+  pub permitted : allowed x (byte s at) ≡ true
+  pub ranges : allInRange (operandsOf (byte s at)) s (at + 1) ≡ true
+
+record Passed (here a fits r : Bool) (b code : ℕ) (p next : Position) : Type 0 where
+  here′ : here ≡ true
+  a′ : a ≡ true
+  fits′ : fits ≡ true
+  r′ : r ≡ true
+  code′ : code ≡ b
+  next′ : next ≡ p
+
+never : {A : Type 0} (f : Form) (n code : ℕ) (next : Position) → Refused f n ≡ Moved code next → A
+never f n code next e = absurd (let z : _≡_ {A = ℕ} 0 1 = cc in omega arith)
+
+passed : (here a fits r : Bool) (n at b code : ℕ) (p next : Position)
+    → cond here (cond a (cond fits (cond r (Moved b p) (Refused OutOfRange at)) (Refused Ended at)) (Refused NotAllowed at)) (Refused Ended n) ≡ Moved code next
+    → Passed here a fits r b code p next
+passed true true true true n at b code p next e = record { here′ = refl; a′ = refl; fits′ = refl; r′ = refl; code′ = cc; next′ = cc }
+passed true true true false n at b code p next e = never OutOfRange at code next e
+passed true true false r n at b code p next e = never Ended at code next e
+passed true false fits r n at b code p next e = never NotAllowed at code next e
+passed false a fits r n at b code p next e = never Ended n code next e
+
+pub moved : (x : Context) (s : List ℕ) (at code : ℕ) (next : Position) → command x s at ≡ Moved code next → MovedOver x s at code next
+unfolding command
+moved x s at code next e =
+    let p : Passed (ltb at (length s)) (allowed x (byte s at)) (ltb (at + operandBytes (byte s at)) (length s)) (allInRange (operandsOf (byte s at)) s (at + 1)) (byte s at) code (record { at = at + 1 + operandBytes (byte s at) }) next = passed _ _ _ _ (length s) at _ code _ next e in
+    let fits : at + operandBytes (byte s at) < length s = ltb-true _ _ (p .fits′) in
+    let after′ : next .at ≡ at + 1 + operandBytes (byte s at) = rw (p .next′) in
+    record { first = p .code′; after = after′; forward = omega arith; inside = omega arith; permitted = p .a′; ranges = p .r′ }
+
+-- Readings that come out whole: what went before came out whole too.
+module _ {A : Type 0} where
+  never-whole : {B : Type 0} (f : Form) (n : ℕ) (a : A) (end : ℕ) → refused f n ≡ whole a end → B
+  never-whole f n a end e = absurd (let z : _≡_ {A = ℕ} 0 1 = cc in omega arith)
+
+module _ {A B : Type 0} where
+  pub andThen-whole : (r : Read A) (k : A → ℕ → Read B) (b : B) (end : ℕ) → andThen r k ≡ whole b end
+      → (a : A) × (next : ℕ) × (r ≡ whole a next) × (k a next ≡ whole b end)
+  andThen-whole (whole a next) k b end e = (a, next, refl, e)
+  andThen-whole (refused f at) k b end e = never-whole f at b end e
+  andThen-whole unfinished k b end e = absurd (let z : _≡_ {A = ℕ} 0 1 = cc in omega arith)
+
+module _ {A : Type 0} where
+  pub onDecoded-whole : (d : Decoded) (k : ℕ → ℕ → Read A) (b : A) (end : ℕ) → onDecoded d k ≡ whole b end
+      → (code : ℕ) × (next : Position) × (d ≡ Moved code next) × (k code (next .at) ≡ whole b end)
+  onDecoded-whole (Moved code next) k b end e = (code, next, refl, e)
+  onDecoded-whole (Refused f at) k b end e = never-whole f at b end e
+
+  pub onCommand-whole : (x : Context) (s : List ℕ) (at : ℕ) (k : ℕ → ℕ → Read A) (b : A) (end : ℕ) → onCommand x s at k ≡ whole b end
+      → (code : ℕ) × (next : Position) × (command x s at ≡ Moved code next) × (k code (next .at) ≡ whole b end)
+  onCommand-whole x s at k b end e = onDecoded-whole (command x s at) k b end e
+
+  pub when-true : (t : Bool) (yes′ no′ : Unit {0} → Read A) → t ≡ true → when t yes′ no′ ≡ yes′ tt
+  when-true t yes′ no′ e = rw e
+
+  pub when-false : (t : Bool) (yes′ no′ : Unit {0} → Read A) → t ≡ false → when t yes′ no′ ≡ no′ tt
+  when-false t yes′ no′ e = rw e
+
+  -- A choice whose second side is a refusal.
+  pub when-whole : (t : Bool) (yes′ : Unit {0} → Read A) (f : Form) (at : ℕ) (b : A) (end : ℕ) → when t yes′ (λ _. refused f at) ≡ whole b end
+      → (t ≡ true) × (yes′ tt ≡ whole b end)
+  when-whole true yes′ f at b end e = (refl, e)
+  when-whole false yes′ f at b end e = never-whole f at b end e

@@ -1,0 +1,5 @@
+pub mod Tests
+pub mod Described
+pub mod Statements
+pub mod Shows
+pub mod Run

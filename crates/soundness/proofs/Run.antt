@@ -1,0 +1,175 @@
+-- The values of a run are always described by a covering summary, and so every page shown is right.
+use Prim.Native.Nat.{ℕ, zero, suc, _+_, _-_, _<_}
+use mathlib.Core.Path.{_≡_, refl, sym, ap, subst, _∙_}
+use mathlib.Core.List.{List, [], _∷_, _++_, List·Memᴰ·append-cases, List·Memᴰ·eq-of-singleton, List·Memᴰ·not-nil}
+use mathlib.Core.Bool.{Bool, true, false, cond, _&&_, _||_, false≢true}
+use mathlib.Core.Option.{some}
+use mathlib.Core.Logic.{_⊎_, inl, inr, ⊎-elim}
+use native.Mathlib.Omega.{arith}
+use borrow.Author.Tests.{lt-ltb, le-ltb, eq-eqb}
+use lib.Dec.{eqb, ltb}
+use Rattle.pages.specs.Items.{Items, none}
+use Rattle.pages.specs.RightPages.{Right, _∈_}
+use Rattle.programs.specs.Program.{Act, copyTemplate, setTemplate, copyString, setString, anyString, plug, plugString, show, Statement, step, stop, Variable, templates, strings, actNames, statementNames, named, statementAt, templateAt}
+use Rattle.programs.specs.Runs.{Choice, State, start, update, actTemplates, actStrings, actPages, after, stepped, runFrom, shown, closed}
+use Rattle.summaries.specs.ProposalReading.{variableOf}
+use Rattle.summaries.specs.Summaries.{Summary, Strings, Environment, transferTemplate, transferString, transfer, entries, fragment}
+use Rattle.summaries.specs.Covering.{WithinAt, StartCovered, StepCovered, startEnvironment}
+use Rattle.summaries.specs.Languages.{closedSummary, graphShown, graphOf, statementShows, actShows}
+use Rattle.jobs.specs.Job.{Job}
+use Rattle.jobs.specs.JobVerdict.{AllCovered, ShowHolds, StartHolds, StepHolds, StatementHolds}
+use Rattle.soundness.proofs.Tests.{or-left, or-right}
+use Rattle.soundness.proofs.Described.{Describes, nothing}
+use Rattle.soundness.proofs.Statements.{Holds, within-holds, set-template, plug-holds, plug-string-holds}
+use Rattle.soundness.proofs.Shows.{shown-in-language, template-zero}
+
+-- Variables that a statement of the program names are 0 to 3.
+pub record InRange (ts : List Statement) : Type 0 where
+  pub template : (x : ℕ) → named ts (templates x) ≡ true → x < 4
+  pub string : (y : ℕ) → named ts (strings y) ≡ true → y < 4
+
+-- What a statement of the program names, the program names.
+names-of : (ts : List Statement) (p : ℕ) (v : Variable) → statementNames (statementAt ts p) v ≡ true → named ts v ≡ true
+unfolding statementAt named
+names-of [] p v e = absurd (false≢true e)
+names-of (t ∷ ts) zero v e = or-left (statementNames t v) (named ts v) e
+names-of (t ∷ ts) (suc p) v e = or-right (statementNames t v) (named ts v) (names-of ts p v e)
+
+module _ {A B : Type 0} (R : A → B → Type 0) where
+  cond-both : (b : Bool) {x y : A} {x′ y′ : B} → R x x′ → R y y′ → R (cond b x y) (cond b x′ y′)
+  cond-both true r q = r
+  cond-both false r q = q
+
+-- What one statement does, to the variables that the program names.
+module _ (φs : List Items) (E : Environment) (X : ℕ → Items) (Y : ℕ → ℕ) (N : Variable → Bool)
+    (hX : (x : ℕ) → N (templates x) ≡ true → Holds (E .template x) φs (X x))
+    (hY : (y : ℕ) → N (strings y) ≡ true → E .string y (Y y) ≡ true) where
+  abbrev R : Summary → Items → Type 0
+  R S v = Holds S φs v
+
+  abbrev Q : Strings → ℕ → Type 0
+  Q S s = S s ≡ true
+
+  act-templates : (a : Act) → ((v : Variable) → actNames a v ≡ true → N v ≡ true) → (k : ℕ) → N (templates k) ≡ true
+      → Holds (transferTemplate φs a E k) φs (actTemplates φs a X Y k)
+  act-templates (copyTemplate x x′) n k e = cond-both R (eqb k x) (hX x′ (n (templates x′) (or-right (eqb x′ x) (eqb x′ x′) (eq-eqb x′ x′ refl)))) (hX k e)
+  act-templates (setTemplate x t) n k e = cond-both R (eqb k x) (set-template φs t) (hX k e)
+  act-templates (copyString y y′) n k e = hX k e
+  act-templates (setString y s) n k e = hX k e
+  act-templates (anyString y) n k e = hX k e
+  act-templates (plug x x′ g x″) n k e = cond-both R (eqb k x)
+      (plug-holds g
+      (hX x′ (n (templates x′) (or-left (eqb x′ x || eqb x′ x′) (eqb x′ x″) (or-right (eqb x′ x) (eqb x′ x′) (eq-eqb x′ x′ refl)))))
+      (hX x″ (n (templates x″) (or-right (eqb x″ x || eqb x″ x′) (eqb x″ x″) (eq-eqb x″ x″ refl)))))
+      (hX k e)
+  act-templates (plugString x x′ h y) n k e = cond-both R (eqb k x)
+      (plug-string-holds h (E .string y) (Y y) (hY y (n (strings y) (eq-eqb y y refl)))
+      (hX x′ (n (templates x′) (or-right (eqb x′ x) (eqb x′ x′) (eq-eqb x′ x′ refl)))))
+      (hX k e)
+  act-templates (show x) n k e = hX k e
+
+  act-strings : (a : Act) (s : ℕ) → ((v : Variable) → actNames a v ≡ true → N v ≡ true) → (k : ℕ) → N (strings k) ≡ true
+      → transferString a E k (actStrings a s Y k) ≡ true
+  act-strings (copyTemplate x x′) s n k e = hY k e
+  act-strings (setTemplate x t) s n k e = hY k e
+  act-strings (copyString y y′) s n k e = cond-both Q (eqb k y) (hY y′ (n (strings y′) (or-right (eqb y′ y) (eqb y′ y′) (eq-eqb y′ y′ refl)))) (hY k e)
+  act-strings (setString y t) s n k e = cond-both Q (eqb k y) (eq-eqb t t refl) (hY k e)
+  act-strings (anyString y) s n k e = cond-both Q (eqb k y) refl (hY k e)
+  act-strings (plug x x′ g x″) s n k e = hY k e
+  act-strings (plugString x x′ h y) s n k e = hY k e
+  act-strings (show x) s n k e = hY k e
+
+module _ (j : Job) (in-range : InRange (j .program)) (covered : AllCovered j) (shows : (p : ℕ) → ShowHolds j p) where
+  -- What holds at each point of a run.
+  pub record Invariant (σ : State) : Type 0 where
+    pub template : (x : ℕ) → named (j .program) (templates x) ≡ true → Holds (entries (j .proposal) (σ .point) .template x) (j .templates) (σ .template x)
+    pub string : (y : ℕ) → named (j .program) (strings y) ≡ true → entries (j .proposal) (σ .point) .string y (σ .string y) ≡ true
+    pub pages : (page : Items) → page ∈ (σ .pages) → Right (j .vocabulary) page
+
+  template-number : (x : ℕ) → x < 4 → variableOf x ≡ templates x
+  template-number x h = rw (lt-ltb x 4 h)
+
+  string-number : (y : ℕ) → y < 4 → variableOf (y + 4) ≡ strings y
+  string-number y h =
+      let e : ltb (y + 4) 4 ≡ false = le-ltb (y + 4) 4 (omega arith) in
+      let q : y + 4 - 4 ≡ y = omega arith in
+      rw (e, q)
+
+  begins : Invariant start
+  begins = record {
+    template = λ x n. within-holds
+        (subst (λ (v : Variable). named (j .program) v ≡ true → WithinAt v startEnvironment (entries (j .proposal) 0))
+        (template-number x (in-range .template x n)) (covered .start x (omega (arith, in-range .template x n))) n)
+        (record { origin = 0; is-root = refl; describes = subst (λ (φ : Items). Describes (fragment 0 none) (j .templates) 0 φ none) (sym (template-zero (j .templates))) nothing });
+    string = λ y n.
+        subst (λ (v : Variable). named (j .program) v ≡ true → WithinAt v startEnvironment (entries (j .proposal) 0))
+        (string-number y (in-range .string y n)) (covered .start (y + 4) (omega (arith, in-range .string y n))) n 0 refl;
+    pages = λ page m. absurd (List·Memᴰ·not-nil m);
+  }
+
+  graph-at : (p : ℕ) {q q′ : ℕ} (x : ℕ) → statementAt (j .program) p ≡ step (show x) q q′
+      → graphShown (j .program) (j .proposal) p ≡ some (closedSummary (entries (j .proposal) p .template x))
+  unfolding graphShown
+  graph-at p x e = ap (λ (t : Statement). graphOf (j .proposal) p (statementShows t)) e
+
+  -- The step to a next point, in the terms of covering.
+  module _ (σ : State) (i : Invariant σ) (a : Act) (q q′ : ℕ) (at : statementAt (j .program) (σ .point) ≡ step a q q′) where
+    names : (v : Variable) → actNames a v ≡ true → named (j .program) v ≡ true
+    names v e = names-of (j .program) (σ .point) v (rw at e)
+
+    covers : (second : Bool) (n : ℕ) → n < 8
+        → StepCovered (j .templates) (j .program) (j .proposal) (σ .point) a (cond second q′ q) (variableOf n)
+    covers second n h = subst (λ (t : Statement). StatementHolds j (σ .point) t second n) at (covered .steps (σ .point) second n h)
+
+    next-template : (second : Bool) (x : ℕ) → named (j .program) (templates x) ≡ true
+        → Holds (entries (j .proposal) (cond second q′ q) .template x) (j .templates) (actTemplates (j .templates) a (σ .template) (σ .string) x)
+    next-template second x n = within-holds
+        (subst (λ (v : Variable). named (j .program) v ≡ true
+        → WithinAt v (transfer (j .templates) a (entries (j .proposal) (σ .point))) (entries (j .proposal) (cond second q′ q)))
+        (template-number x (in-range .template x n)) (covers second x (omega (arith, in-range .template x n))) n)
+        (act-templates (j .templates) (entries (j .proposal) (σ .point)) (σ .template) (σ .string) (named (j .program)) (i .template) (i .string) a names x n)
+
+    next-string : (second : Bool) (s y : ℕ) → named (j .program) (strings y) ≡ true
+        → entries (j .proposal) (cond second q′ q) .string y (actStrings a s (σ .string) y) ≡ true
+    next-string second s y n =
+        subst (λ (v : Variable). named (j .program) v ≡ true
+        → WithinAt v (transfer (j .templates) a (entries (j .proposal) (σ .point))) (entries (j .proposal) (cond second q′ q)))
+        (string-number y (in-range .string y n)) (covers second (y + 4) (omega (arith, in-range .string y n))) n
+        (actStrings a s (σ .string) y)
+        (act-strings (j .templates) (entries (j .proposal) (σ .point)) (σ .template) (σ .string) (named (j .program)) (i .template) (i .string) a s names y n)
+
+    -- A page that the step shows is right.
+    new-page : (page : Items) → page ∈ actPages a (σ .template) → Right (j .vocabulary) page
+    new-page page m = go a at m
+      where
+        go : (b : Act) → statementAt (j .program) (σ .point) ≡ step b q q′ → page ∈ actPages b (σ .template) → Right (j .vocabulary) page
+        go (copyTemplate x x′) e m = absurd (List·Memᴰ·not-nil m)
+        go (setTemplate x t) e m = absurd (List·Memᴰ·not-nil m)
+        go (copyString y y′) e m = absurd (List·Memᴰ·not-nil m)
+        go (setString y t) e m = absurd (List·Memᴰ·not-nil m)
+        go (anyString y) e m = absurd (List·Memᴰ·not-nil m)
+        go (plug x x′ g x″) e m = absurd (List·Memᴰ·not-nil m)
+        go (plugString x x′ h y) e m = absurd (List·Memᴰ·not-nil m)
+        go (show x) e m = subst (Right (j .vocabulary)) (sym (List·Memᴰ·eq-of-singleton m))
+            (shows (σ .point) (closedSummary (entries (j .proposal) (σ .point) .template x))
+            (graph-at (σ .point) x e) (closed (σ .template x))
+            (shown-in-language (i .template x (names-of (j .program) (σ .point) (templates x) (rw e (eq-eqb x x refl))))))
+
+  keeps : (c : Choice) (σ : State) (t : Statement) → statementAt (j .program) (σ .point) ≡ t → Invariant σ → Invariant (after (j .templates) t c σ)
+  keeps c σ stop e i = i
+  keeps c σ (step a q q′) e i = record {
+    template = next-template σ i a q q′ e (c .second);
+    string = next-string σ i a q q′ e (c .second) (c .string);
+    pages = λ page m. ⊎-elim (λ (m′ : page ∈ (σ .pages)). i .pages page m′) (λ (m′ : page ∈ actPages a (σ .template)). new-page σ i a q q′ e page m′)
+        (List·Memᴰ·append-cases (σ .pages) m);
+  }
+
+  holds-throughout : (cs : List Choice) (σ : State) → Invariant σ → Invariant (runFrom (j .templates) (j .program) σ cs)
+  unfolding runFrom
+  holds-throughout [] σ i = i
+  holds-throughout (c ∷ cs) σ i = holds-throughout cs (stepped (j .templates) (j .program) c σ) (keeps c σ (statementAt (j .program) (σ .point)) refl i)
+
+  -- Every page of every run is right.
+  pub all-right : (cs : List Choice) (page : Items) → page ∈ shown (j .templates) (j .program) cs → Right (j .vocabulary) page
+  unfolding shown
+  all-right cs = holds-throughout cs start begins .pages
