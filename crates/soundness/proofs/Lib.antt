@@ -3,3 +3,5 @@ pub mod Described
 pub mod Statements
 pub mod Shows
 pub mod Run
+pub mod Ranges
+pub mod Guarantee

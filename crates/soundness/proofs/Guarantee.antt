@@ -1,0 +1,71 @@
+-- Demand 3: an accepted job's runs show only right pages, whatever its proposal says, over every list of choices.
+use Prim.Native.Nat.{ℕ}
+use mathlib.Core.Path.{_≡_, ap, subst, _∙_}
+use mathlib.Core.List.{List}
+use mathlib.Core.Bool.{Bool, true, false}
+use native.Mathlib.Omega.{arith}
+use lib.ListN.{length}
+use lib.Dec.{leb, ltb}
+use Rattle.verdicts.specs.declared.Form.{Form}
+use Rattle.verdicts.specs.declared.Form.the-variants.{TooLong, NotAllowed}
+use Rattle.verdicts.specs.declared.Verdict.the-variants.{Accepted}
+use Rattle.commands.specs.Reading.{Read, whole, refused, andThen, when, enough}
+use Rattle.commands.proofs.Laws.{andThen-whole, when-whole}
+use Rattle.vocabularies.specs.Vocabulary.{Vocabulary, declared}
+use Rattle.vocabularies.specs.VocabularyReading.{vocabulary, alone, mostBytes}
+use Rattle.pages.specs.Items.{Items}
+use Rattle.pages.specs.ItemReading.{templates}
+use Rattle.programs.specs.Program.{Statement}
+use Rattle.programs.specs.ProgramReading.{program}
+use Rattle.programs.specs.Runs.{Choice}
+use Rattle.summaries.specs.Proposal.{Head}
+use Rattle.summaries.specs.ProposalReading.{proposal}
+use Rattle.jobs.specs.Job.{Job, job}
+use Rattle.jobs.specs.JobVerdict.{JobVerdict, accepted, AllCovered, ShowHolds}
+use Rattle.jobs.specs.Guarantee.{Guarantee, ShowsOnlyRightPages}
+use Rattle.soundness.proofs.Run.{InRange, all-right}
+use Rattle.soundness.proofs.Ranges.{program-in-range}
+
+last-whole : {A : Type 0} (t : Bool) (b a : A) (next end : ℕ) → when t (λ _. refused NotAllowed next) (λ _. whole b next) ≡ whole a end → b ≡ a
+last-whole true b a next end e = absurd (let z : _≡_ {A = ℕ} 0 1 = cc in omega arith)
+last-whole false b a next end e = cc
+
+-- What is read alone is read.
+alone-whole : {A : Type 0} (s : List ℕ) (r : Read A) (a : A) (end : ℕ) → alone s r ≡ whole a end → (next : ℕ) × (r ≡ whole a next)
+alone-whole {A} s r a end e =
+    let q = when-whole (leb (length s) mostBytes) (λ _. andThen r stops) TooLong 0 a end e in
+    let q′ = andThen-whole r stops a end (q .1) in
+    (q′ .1, q′ .2 ∙ ap (λ (b : A). whole b (q′ .1)) (last-whole (ltb (q′ .1) (length s)) (q′ .0) a (q′ .1) end (q′ .3)))
+  where
+    stops : A → ℕ → Read A
+    stops b next = when (ltb next (length s)) (λ _. refused NotAllowed next) (λ _. whole b next)
+
+-- A job that reads names variables in range.
+module _ (s : List ℕ) where
+  abbrev with-proposal : Vocabulary → List Items → List Statement → List Head → ℕ → Read Job
+  with-proposal D φs ts hs end = whole (record { vocabulary = D; templates = φs; program = ts; proposal = hs }) end
+
+  abbrev with-program : Vocabulary → List Items → List Statement → ℕ → Read Job
+  with-program D φs ts next = andThen (proposal (enough s) (length φs) (length ts) s 0 next) (with-proposal D φs ts)
+
+  abbrev with-templates : Vocabulary → List Items → ℕ → Read Job
+  with-templates D φs next = andThen (program (enough s) (length φs) s next) (with-program D φs)
+
+  abbrev with-vocabulary : Vocabulary → ℕ → Read Job
+  with-vocabulary D next = andThen (templates (enough s) (declared (D .rules)) s 0 next) (with-templates D)
+
+  in-range : (j : Job) (end : ℕ) → job s ≡ whole j end → InRange (j .program)
+  unfolding job
+  in-range j end e =
+      let a = alone-whole s (andThen (vocabulary s) with-vocabulary) j end e in
+      let v = andThen-whole (vocabulary s) with-vocabulary j (a .0) (a .1) in
+      let t = andThen-whole (templates (enough s) (declared (v .0 .rules)) s 0 (v .1)) (with-templates (v .0)) j (a .0) (v .3) in
+      let p = andThen-whole (program (enough s) (length (t .0)) s (t .1)) (with-program (v .0) (t .0)) j (a .0) (t .3) in
+      let h = andThen-whole (proposal (enough s) (length (t .0)) (length (p .0)) s 0 (p .1)) (with-proposal (v .0) (t .0) (p .0)) j (a .0) (p .3) in
+      let q : record { vocabulary = v .0; templates = t .0; program = p .0; proposal = h .0 } ≡ j = cc (h .3) in
+      subst (λ (k : Job). InRange (k .program)) q (program-in-range (enough s) (length (t .0)) s (t .1) (p .0) (p .1) (p .2))
+
+pub guarantee : (s : List ℕ) → Guarantee s
+guarantee s (accepted {j = j} {end = end} reads covered shows) j′ end′ reads′ choices =
+    let q : j ≡ j′ = cc in
+    subst (λ (k : Job). ShowsOnlyRightPages k choices) q (all-right j (in-range s j end reads) covered shows choices)
