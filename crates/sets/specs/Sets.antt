@@ -1,7 +1,13 @@
 -- Sets of numbers as words: bit i of the word, counted from the lowest, stands for the number i (document 01, `17 a m`).
-use Prim.Native.Nat.{ℕ, _/_, _%_, _^_}
-use mathlib.Core.Bool.{Bool}
+use Prim.Native.Nat.{ℕ, _/_, _%_, _^_, _<_}
+use mathlib.Core.Path.{_≡_}
+use mathlib.Core.Bool.{Bool, true, false}
 use lib.Dec.{eqb}
 
 unfoldable pub member : ℕ → ℕ → Bool
 member set i = eqb (set / 2 ^ i % 2) 1
+
+-- By the answer: every member of a is one of b; or a has a member that b lacks.
+abbrev pub Within : ℕ → ℕ → Bool → Type 0
+Within a b true = (k : ℕ) → member a k ≡ true → member b k ≡ true
+Within a b false = (k : ℕ) × (k < 64) × (member a k ≡ true) × (member b k ≡ false)

@@ -1,0 +1,10 @@
+pub mod Deciding
+pub mod Tests
+pub mod Elements
+pub mod Readings
+pub mod Ends
+pub mod Marks
+pub mod Gaps
+pub mod Pages
+pub mod Roots
+pub mod Verdicts
