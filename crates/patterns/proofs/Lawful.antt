@@ -1,0 +1,64 @@
+-- The three readings keep what a reading says of itself: patterns lie below the size, and are joined as the words are.
+use Prim.Native.Nat.{ℕ, _<_, _^_}
+use native.Mathlib.Omega.{arith}
+use mathlib.Core.Path.{_≡_, refl, sym, ap}
+use mathlib.Core.List.{List, [], _∷_, _++_}
+use mathlib.Core.Bool.{Bool, true, false, cond}
+use lib.Dec.{eqb}
+use Rattle.vocabularies.specs.Vocabulary.{Formula}
+use Rattle.vocabularies.specs.Facts.{Fact, factsOf}
+use Rattle.patterns.specs.Readings.{Reading, factReading, rootReading, pageReading, kindOf, joinKinds, empty, alone, other}
+use Rattle.patterns.proofs.Facts.{Closed, facts-closed}
+use Rattle.patterns.proofs.Clauses.{pattern-append, pattern-below}
+
+pub record Lawful (R : Reading) : Type 0 where
+  pub below : (w : List ℕ) → R .of w < R .size
+  pub joins : (u v : List ℕ) → R .of (u ++ v) ≡ R .op (R .of u) (R .of v)
+
+pub facts-lawful : (fs : List Fact) → Closed fs → Lawful (factReading fs)
+facts-lawful fs closed = record { below = pattern-below fs []; joins = pattern-append fs closed [] [] }
+
+pub clause-lawful : (ψ : Formula) → Lawful (factReading (factsOf ψ))
+clause-lawful ψ = facts-lawful (factsOf ψ) (facts-closed ψ)
+
+kind-below : (root : ℕ) (w : List ℕ) → kindOf root w < 3
+unfolding kindOf
+kind-below root [] = omega arith
+kind-below root (c ∷ []) = go (eqb c root)
+  where
+    go : (b : Bool) → cond b alone other < 3
+    go true = omega arith
+    go false = omega arith
+kind-below root (c ∷ d ∷ w) = omega arith
+
+kinds-join : (root : ℕ) (u v : List ℕ) → kindOf root (u ++ v) ≡ joinKinds (kindOf root u) (kindOf root v)
+unfolding kindOf
+kinds-join root [] v = refl
+kinds-join root (c ∷ []) [] = go (eqb c root)
+  where
+    go : (b : Bool) → cond b alone other ≡ joinKinds (cond b alone other) empty
+    go true = refl
+    go false = refl
+kinds-join root (c ∷ []) (d ∷ []) = go (eqb c root) (eqb d root)
+  where
+    go : (a b : Bool) → other ≡ joinKinds (cond a alone other) (cond b alone other)
+    go true true = refl
+    go true false = refl
+    go false true = refl
+    go false false = refl
+kinds-join root (c ∷ []) (d ∷ d′ ∷ v) = go (eqb c root)
+  where
+    go : (a : Bool) → other ≡ joinKinds (cond a alone other) other
+    go true = refl
+    go false = refl
+kinds-join root (c ∷ c′ ∷ u) v = go (eqb (kindOf root v) empty)
+  where
+    go : (b : Bool) → other ≡ cond b other other
+    go true = refl
+    go false = refl
+
+pub root-lawful : (root : ℕ) → Lawful (rootReading root)
+root-lawful root = record { below = kind-below root; joins = kinds-join root }
+
+pub page-lawful : Lawful pageReading
+page-lawful = record { below = λ w. omega arith; joins = λ u v. refl }

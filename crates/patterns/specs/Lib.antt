@@ -1,0 +1,4 @@
+pub mod Patterns
+pub mod Readings
+pub mod Graphs
+pub mod Rounds

@@ -1,0 +1,1 @@
+// The sets of fact patterns that decide a show exactly.
