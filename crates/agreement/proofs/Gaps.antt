@@ -50,7 +50,8 @@ value-closed : (s : List ℕ) (at code h : ℕ) → allowed PageAttributes code 
 unfolding allowed
 value-closed s at code h m = cases (eqb code 0x24) refl
   where
-    cases : (b : Bool) → eqb code 0x24 ≡ b → isOpenGap (cond b (string (byte s (at + 2))) (cond (eqb code 0x25) (open-gap (byte s (at + 2))) (string strings))) h ≡ false
+    cases : (b : Bool) → eqb code 0x24 ≡ b
+        → isOpenGap (cond b (string (byte s (at + 2))) (cond (eqb code 0x25) (open-gap (byte s (at + 2))) (string strings))) h ≡ false
     cases true e = refl
     cases false e = let is : code ≡ 0x28 = eqb-true code 0x28 (rw e at m) in rw is
 
@@ -69,7 +70,7 @@ module _ (ruled : ℕ → Bool) (s : List ℕ) where
   mutual
     unfolding items gapIn attributeGapIn
 
-    items-close : (f depth at : ℕ) → Gives (Unit {0}) (λ φ end. Closed φ) (items f Page ruled s depth at)
+    pub items-close : (f depth at : ℕ) → Gives (Unit {0}) (λ φ end. Closed φ) (items f Page ruled s depth at)
     items-close zero depth at = runs-out tt
     items-close (suc f) depth at = gives-when (eqb (byte s at) (endOf depth))
         (λ _ _. gives (record { gaps = λ g. refl; attribute-gaps = λ h. refl }))

@@ -8,3 +8,5 @@ pub mod Gaps
 pub mod Pages
 pub mod Roots
 pub mod Verdicts
+pub mod JobEnds
+pub mod JobVerdicts

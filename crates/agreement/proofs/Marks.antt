@@ -2,7 +2,7 @@
 -- lie between the offset where reading began and the one where it ended. So no two elements have one mark.
 use Prim.Native.Nat.{ℕ, zero, suc, _+_, _≤_, _<_}
 use native.Mathlib.Omega.{arith}
-use mathlib.Core.Path.{_≡_}
+use mathlib.Core.Path.{_≡_, refl, ap}
 use mathlib.Core.List.{List, [], _∷_}
 use mathlib.Core.Bool.{Bool, true, false, cond}
 use mathlib.Core.Logic.{inl, inr}
@@ -16,6 +16,7 @@ use Rattle.pages.specs.declared.Kind.the-variants.{Template, Page}
 use Rattle.pages.specs.Items.{Item, text, gap, element, Items, none, more}
 use Rattle.pages.specs.ItemReading.{itemContext, attributeContext, nesting, attributes, endOf, leafAt, items, item, pageSlice, mostTemplates, templates}
 use Rattle.pages.specs.RightPages.{SomeElement, SomeElementOf}
+use Rattle.programs.specs.Program.{templateAt}
 use Rattle.agreement.proofs.Readings.{Gives, gives, refuses, runs-out, given, gives-command, gives-when, gives-then, gives-alone}
 
 -- The marks rise in document order, from `low` on and below `high`.
@@ -118,6 +119,10 @@ module _ (k : Kind) (ruled : ℕ → Bool) (s : List ℕ) where
   pub marks-rise : (f depth at end : ℕ) (φ : Items) → items f k ruled s depth at ≡ whole φ end → Rises at φ end
   marks-rise f depth at end φ = given (items-rise f depth at)
 
+  pub marks-within : (f depth at end mark : ℕ) (φ : Items) → items f k ruled s depth at ≡ whole φ end → Stands mark φ
+      → (at ≤ mark) × (mark < end)
+  marks-within f depth at end mark φ e = within φ at end mark (marks-rise f depth at end φ e)
+
 pub page-marks-rise : (D : Vocabulary) (p : List ℕ) (φ : Items) (end : ℕ) → pageSlice D p ≡ whole φ end → Rises 0 φ end
 unfolding pageSlice
 page-marks-rise D p φ end = given (gives-alone p (items-rise Page (declared (D .rules)) p (enough p) 0 0))
@@ -129,7 +134,7 @@ AllRise low [] high = low ≤ high
 AllRise low (φ ∷ φs) high = (middle : ℕ) × Rises low φ middle × AllRise middle φs high
 
 module _ (ruled : ℕ → Bool) (s : List ℕ) where
-  templates-rise : (f count at : ℕ) → Gives (Unit {0}) (λ φs end. AllRise at φs end) (templates f ruled s count at)
+  pub templates-rise : (f count at : ℕ) → Gives (Unit {0}) (λ φs end. AllRise at φs end) (templates f ruled s count at)
   unfolding templates AllRise
   templates-rise zero count at = runs-out tt
   templates-rise (suc f) count at = gives-command Templates s at λ code next t. gives-when (eqb code 0x2F)
@@ -141,3 +146,32 @@ module _ (ruled : ℕ → Bool) (s : List ℕ) where
 
   pub template-marks-rise : (f count at end : ℕ) (φs : List Items) → templates f ruled s count at ≡ whole φs end → AllRise at φs end
   template-marks-rise f count at end φs = given (templates-rise f count at)
+
+all-rise-le : (φs : List Items) (low high : ℕ) → AllRise low φs high → low ≤ high
+unfolding AllRise
+all-rise-le [] low high r = r
+all-rise-le (φ ∷ φs) low high r = omega (arith, rises-le φ low (r .0) (r .1), all-rise-le φs (r .0) high (r .2))
+
+within-all : (φs : List Items) (low high mark t : ℕ) → AllRise low φs high → Stands mark (templateAt φs t) → low ≤ mark
+unfolding AllRise templateAt SomeElement
+within-all [] low high mark t r s = absurd s
+within-all (φ ∷ φs) low high mark zero r s = absurd s
+within-all (φ ∷ φs) low high mark (suc zero) r s = within φ low (r .0) mark (r .1) s .0
+within-all (φ ∷ φs) low high mark (suc (suc t)) r s =
+    omega (arith, rises-le φ low (r .0) (r .1), within-all φs (r .0) high mark (suc t) (r .2) s)
+
+-- So an element's mark stands in one template only.
+pub one-template : (φs : List Items) (low high mark t t′ : ℕ) → AllRise low φs high → Stands mark (templateAt φs t)
+    → Stands mark (templateAt φs t′) → t ≡ t′
+unfolding AllRise templateAt SomeElement
+one-template [] low high mark t t′ r s s′ = absurd s
+one-template (φ ∷ φs) low high mark zero t′ r s s′ = absurd s
+one-template (φ ∷ φs) low high mark (suc zero) zero r s s′ = absurd s′
+one-template (φ ∷ φs) low high mark (suc zero) (suc zero) r s s′ = refl
+one-template (φ ∷ φs) low high mark (suc zero) (suc (suc t′)) r s s′ =
+    absurd (omega (arith, within φ low (r .0) mark (r .1) s, within-all φs (r .0) high mark (suc t′) (r .2) s′))
+one-template (φ ∷ φs) low high mark (suc (suc t)) zero r s s′ = absurd s′
+one-template (φ ∷ φs) low high mark (suc (suc t)) (suc zero) r s s′ =
+    absurd (omega (arith, within φ low (r .0) mark (r .1) s′, within-all φs (r .0) high mark (suc t) (r .2) s))
+one-template (φ ∷ φs) low high mark (suc (suc t)) (suc (suc t′)) r s s′ =
+    ap suc (one-template φs (r .0) high mark (suc t) (suc t′) (r .2) s s′)

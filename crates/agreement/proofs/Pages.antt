@@ -20,8 +20,8 @@ use Rattle.agreement.proofs.Marks.{Rises, RisesIn, Stands, StandsIn, wi
 
 module _ (D : Vocabulary) where
   -- An element of an item is wrong, as `WrongAt` says it of items.
-  abbrev pub WrongIn : ℕ → Item → Type 0
-  WrongIn mark i = SomeElementOf (λ e m δ contents. (m ≡ mark) × (ElementRight D e δ contents → ⊥)) i
+  abbrev pub WrongItem : ℕ → Item → Type 0
+  WrongItem mark i = SomeElementOf (λ e m δ contents. (m ≡ mark) × (ElementRight D e δ contents → ⊥)) i
 
   -- What was found: no wrong element, and then items without gaps are accepted; or an element that is wrong.
   pub data Found (φ : Items) : Option ℕ → Type 0 where
@@ -30,7 +30,7 @@ module _ (D : Vocabulary) where
 
   data FoundIn (i : Item) : Option ℕ → Type 0 where
     no-wrong-in : (((g : ℕ) → gapInItem i g ≡ false) → AcceptsItem D i) → FoundIn i none
-    wrong-in : {mark : ℕ} → WrongIn mark i → FoundIn i (some mark)
+    wrong-in : {mark : ℕ} → WrongItem mark i → FoundIn i (some mark)
 
 or-false-left : (a b : Bool) → (a || b) ≡ false → a ≡ false
 or-false-left true b e = e
@@ -80,7 +80,7 @@ module _ (D : Vocabulary) where
     accepts-right (more i φ) mark a (inl w) = accepts-item-right i mark (a .0) w
     accepts-right (more i φ) mark a (inr w) = accepts-right φ mark (a .1) w
 
-    accepts-item-right : (i : Item) (mark : ℕ) → AcceptsItem D i → WrongIn D mark i → ⊥
+    accepts-item-right : (i : Item) (mark : ℕ) → AcceptsItem D i → WrongItem D mark i → ⊥
     accepts-item-right text mark a w = w
     accepts-item-right (gap g) mark a w = w
     accepts-item-right (element e m δ φ) mark a (inl w) = w .1 (a .0)
@@ -112,7 +112,7 @@ mutual
   wrong-stands D (more i φ) mark (inl w) = inl (wrong-in-stands D i mark w)
   wrong-stands D (more i φ) mark (inr w) = inr (wrong-stands D φ mark w)
 
-  wrong-in-stands : (D : Vocabulary) (i : Item) (mark : ℕ) → WrongIn D mark i → StandsIn mark i
+  wrong-in-stands : (D : Vocabulary) (i : Item) (mark : ℕ) → WrongItem D mark i → StandsIn mark i
   wrong-in-stands D text mark w = w
   wrong-in-stands D (gap g) mark w = w
   wrong-in-stands D (element e m δ φ) mark (inl w) = inl (w .0)
@@ -150,7 +150,7 @@ module _ (D : Vocabulary) (mark : ℕ) where
         behind-item i low (r .0) (r .1) (within φ (r .0) high mark (r .2) (wrong-stands D φ mark w) .0) (found-in D i)
         (found-by-then φ (r .0) high (r .2) w)
 
-    found-in-by-then : (i : Item) (low high : ℕ) → RisesIn low i high → WrongIn D mark i → ByThen mark (firstWrongItem D i)
+    found-in-by-then : (i : Item) (low high : ℕ) → RisesIn low i high → WrongItem D mark i → ByThen mark (firstWrongItem D i)
     found-in-by-then text low high r w = absurd w
     found-in-by-then (gap g) low high r w = absurd w
     found-in-by-then (element e m δ φ) low high r (inl w) = at-element m (firstWrong D φ) (w .0) (w .1) (decided-right D e δ φ)

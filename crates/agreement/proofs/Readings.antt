@@ -53,6 +53,10 @@ module _ {A : Type 0} where
   gives-itself (refused f at) = refuses
   gives-itself unfinished = runs-out tt
 
+  -- Of any reading, where nothing is asked.
+  pub gives-any : (r : Read A) → Gives (Unit {0}) (λ a end. Unit {0}) r
+  gives-any r = gives-map (λ a end e. tt) (gives-itself r)
+
 module _ {A B : Type 0} {U : Type 0} {P : A → ℕ → Type 0} {Q : B → ℕ → Type 0} where
   pub gives-then : {r : Read A} {k : A → ℕ → Read B} → Gives U P r → ((a : A) (next : ℕ) → P a next → Gives U Q (k a next))
       → Gives U Q (andThen r k)
@@ -72,7 +76,8 @@ module _ {A : Type 0} {U : Type 0} {P : A → ℕ → Type 0} where
       → ((code next : ℕ) → Taken x s at code next → Gives U P (k code next)) → Gives U P (onCommand x s at k)
   unfolding command
   gives-command {k} x s at h =
-      after (ltb at (length s)) (allowed x (byte s at)) (ltb (at + operandBytes (byte s at)) (length s)) (allInRange (operandsOf (byte s at)) s (at + 1)) refl refl
+      after (ltb at (length s)) (allowed x (byte s at)) (ltb (at + operandBytes (byte s at)) (length s))
+      (allInRange (operandsOf (byte s at)) s (at + 1)) refl refl
     where
       code : ℕ
       code = byte s at

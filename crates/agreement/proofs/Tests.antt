@@ -61,8 +61,11 @@ decided-precedes [] d c = fails (λ t. omega (arith, t .3))
 decided-precedes (x ∷ w) d c = decided-iff (precedes-cons w x d c) (decided-or (decided-and (decided-eq x d) (decided-exists w c)) (decided-precedes w d c))
 
 before-unless : (w : List ℕ) (c d : ℕ) → (Precedes w d c → ⊥) ↔ Before w c d
-before-unless w c d = (λ n i j hi hj e e′. unless n i j (decLe i j) hi e e′, λ b t. omega (arith, b (t .1) (t .0) (t .3) (omega arith) (t .5) (t .4), t .2))
+before-unless w c d = (λ n i j hi hj e e′. unless n i j (decLe i j) hi e e′, refuted)
   where
+    refuted : Before w c d → Precedes w d c → ⊥
+    refuted b t = omega (arith, b (t .1) (t .0) (t .3) (omega arith) (t .5) (t .4), t .2)
+
     unless : (Precedes w d c → ⊥) → (i j : ℕ) → Dec (i ≤ j) → i < length w → getD w i 0 ≡ c → getD w j 0 ≡ d → i ≤ j
     unless n i j (yes h) hi e e′ = h
     unless n i j (no h) hi e e′ = absurd (n (j, i, omega arith, hi, e′, e))

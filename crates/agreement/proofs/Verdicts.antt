@@ -42,9 +42,9 @@ module _ {v p : List ℕ} where
   read-verdict R (fails n) = not-root R n
 
 -- The verdict that is computed is one that document 01 gives.
-pub page-verdict-is : (v p : List ℕ) → PageVerdict v p (pageVerdict v p)
+pub pageVerdict-is : (v p : List ℕ) → PageVerdict v p (pageVerdict v p)
 unfolding pageVerdict
-page-verdict-is v p = of-vocabulary (vocabularySlice v) refl
+pageVerdict-is v p = of-vocabulary (vocabularySlice v) refl
   where
     of-page : (D : Vocabulary) (end : ℕ) → vocabularySlice v ≡ whole D end → (r : Read Items) → pageSlice D p ≡ r
         → PageVerdict v p (judged D r)
@@ -90,13 +90,13 @@ module _ {v p : List ℕ} where
   computes (accepted {D} {page} R a c) =
       alone-of R a ∙ ap wrongVerdict (accepts-iff D page (page-closed D p page (R .pageEnd) (R .page-reads) .gaps) .1 c)
 
-  -- At most one verdict.
+  -- At most one verdict; `pageVerdict-is` gives one.
   pub unique : {a b : Verdict} → PageVerdict v p a → PageVerdict v p b → a ≡ b
   unique A B = sym (computes A) ∙ computes B
 
-  -- The page passes exactly when it and its vocabulary can be read and it is right.
   accepted-right : PageVerdict v p Accepted → (D : Vocabulary) × (page : Items) × Readable v p D page × Right D page
   accepted-right (accepted {D} {page} R a c) = (D, page, R, record { alone = a; accepted = c })
 
+-- The page passes exactly when it and its vocabulary can be read and it is right.
 pub passes : (v p : List ℕ) → (pageVerdict v p ≡ Accepted) ↔ ((D : Vocabulary) × (page : Items) × Readable v p D page × Right D page)
-passes v p = (λ e. accepted-right (rw e at (page-verdict-is v p)), λ t. computes (accepted (t .2) (t .3 .alone) (t .3 .accepted)))
+passes v p = (λ e. accepted-right (rw e at (pageVerdict-is v p)), λ t. computes (accepted (t .2) (t .3 .alone) (t .3 .accepted)))
