@@ -1,1 +1,1 @@
-// Laws that the definitions of a page's judgement agree; there is no code here.
+// Laws of the definitions: reading ends, a page has exactly one verdict, a job at most one. There is no code here.

@@ -1,16 +1,87 @@
 -- What the code that reads vocabularies promises, in terms of the definitions that read them.
-use Prim.Native.Nat.{ℕ}
+use Prim.Native.Nat.{ℕ, _≤_, _<_, min}
 use mathlib.Core.Path.{_≡_}
 use mathlib.Core.List.{List}
 use mathlib.Core.Option.{some}
-use lib.ListN.{getD}
+use mathlib.Core.Bool.{Bool}
+use lib.ListN.{length, getD}
 use Rattle.sets.specs.Sets.{member}
+use Rattle.commands.specs.declared.Part.{Part}
+use Rattle.commands.specs.declared.Part.the-variants.{Whole, Refused}
+use Rattle.commands.specs.declared.Decoded.{Decoded}
+use Rattle.commands.specs.declared.Decoded.the-variants as Decodeds
 use Rattle.commands.specs.Reading.{whole}
-use Rattle.commands.specs.Parts.{AgreesAs, Enough}
+use Rattle.commands.specs.Parts.{Agrees, AgreesAs, Enough}
 use Rattle.vocabularies.specs.declared.Tables.{Tables}
 use Rattle.vocabularies.specs.declared.VocabularyRead.{VocabularyRead}
-use Rattle.vocabularies.specs.Vocabulary.{Rule, Vocabulary, ruleOf, declared, isIn}
-use Rattle.vocabularies.specs.VocabularyReading.{clauses, vocabulary}
+use Rattle.vocabularies.specs.declared.Facts.{Facts}
+use Rattle.vocabularies.specs.declared.Gathered.{Gathered}
+use Rattle.vocabularies.specs.Facts.{Fact, present, ordered, valued, sameFact, isAmong, add, withFacts}
+use Rattle.vocabularies.specs.Vocabulary.{Formula, order, Rule, Vocabulary, ruleOf, declared, isIn}
+use Rattle.vocabularies.specs.VocabularyReading.{leaf, shapeAt, formula, clauses, vocabulary}
+
+-- A command alone as a part.
+abbrev pub partOf : Decoded → Part
+partOf (Decodeds.Moved code next) = Whole next
+partOf (Decodeds.Refused f at) = Refused f at
+
+abbrev pub FormulaReads : List ℕ → ℕ → ℕ → Part → Type 0
+FormulaReads s depth at r = (f : ℕ) → Enough s at f → Agrees (formula f s depth at) r
+
+-- A fact in numbers: its kind, and its operands.
+abbrev pub kindOf : Fact → ℕ
+kindOf (present c) = 0
+kindOf (ordered c d) = 1
+kindOf (valued a m) = 2
+
+abbrev pub firstOf : Fact → ℕ
+firstOf (present c) = c
+firstOf (ordered c d) = c
+firstOf (valued a m) = a
+
+abbrev pub secondOf : Fact → ℕ
+secondOf (present c) = 0
+secondOf (ordered c d) = d
+secondOf (valued a m) = m
+
+pub record Written (x : Fact) (kind first second : ℕ) : Type 0 where
+  pub has-kind : kind ≡ kindOf x
+  pub has-first : first ≡ firstOf x
+  pub has-second : second ≡ secondOf x
+
+abbrev pub Stored : Facts → ℕ → Fact → Type 0
+Stored t i x = Written x (getD (t .kinds) i 0) (getD (t .firsts) i 0) (getD (t .seconds) i 0)
+
+-- A list of facts as code keeps it: whole up to 8 facts, and of a longer one the first 8.
+pub record Represents (t : Facts) (xs : List Fact) : Type 0 where
+  pub counts : t .count ≡ min 9 (length xs)
+  pub stores : (i : ℕ) → i < 8 → i < length xs → Stored t i (getD xs i (present 0))
+
+-- What is told of the fact that three numbers write: whether it is the one at a place, whether it is among those kept, and what is
+-- kept with it.
+module _ (t : Facts) (kind first second : ℕ) where
+  abbrev pub TellsSame : ℕ → Bool → Type 0
+  TellsSame i r = (x y : Fact) → Written x kind first second → Stored t i y → r ≡ sameFact x y
+
+  abbrev pub TellsAmong : Bool → Type 0
+  TellsAmong r = (x : Fact) (xs : List Fact) → Written x kind first second → Represents t xs → r ≡ isAmong x xs
+
+  abbrev pub Adds : Facts → Type 0
+  Adds r = (x : Fact) (xs : List Fact) → Written x kind first second → Represents t xs → Represents r (add x xs)
+
+-- The facts with those of a formula.
+abbrev pub FactsWith : Facts → Formula → Facts → Type 0
+FactsWith t ψ r = (xs : List Fact) → Represents t xs → Represents r (withFacts ψ xs)
+
+-- The same for the formula that one command is.
+abbrev pub LeafAdds : List ℕ → ℕ → ℕ → Facts → Facts → Type 0
+LeafAdds s at code t r = (ψ : Formula) → shapeAt s at code ≡ leaf ψ → FactsWith t ψ r
+
+-- The same for the formula at an offset, where one can be read there; and its end.
+pub record Gathers (s : List ℕ) (at : ℕ) (t : Facts) (r : Gathered) : Type 0 where
+  pub onward : at ≤ r .end .at
+  pub ends : (f depth : ℕ) (ψ : Formula) (end : ℕ) → formula f s depth at ≡ whole ψ end → r .end .at ≡ end
+  pub gathers : (f depth : ℕ) (ψ : Formula) (end : ℕ) → formula f s depth at ≡ whole ψ end → FactsWith t ψ (r .facts)
 
 -- The allowed names of a rule as sets, and the offset where its clauses stand.
 pub record RuleTables (s : List ℕ) (r : Rule) (attributes contents at : ℕ) : Type 0 where

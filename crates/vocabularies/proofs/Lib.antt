@@ -1,0 +1,4 @@
+pub mod Parts
+pub mod Formulas
+pub mod FactLists
+pub mod Gathering

@@ -1,0 +1,51 @@
+-- What holds of a part that agrees with the definition that reads it.
+use Prim.Native.Nat.{ℕ, zero, suc, _+_, _-_, _≤_, _<_}
+use mathlib.Core.Path.{_≡_, refl, sym}
+use mathlib.Core.List.{List}
+use native.Mathlib.Omega.{arith}
+use lib.ListN.{length}
+use Rattle.verdicts.specs.declared.Form.{Form}
+use Rattle.commands.specs.declared.Position.{Position}
+use Rattle.commands.specs.declared.Part.{Part}
+use Rattle.commands.specs.declared.Part.the-variants.{Whole, Refused}
+use Rattle.commands.specs.Reading.{Read, whole, refused, unfinished, andThen}
+use Rattle.commands.specs.Parts.{Agrees, AgreesAs, Enough}
+
+module _ {A : Type 0} (P : A → ℕ → Type 0) where
+  pub agrees-whole : (x : Read A) (p : Position) → AgreesAs P x (Whole p) → (a : A) × (x ≡ whole a (p .at)) × P a (p .at)
+  agrees-whole (whole a end) p h = (a, rw (h .0), rw (h .0) (h .1))
+  agrees-whole (refused f at) p h = absurd h
+  agrees-whole unfinished p h = absurd h
+
+  pub agrees-refused : (x : Read A) (f : Form) (n : ℕ) → AgreesAs P x (Refused f n) → x ≡ refused f n
+  agrees-refused (whole a end) f n h = absurd h
+  agrees-refused (refused g m) f n h = rw (h .0, h .1)
+  agrees-refused unfinished f n h = absurd h
+
+  pub whole-agrees : (x : Read A) (a : A) (p : Position) → x ≡ whole a (p .at) → P a (p .at) → AgreesAs P x (Whole p)
+  whole-agrees x a p e h = rw e (refl, h)
+
+  pub refused-agrees : (x : Read A) (f : Form) (n : ℕ) → x ≡ refused f n → AgreesAs P x (Refused f n)
+  refused-agrees x f n e = rw e (refl, refl)
+
+module _ {A B : Type 0} where
+  -- The last part of a reading: what is made of its tree changes neither its end nor its refusal.
+  pub last-agrees : (x : Read A) (k : A → B) (r : Part) → Agrees x r → Agrees (andThen x (λ a end. whole (k a) end)) r
+  last-agrees (whole a end) k (Whole p) h = h
+  last-agrees (whole a end) k (Refused f n) h = h
+  last-agrees (refused f n) k (Whole p) h = h
+  last-agrees (refused f n) k (Refused g m) h = h
+  last-agrees unfinished k r h = h
+
+  pub last-whole : (x : Read A) (k : A → B) (b : B) (end : ℕ) → andThen x (λ a end. whole (k a) end) ≡ whole b end → (a : A) × (x ≡ whole a end) × (b ≡ k a)
+  last-whole (whole a next) k b end e = (a, cc, cc)
+  last-whole (refused f n) k b end e = absurd (let z : _≡_ {A = ℕ} 0 1 = cc in omega arith)
+  last-whole unfinished k b end e = absurd (let z : _≡_ {A = ℕ} 0 1 = cc in omega arith)
+
+-- Enough is enough further on, also after a step.
+module _ (s : List ℕ) (at next f : ℕ) where
+  pub enough-on : at ≤ next → Enough s at f → Enough s next f
+  enough-on h e = omega arith
+
+  pub enough-step : at < next → next ≤ length s → Enough s at (suc f) → Enough s next f
+  enough-step h l e = omega arith
