@@ -1,0 +1,78 @@
+//! What the judges are timed on. Each maker takes a number of quarters of the full size.
+
+pub type Pair = (Vec<u8>, Vec<u8>);
+type Maker = fn(usize) -> Pair;
+
+pub const GROWING: [(&str, Maker); 3] = [("wide", wide), ("nested", nested), ("many clauses", clauses)];
+
+const MOST: usize = 65_535;
+
+/// The page records of a file: two slices each, behind their lengths.
+pub fn records(mut bytes: &[u8]) -> Vec<Pair> {
+    let mut pairs = Vec::new();
+    while !bytes.is_empty() {
+        let vocabulary = slice(&mut bytes);
+        let page = slice(&mut bytes);
+        pairs.push((vocabulary, page));
+    }
+    pairs
+}
+
+fn slice(bytes: &mut &[u8]) -> Vec<u8> {
+    let (head, rest) = bytes.split_at(4);
+    let length = u32::from_le_bytes(head.try_into().unwrap()) as usize;
+    let (kept, rest) = rest.split_at(length);
+    *bytes = rest;
+    kept.to_vec()
+}
+
+/// Element 1 holds text and elements 2; element 2 has attribute 3 of a set, text, and order clauses.
+fn rules(extra: usize) -> Vec<u8> {
+    let mut v = vec![0x01, 1, 0x02, 0, 0x03, 0, 0x03, 1, 0x03, 2];
+    v.extend([0x04, 0x11, 0x15, 2, 0x12, 0x15, 5]);
+    v.extend([0x01, 2, 0x02, 3, 0x03, 0]);
+    v.extend([0x04, 0x17, 3, 0, 0, 0, 0, 0, 0, 0, 0xFE]);
+    v.extend([0x04, 0x10, 0x16, 0, 2, 0x14, 3]);
+    for i in 0..extra {
+        v.extend([0x04, 0x11, 0x16, (i % 60) as u8, 2, 0x12, 0x15, (i % 50) as u8 + 3]);
+    }
+    v.extend([0x05, 1]);
+    v
+}
+
+const CHILD: [u8; 8] = [0x23, 2, 0x24, 3, 5, 0x21, 0x26, 0x21];
+
+/// One element around as many small ones as fit.
+fn wide(quarters: usize) -> Pair {
+    let size = MOST * quarters / 4;
+    let mut page = vec![0x23, 1];
+    while page.len() + CHILD.len() + 2 <= size {
+        page.extend(CHILD);
+    }
+    page.extend(std::iter::repeat(0x21).take(size - page.len() - 2));
+    page.extend([0x26, 0x27]);
+    (rules(0), page)
+}
+
+/// 1,024 elements in one another, each with text, so that the page has the full size.
+fn nested(quarters: usize) -> Pair {
+    let depth = 256 * quarters;
+    let mut page = Vec::new();
+    for _ in 0..depth {
+        page.extend([0x23, 1]);
+        page.extend([0x21; 60]);
+    }
+    page.extend(std::iter::repeat(0x26).take(depth));
+    page.push(0x27);
+    (rules(0), page)
+}
+
+/// Small elements under a rule of 1,000 clauses.
+fn clauses(quarters: usize) -> Pair {
+    let mut page = vec![0x23, 1];
+    for _ in 0..500 * quarters {
+        page.extend(CHILD);
+    }
+    page.extend([0x26, 0x27]);
+    (rules(1000), page)
+}
