@@ -2,3 +2,4 @@ pub mod Items
 pub mod ItemReading
 pub mod RightPages
 pub mod PageVerdict
+pub mod Promises

@@ -18,27 +18,21 @@ use Rattle.summaries.specs.Proposal.{edge}
 use Rattle.summaries.specs.Summaries.{Summary}
 use Rattle.summaries.specs.Languages.{Derives, ItemDerives, nothing, item-then, text-stays, gap-takes, element-keeps}
 use Rattle.patterns.specs.Readings.{Reading}
-use Rattle.patterns.specs.Graphs.{Bounded}
-use Rattle.patterns.specs.Rounds.{Set, Sets, only, anyBelow, attributesTake, gapTakes, allTake, itemTakes, product, patterns, itemPatterns, round, rounds, Settled}
+use Rattle.patterns.specs.Given.{Bounded}
+use Rattle.patterns.specs.Rounds.{Set, Sets, only, anyBelow, iterate, attributesTake, gapTakes, allTake, itemTakes, product, patterns, itemPatterns, round, rounds, Settled}
+use Rattle.patterns.specs.Exactness.{Derivable, Exact}
 use Rattle.patterns.proofs.Tests.{and-both, and-left, and-right, eqb-same, any-below, below-any}
 use Rattle.patterns.proofs.Words.{word-⋈}
 use Rattle.patterns.proofs.Lawful.{Lawful}
 use Rattle.patterns.proofs.Attributes.{filled-take, take-filled}
 
 module _ (φs : List Items) (G : Summary) (R : Reading) where
-  -- Some page derived from items of template n has pattern x.
-  abbrev pub Derivable : ℕ → Items → ℕ → Type 0
-  Derivable n φ x = (page : Items) × Derives φs G n φ page × (R .of (word page) ≡ x)
-
   -- Sets that a round does not leave, and sets that hold only derived patterns.
   abbrev pub Kept : Sets → Type 0
   Kept X = (n x : ℕ) → n ≤ length φs → round φs G R X n x ≡ true → X n x ≡ true
 
   abbrev pub Sound : Sets → Type 0
-  Sound X = (n x : ℕ) → n ≤ length φs → X n x ≡ true → Derivable n (templateAt φs n) x
-
-  abbrev pub Exact : Sets → Type 0
-  Exact X = (n x : ℕ) → n ≤ length φs → X n x ≡ true ↔ Derivable n (templateAt φs n) x
+  Sound X = (n x : ℕ) → n ≤ length φs → X n x ≡ true → Derivable φs G R n (templateAt φs n) x
 
 -- Members of a product.
 pub in-product : (R : Reading) (A B : Set) (x y z : ℕ) → x < R .size → y < R .size → A x ≡ true → B y ≡ true → z ≡ R .op x y
@@ -166,7 +160,7 @@ module _ (φs : List Items) (G : Summary) (bounded : Bounded φs G) (R : Reading
 
   -- Every pattern of a round is that of a page that is derived.
   pub rounds-sound : (t : ℕ) → Sound φs G R (rounds φs G R t)
-  unfolding rounds round
+  unfolding rounds round iterate
   rounds-sound zero n x h e = absurd (false≢true e)
   rounds-sound (suc t) n x h e = made (rounds φs G R t) (rounds-sound t) (templateAt φs n) n x e
 

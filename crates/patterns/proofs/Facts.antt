@@ -66,7 +66,7 @@ added g fs = go (isAmong g fs) refl
     go true e = e
     go false e = end-among g fs
 
-among-add-cases : (f g : Fact) (fs : List Fact) → isAmong f (add g fs) ≡ true → (isAmong f fs ≡ true) ⊎ (f ≡ g)
+pub among-add-cases : (f g : Fact) (fs : List Fact) → isAmong f (add g fs) ≡ true → (isAmong f fs ≡ true) ⊎ (f ≡ g)
 unfolding add
 among-add-cases f g fs e = go (isAmong g fs) e
   where

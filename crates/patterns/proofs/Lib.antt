@@ -5,3 +5,12 @@ pub mod Clauses
 pub mod Lawful
 pub mod Attributes
 pub mod Exact
+pub mod Closed
+pub mod NotRoot
+pub mod Standing
+pub mod Reaching
+pub mod Contents
+pub mod ElementPatterns
+pub mod WrongElements
+pub mod Lowest
+pub mod Decided

@@ -1,4 +1,8 @@
 pub mod Patterns
 pub mod Readings
-pub mod Graphs
+pub mod Given
 pub mod Rounds
+pub mod Reached
+pub mod Exactness
+pub mod Elements
+pub mod Shows

@@ -29,6 +29,10 @@ unfoldable pub anyBelow : ℕ → (ℕ → Bool) → Bool
 anyBelow zero p = false
 anyBelow (suc n) p = p n || anyBelow n p
 
+unfoldable pub iterate : {A : Type 0} → (A → A) → A → ℕ → A
+iterate f a zero = a
+iterate f a (suc t) = f (iterate f a t)
+
 -- Some template is as p says; there are as many as are listed, and template 0.
 abbrev pub anyTemplate : List Items → (ℕ → Bool) → Bool
 anyTemplate φs p = anyBelow (suc (length φs)) p
@@ -87,9 +91,8 @@ module _ (φs : List Items) (G : Summary) (R : Reading) where
   round X n = patterns X n (templateAt φs n)
 
   unfoldable pub rounds : ℕ → Sets
-  unfolding round
-  rounds zero = λ n x. false
-  rounds (suc t) = round (rounds t)
+  unfolding round iterate
+  rounds t = iterate round (λ n x. false) t
 
   -- A round changes nothing.
   abbrev pub Settled : Sets → Type 0

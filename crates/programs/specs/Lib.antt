@@ -1,3 +1,4 @@
 pub mod Program
 pub mod ProgramReading
 pub mod Runs
+pub mod Promises

@@ -23,7 +23,7 @@ use Rattle.vocabularies.specs.Facts.{Fact, withFacts}
 use Rattle.vocabularies.specs.Vocabulary.{Formula, conj, disj, neg, truth, attr, content, order, value}
 use Rattle.vocabularies.specs.VocabularyReading.{Shape, binary, unary, leaf, shapeAt, formulaNesting, formula}
 use Rattle.vocabularies.specs.Promises.{partOf, FormulaReads}
-use Rattle.vocabularies.proofs.Parts.{agrees-whole, agrees-refused, whole-agrees, refused-agrees, last-agrees, last-whole, enough-on, enough-step}
+use Rattle.vocabularies.proofs.Parts.{agrees-whole, agrees-refused, whole-agrees, refused-agrees, last-agrees, last-whole, plenty, is-plenty}
 
 -- What a formula's first command, of a given shape, makes of the reading.
 unfoldable shaped : ℕ → List ℕ → ℕ → ℕ → ℕ → Shape → Read Formula
@@ -254,14 +254,13 @@ module _ (s : List ℕ) (depth at : ℕ) where
 -- Code that read a formula whole stands behind its start, and within the bytes.
 pub formula-moved : (s : List ℕ) (depth at : ℕ) (r : Part) (p : Position) → FormulaReads s depth at r → r ≡ Whole p → (at < p .at) × (p .at ≤ length s)
 formula-moved s depth at r p x q =
-    let f = (length s - at) + (length s - at) + 2 in
-    let a = agrees-whole (λ _ _. Unit {0}) (formula f s depth at) p (rw q at (x f (omega arith))) in
-    formula-ends f s depth at (a .0) (p .at) (a .1)
+    let a = agrees-whole (λ _ _. Unit {0}) (formula (plenty s at) s depth at) p (rw q at (x (plenty s at) (is-plenty s at))) in
+    formula-ends (plenty s at) s depth at (a .0) (p .at) (a .1)
 
--- The bytes that are left fall over a command, and over a command and a formula.
-module _ (s : List ℕ) (t at code : ℕ) (d : Decoded) (next : Position) (now′ : length s - at ≡ t) (c : d ≡ command Formulas s at) (e : d ≡ Decodeds.Moved code next) where
-  pub command-falls : length s - next .at < t
-  command-falls = let m = moved Formulas s at code next (sym c ∙ e) in omega arith
-
-  pub formula-falls : (depth : ℕ) (first : Part) (middle : Position) → FormulaReads s depth (next .at) first → first ≡ Whole middle → length s - middle .at < t
-  formula-falls depth first middle x q = let m = moved Formulas s at code next (sym c ∙ e) in let n = formula-moved s depth (next .at) first middle x q in omega arith
+-- The bytes that are left fall over a command and a formula.
+pub formula-falls : (s : List ℕ) (t at code : ℕ) (d : Decoded) (next : Position) → length s - at ≡ t → d ≡ command Formulas s at → d ≡ Decodeds.Moved code next
+    → (depth : ℕ) (first : Part) (middle : Position) → FormulaReads s depth (next .at) first → first ≡ Whole middle → length s - middle .at < t
+formula-falls s t at code d next l c e depth first middle x q =
+    let m = moved Formulas s at code next (sym c ∙ e) in
+    let n = formula-moved s depth (next .at) first middle x q in
+    omega arith

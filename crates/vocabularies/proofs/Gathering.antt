@@ -124,6 +124,3 @@ module _ (s : List ℕ) (at : ℕ) (t : Facts) (d : Decoded) (c : d ≡ command 
     -- The bytes that are left fall over a command and what is gathered behind it.
     pub gathered-falls : (t′ : ℕ) (first : Gathered) → Gathers s (next .at) t first → length s - at ≡ t′ → length s - first .end .at < t′
     gathered-falls t′ first a e′ = let o = a .onward in omega (arith, m)
-
-    pub low : length s * 1 < 2 ^ 63 → at < 2 ^ 63
-    low h = omega (arith, m)

@@ -1,15 +1,20 @@
 -- What holds of a part that agrees with the definition that reads it.
-use Prim.Native.Nat.{ℕ, zero, suc, _+_, _-_, _≤_, _<_}
-use mathlib.Core.Path.{_≡_, refl, sym}
+use Prim.Native.Nat.{ℕ, zero, suc, _+_, _-_, _*_, _^_, _≤_, _<_}
+use mathlib.Core.Path.{_≡_, refl, sym, _∙_}
 use mathlib.Core.List.{List}
 use native.Mathlib.Omega.{arith}
 use lib.ListN.{length}
 use Rattle.verdicts.specs.declared.Form.{Form}
+use Rattle.commands.specs.declared.Context.{Context}
 use Rattle.commands.specs.declared.Position.{Position}
+use Rattle.commands.specs.declared.Decoded.{Decoded}
+use Rattle.commands.specs.declared.Decoded.the-variants as Decodeds
 use Rattle.commands.specs.declared.Part.{Part}
 use Rattle.commands.specs.declared.Part.the-variants.{Whole, Refused}
+use Rattle.commands.specs.Commands.{command}
 use Rattle.commands.specs.Reading.{Read, whole, refused, unfinished, andThen}
 use Rattle.commands.specs.Parts.{Agrees, AgreesAs, Enough}
+use Rattle.commands.proofs.Laws.{moved, MovedOver}
 
 module _ {A : Type 0} (P : A → ℕ → Type 0) where
   pub agrees-whole : (x : Read A) (p : Position) → AgreesAs P x (Whole p) → (a : A) × (x ≡ whole a (p .at)) × P a (p .at)
@@ -28,7 +33,21 @@ module _ {A : Type 0} (P : A → ℕ → Type 0) where
   pub refused-agrees : (x : Read A) (f : Form) (n : ℕ) → x ≡ refused f n → AgreesAs P x (Refused f n)
   refused-agrees x f n e = rw e (refl, refl)
 
+module _ {A : Type 0} where
+  -- What is read whole is what is read.
+  pub agrees-itself : (x : Read A) (r : Part) → Agrees x r → AgreesAs (λ a end. x ≡ whole a end) x r
+  agrees-itself (whole a end) (Whole p) h = (h .0, refl)
+  agrees-itself (whole a end) (Refused f n) h = h
+  agrees-itself (refused f n) (Whole p) h = h
+  agrees-itself (refused f n) (Refused g m) h = h
+  agrees-itself unfinished r h = h
+
 module _ {A B : Type 0} where
+  pub andThen-same : (x x′ : Read A) (k k′ : A → ℕ → Read B) → x ≡ x′ → ((a : A) (end : ℕ) → x′ ≡ whole a end → k a end ≡ k′ a end) → andThen x k ≡ andThen x′ k′
+  andThen-same x (whole a end) k k′ e h = rw e (h a end refl)
+  andThen-same x (refused f n) k k′ e h = rw e
+  andThen-same x unfinished k k′ e h = rw e
+
   -- The last part of a reading: what is made of its tree changes neither its end nor its refusal.
   pub last-agrees : (x : Read A) (k : A → B) (r : Part) → Agrees x r → Agrees (andThen x (λ a end. whole (k a) end)) r
   last-agrees (whole a end) k (Whole p) h = h
@@ -37,10 +56,26 @@ module _ {A B : Type 0} where
   last-agrees (refused f n) k (Refused g m) h = h
   last-agrees unfinished k r h = h
 
+  pub last-agrees-as : (P : A → ℕ → Type 0) (Q : B → ℕ → Type 0) (x : Read A) (k : A → B) (r : Part) → ((a : A) (end : ℕ) → P a end → Q (k a) end) → AgreesAs P x r
+      → AgreesAs Q (andThen x (λ a end. whole (k a) end)) r
+  last-agrees-as P Q (whole a end) k (Whole p) q h = (h .0, q a end (h .1))
+  last-agrees-as P Q (whole a end) k (Refused f n) q h = h
+  last-agrees-as P Q (refused f n) k (Whole p) q h = h
+  last-agrees-as P Q (refused f n) k (Refused g m) q h = h
+  last-agrees-as P Q unfinished k r q h = h
+
   pub last-whole : (x : Read A) (k : A → B) (b : B) (end : ℕ) → andThen x (λ a end. whole (k a) end) ≡ whole b end → (a : A) × (x ≡ whole a end) × (b ≡ k a)
   last-whole (whole a next) k b end e = (a, cc, cc)
   last-whole (refused f n) k b end e = absurd (let z : _≡_ {A = ℕ} 0 1 = cc in omega arith)
   last-whole unfinished k b end e = absurd (let z : _≡_ {A = ℕ} 0 1 = cc in omega arith)
+
+-- A fuel that is enough.
+unfoldable pub plenty : List ℕ → ℕ → ℕ
+plenty s at = (length s - at) + (length s - at) + 2
+
+pub is-plenty : (s : List ℕ) (at : ℕ) → Enough s at (plenty s at)
+unfolding plenty
+is-plenty s at = omega arith
 
 -- Enough is enough further on, also after a step.
 module _ (s : List ℕ) (at next f : ℕ) where
@@ -49,3 +84,20 @@ module _ (s : List ℕ) (at next f : ℕ) where
 
   pub enough-step : at < next → next ≤ length s → Enough s at (suc f) → Enough s next f
   enough-step h l e = omega arith
+
+-- Over a command that was read the bytes that are left fall, and its offset is far below what a word holds.
+module _ (x : Context) (s : List ℕ) (d : Decoded) (at code : ℕ) (next : Position) (c : d ≡ command x s at) (e : d ≡ Decodeds.Moved code next) where
+  m : MovedOver x s at code next
+  m = moved x s at code next (sym c ∙ e)
+
+  pub command-turns : length s - next .at < length s - at
+  command-turns = omega (arith, m)
+
+  pub command-falls : (t : ℕ) → length s - at ≡ t → length s - next .at < t
+  command-falls t l = omega (arith, m)
+
+  pub command-low : length s * 1 < 2 ^ 63 → at < 2 ^ 63
+  command-low l = omega (arith, m)
+
+  pub command-fits : length s * 1 < 2 ^ 63 → at + 1 < 2 ^ 64
+  command-fits l = omega (arith, m)

@@ -1,11 +1,12 @@
 -- What the code that reads vocabularies promises, in terms of the definitions that read them.
 use Prim.Native.Nat.{ℕ, _≤_, _<_, min}
 use mathlib.Core.Path.{_≡_}
-use mathlib.Core.List.{List}
+use mathlib.Core.List.{List, [], _∷_, _++_}
 use mathlib.Core.Option.{some}
-use mathlib.Core.Bool.{Bool}
+use mathlib.Core.Bool.{Bool, false}
 use lib.ListN.{length, getD}
 use Rattle.sets.specs.Sets.{member}
+use Rattle.commands.specs.declared.Context.{Context}
 use Rattle.commands.specs.declared.Part.{Part}
 use Rattle.commands.specs.declared.Part.the-variants.{Whole, Refused}
 use Rattle.commands.specs.declared.Decoded.{Decoded}
@@ -16,9 +17,11 @@ use Rattle.vocabularies.specs.declared.Tables.{Tables}
 use Rattle.vocabularies.specs.declared.VocabularyRead.{VocabularyRead}
 use Rattle.vocabularies.specs.declared.Facts.{Facts}
 use Rattle.vocabularies.specs.declared.Gathered.{Gathered}
+use Rattle.vocabularies.specs.declared.Names.{Names}
+use Rattle.vocabularies.specs.declared.RuleRead.{RuleRead}
 use Rattle.vocabularies.specs.Facts.{Fact, present, ordered, valued, sameFact, isAmong, add, withFacts}
 use Rattle.vocabularies.specs.Vocabulary.{Formula, order, Rule, Vocabulary, ruleOf, declared, isIn}
-use Rattle.vocabularies.specs.VocabularyReading.{leaf, shapeAt, formula, clauses, vocabulary}
+use Rattle.vocabularies.specs.VocabularyReading.{leaf, shapeAt, formula, rising, clauses, ruleBody, vocabulary}
 
 -- A command alone as a part.
 abbrev pub partOf : Decoded → Part
@@ -83,11 +86,32 @@ pub record Gathers (s : List ℕ) (at : ℕ) (t : Facts) (r : Gathered) : Type 0
   pub ends : (f depth : ℕ) (ψ : Formula) (end : ℕ) → formula f s depth at ≡ whole ψ end → r .end .at ≡ end
   pub gathers : (f depth : ℕ) (ψ : Formula) (end : ℕ) → formula f s depth at ≡ whole ψ end → FactsWith t ψ (r .facts)
 
+-- The names of a rising list as a set.
+abbrev pub NamesRead : List ℕ → Context → ℕ → Names → Type 0
+NamesRead s x at r = (f : ℕ) → Enough s at f → AgreesAs (λ ns end. (k : ℕ) → member (r .set) k ≡ isIn k ns) (rising f x s 0 at) (r .part)
+
+abbrev pub ClausesRead : List ℕ → ℕ → Part → Type 0
+ClausesRead s at r = (f : ℕ) → Enough s at f → Agrees (clauses f s at) r
+
 -- The allowed names of a rule as sets, and the offset where its clauses stand.
 pub record RuleTables (s : List ℕ) (r : Rule) (attributes contents at : ℕ) : Type 0 where
   pub allows : (a : ℕ) → member attributes a ≡ isIn a (r .attributes)
   pub holds : (c : ℕ) → member contents c ≡ isIn c (r .contents)
   pub stands : (f : ℕ) → Enough s at f → (end : ℕ) × (clauses f s at ≡ whole (r .clauses) end)
+
+-- What follows `01 e`, as tables.
+abbrev pub RuleReads : List ℕ → ℕ → RuleRead → Type 0
+RuleReads s at t = (e f : ℕ) → Enough s at f → AgreesAs (λ r end. RuleTables s r (t .attributes) (t .contents) (t .clauses)) (ruleBody f s e at) (t .part)
+
+pub record DescribesRules (s : List ℕ) (rs : List Rule) (t : Tables) : Type 0 where
+  pub declares : (e : ℕ) → member (t .declared) e ≡ declared rs e
+  pub rule : (e : ℕ) (r : Rule) → ruleOf rs e ≡ some r
+      → RuleTables s r (getD (t .attributes) e 0) (getD (t .contents) e 0) (getD (t .clauses) e 0)
+
+-- The tables with the rule of one element more.
+abbrev pub AddsRule : Tables → ℕ → RuleRead → Tables → Type 0
+AddsRule t e x r = (s : List ℕ) (rs : List Rule) (rule : Rule) → DescribesRules s rs t → declared rs e ≡ false → rule .element ≡ e
+    → RuleTables s rule (x .attributes) (x .contents) (x .clauses) → DescribesRules s (rs ++ (rule ∷ [])) r
 
 pub record Describes (s : List ℕ) (D : Vocabulary) (t : Tables) : Type 0 where
   pub declares : (e : ℕ) → member (t .declared) e ≡ declared (D .rules) e

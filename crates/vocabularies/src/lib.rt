@@ -1,14 +1,16 @@
 // The vocabulary of the panel: its rules, their clauses, and how they are read.
-ghost use Prim.Native.Nat.{_^_, _≤_, _<_};
+ghost use Prim.Native.Nat.{ℕ, _^_, _≤_, _<_};
 ghost use mathlib.Core.Path.{_≡_};
-ghost use mathlib.Core.List.{[]};
+ghost use mathlib.Core.List.{List, []};
+ghost use mathlib.Core.Logic.{_⊎_};
 ghost use Rattle.vocabularies.specs.Vocabulary.{order};
-ghost use Rattle.vocabularies.specs.Promises.{partOf, FormulaReads, Represents, TellsSame, TellsAmong, Adds, FactsWith, LeafAdds, Gathers};
+ghost use Rattle.vocabularies.specs.Promises.{partOf, FormulaReads, Represents, TellsSame, TellsAmong, Adds, FactsWith, LeafAdds, Gathers, NamesRead, ClausesRead, RuleReads, DescribesRules, AddsRule, VocabularyReads};
 use commands::Context;
 use commands::Decoded;
 use commands::Part;
 use commands::Position;
 use commands::byte_at;
+use commands::is_allowed;
 use commands::set_at;
 use verdicts::Form;
 
@@ -40,6 +42,20 @@ pub struct Facts {
 pub struct Gathered {
     pub facts: Facts,
     pub end: Position,
+}
+
+// The names of a rising list as a set, with the part that the list is.
+pub struct Names {
+    pub part: Part,
+    pub set: u64,
+}
+
+// A rule as tables: the allowed names as sets, the offset where its clauses stand, and the part that it is.
+pub struct RuleRead {
+    pub part: Part,
+    pub attributes: u64,
+    pub contents: u64,
+    pub clauses: usize,
 }
 
 const FORMULA_NESTING: usize = 16;
@@ -195,5 +211,170 @@ pub fn gather(s: &[u8], here: Position, facts: Facts) -> Gathered
             facts: with_leaf(s, here.at, code, facts),
             end: next,
         },
+    }
+}
+
+// A rising list of attributes or of contents.
+fn read_names(s: &[u8], here: Position, context: Context) -> Names
+    requires { ⌜ (context ≡ Context.Attributes) ⊎ (context ≡ Context.Contents) ⌝ }
+    ensures { λ r. ⌜ NamesRead (now (s .entry)) context (here .at) r ⌝ }
+{
+    let mut place = here;
+    let mut least: u8 = 0;
+    let mut set: u64 = 0;
+    loop {
+        let at = place.at;
+        if !is_allowed(context, byte_at(s, at)) {
+            return Names {
+                part: Part::Whole(place),
+                set,
+            };
+        }
+        let d = place.command(s, context);
+        let Decoded::Moved(_, next) = d else {
+            return Names {
+                part: part_of(d),
+                set,
+            };
+        };
+        let name = byte_at(s, at + 1);
+        if name < least {
+            return Names {
+                part: Part::Refused(Form::NotRising, at),
+                set,
+            };
+        }
+        set = sets::with(set, name);
+        least = name + 1;
+        place = next;
+    }
+}
+
+// The clauses of a rule: each is `04` and a formula of at most 8 facts.
+pub fn read_clauses(s: &[u8], here: Position) -> Part
+    ensures { λ r. ⌜ ClausesRead (now (s .entry)) (here .at) r ⌝ }
+{
+    let mut place = here;
+    loop {
+        let at = place.at;
+        if byte_at(s, at) != 0x04 {
+            return Part::Whole(place);
+        }
+        let start = Position { at: at + 1 };
+        let part = read_formula(s, start, 0);
+        let Part::Whole(next) = part else {
+            return part;
+        };
+        let facts = gather(s, start, no_facts()).facts;
+        if MOST_FACTS < facts.count {
+            return Part::Refused(Form::TooManyFacts, at);
+        }
+        place = next;
+    }
+}
+
+// What follows `01 e`.
+fn read_rule(s: &[u8], here: Position) -> RuleRead
+    ensures { λ r. ⌜ RuleReads (now (s .entry)) (here .at) r ⌝ }
+{
+    let allowed = read_names(s, here, Context::Attributes);
+    let attributes = allowed.set;
+    let part = allowed.part;
+    let Part::Whole(next) = part else {
+        return RuleRead {
+            part,
+            attributes,
+            contents: 0,
+            clauses: 0,
+        };
+    };
+    let held = read_names(s, next, Context::Contents);
+    let contents = held.set;
+    let part = held.part;
+    let Part::Whole(next) = part else {
+        return RuleRead {
+            part,
+            attributes,
+            contents,
+            clauses: 0,
+        };
+    };
+    RuleRead {
+        part: read_clauses(s, next),
+        attributes,
+        contents,
+        clauses: next.at,
+    }
+}
+
+fn no_tables() -> Tables
+    ensures { λ r. ⌜ ((s : List ℕ) → DescribesRules s [] r) ⌝ }
+{
+    Tables {
+        declared: 0,
+        attributes: [0u64; 64],
+        contents: [0u64; 64],
+        clauses: [0usize; 64],
+        root: 0,
+    }
+}
+
+// The tables with the rule of element `e`, which had none.
+fn with_rule(tables: Tables, e: u8, rule: RuleRead) -> Tables
+    requires { ⌜ e < 64 ⌝ }
+    ensures { λ r. ⌜ AddsRule tables e rule r ⌝ }
+{
+    let i = e as usize;
+    let mut more = tables;
+    more.declared = sets::with(tables.declared, e);
+    more.attributes[i] = rule.attributes;
+    more.contents[i] = rule.contents;
+    more.clauses[i] = rule.clauses;
+    more
+}
+
+// The vocabulary that bytes begin with.
+pub fn read_vocabulary(s: &[u8]) -> VocabularyRead
+    ensures { λ r. ⌜ VocabularyReads (now (s .entry)) r ⌝ }
+{
+    let mut place = Position { at: 0 };
+    let mut tables = no_tables();
+    loop {
+        let at = place.at;
+        let d = place.command(s, Context::Rules);
+        let Decoded::Moved(code, next) = d else {
+            return VocabularyRead {
+                part: part_of(d),
+                tables,
+            };
+        };
+        let e = byte_at(s, at + 1);
+        let known = sets::has(tables.declared, e);
+        if code == 0x05 {
+            if known {
+                tables.root = e;
+                return VocabularyRead {
+                    part: Part::Whole(next),
+                    tables,
+                };
+            }
+            return VocabularyRead {
+                part: Part::Refused(Form::Missing, at),
+                tables,
+            };
+        }
+        if known {
+            return VocabularyRead {
+                part: Part::Refused(Form::NotRising, at),
+                tables,
+            };
+        }
+        let rule = read_rule(s, next);
+        let part = rule.part;
+        let Part::Whole(end) = part else {
+            return VocabularyRead { part, tables };
+        };
+        tables = with_rule(tables, e, rule);
+        place = end;
     }
 }

@@ -5,8 +5,8 @@ use lib.ListN.{length}
 use borrow.Author.Needs.{needs}
 use borrow.Fn.Kinds.{In}
 use borrow.Fn.PlainCycle.{Measures, is, falls, and}
-use Rattle.vocabularies.proofs.Formulas.{command-falls}
-use Rattle.vocabularies.proofs.Gathering.{gathers-none, gathers-low, gathers-high, gathers-one, gathers-two, gathered-falls, low}
+use Rattle.vocabularies.proofs.Parts.{command-falls, command-low}
+use Rattle.vocabularies.proofs.Gathering.{gathers-none, gathers-low, gathers-high, gathers-one, gathers-two, gathered-falls}
 use Rattle.vocabularies.proofs.gather.Reads as reads
 use Rattle.vocabularies.proofs.gather.Kinds as kinds
 use Rattle.vocabularies.proofs.+gather.Lts-gather as lts
@@ -47,7 +47,7 @@ module _ (t : ℕ) where
   gather-requires-3 c κs = (search gathered-falls, tt)
 
   with-leaf-requires : lts.Need-with-leaf-requires (claims t) (given t) reads.Post
-  with-leaf-requires c κs = search low
+  with-leaf-requires c κs = search command-low
 
   returns-2 : lts.Need-returns-2 (claims t) (given t) reads.Post
   returns-2 c = search gathers-one

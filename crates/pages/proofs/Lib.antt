@@ -1,0 +1,4 @@
+pub mod Whole
+pub mod Laws
+mod Agreement
+mod TemplateAgreement

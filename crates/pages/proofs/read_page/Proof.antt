@@ -1,0 +1,15 @@
+-- The fuel of the definition is enough for a page.
+use native.Mathlib.Omega.{arith}
+use borrow.Author.Needs.{needs}
+use Rattle.commands.specs.Reading.{enough}
+use Rattle.pages.proofs.read_page.Statement.{statement}
+use Rattle.pages.proofs.read_page.Tie as tie
+
+read-items-requires : tie.Need-read-items-requires
+read-items-requires c κs = search needs
+
+returns : tie.Need-returns
+returns c = c .read-items .ensures (enough (c .before .before .args .s .now)) (omega arith)
+
+pub read-page-spec : {M : Type 1} → statement M
+read-page-spec = tie.close (tie.spec read-items-requires returns)

@@ -1,0 +1,82 @@
+-- Lowest numbers: of two sorts, over a range, and of the marks of elements.
+use Prim.Native.Nat.{ℕ, zero, suc, _≤_, _<_}
+use native.Mathlib.Omega.{arith}
+use mathlib.Core.Path.{_≡_, refl, sym, subst}
+use mathlib.Core.List.{List}
+use mathlib.Core.Bool.{Bool, true, false, cond, true≢false, false≢true}
+use mathlib.Core.Option.{Option, some, none}
+use mathlib.Core.Logic.{_↔_, _⊎_, inl, inr, ⊎-elim}
+use lib.Dec.{leb, eqb}
+use borrow.Author.Tests.{leb-true, leb-false, eqb-true, eqb-false}
+use Rattle.pages.specs.Items.{Attribute, Item, text, gap, element, Items, more}
+use Rattle.pages.specs.Items as Items
+use Rattle.pages.specs.RightPages.{SomeElement, SomeElementOf}
+use Rattle.patterns.specs.Shows.{Least, nowhere, least, lower, only-if, lowestOver, lowestMark, lowestMarkIn}
+use Rattle.patterns.proofs.Tests.{either}
+
+pub least-iff : {P Q : ℕ → Type 0} {o : Option ℕ} → ((n : ℕ) → P n ↔ Q n) → Least P o → Least Q o
+least-iff h (nowhere k) = nowhere (λ n q. k n (h n .1 q))
+least-iff h (least {n = n} p k) = least {n = n} (h n .0 p) (λ m q. k m (h m .1 q))
+
+pub least-of : {P : ℕ → Type 0} {n : ℕ} → Least P (some n) → P n
+least-of (least p k) = p
+
+pub least-below : {P : ℕ → Type 0} {n : ℕ} → Least P (some n) → (m : ℕ) → P m → n ≤ m
+least-below (least p k) = k
+
+pub none-of : {P : ℕ → Type 0} → Least P none → (n : ℕ) → P n → ⊥
+none-of (nowhere k) = k
+
+pub least-none : {P : ℕ → Type 0} {o : Option ℕ} → Least P o → ((n : ℕ) → P n → ⊥) → o ≡ none
+least-none (nowhere k) h = refl
+least-none (least {n = n} p k) h = absurd (h n p)
+
+-- One number under a test.
+pub least-test : (b : Bool) (n : ℕ) → Least (λ m. (n ≡ m) × (b ≡ true)) (only-if b n)
+least-test true n = least {n = n} (refl, refl) (λ m h. let e = h .0 in omega arith)
+least-test false n = nowhere (λ m h. false≢true (h .1))
+
+-- The lower of two.
+pub least-lower : {P Q : ℕ → Type 0} {a b : Option ℕ} → Least P a → Least Q b → Least (λ n. P n ⊎ Q n) (lower a b)
+least-lower (nowhere h) (nowhere k) = nowhere (λ n. ⊎-elim (h n) (k n))
+least-lower (nowhere h) (least {n = n} q k) = least {n = n} (inr q) (λ m. ⊎-elim (λ p. absurd (h m p)) (k m))
+least-lower (least {n = n} p h) (nowhere k) = least {n = n} (inl p) (λ m. ⊎-elim (h m) (λ q. absurd (k m q)))
+least-lower {P} {Q} (least {n = n} p h) (least {n = m} q k) = go (leb n m) refl
+  where
+    go : (b : Bool) → leb n m ≡ b → Least (λ i. P i ⊎ Q i) (some (cond b n m))
+    go true e = least {n = n} (inl p)
+        (λ i. ⊎-elim (h i) (λ r. let below = k i r in let le = leb-true n m e in omega arith))
+    go false e = least {n = m} (inr q)
+        (λ i. ⊎-elim (λ r. let below = h i r in let lt = leb-false n m e in omega arith) (k i))
+
+-- The lowest over a range.
+pub least-over : (N : ℕ) (P : ℕ → ℕ → Type 0) (f : ℕ → Option ℕ) → ((i : ℕ) → i < N → Least (P i) (f i))
+    → Least (λ a. (i : ℕ) × (i < N) × P i a) (lowestOver N f)
+unfolding lowestOver
+least-over zero P f each = nowhere (λ n h. let lt = h .1 in omega arith)
+least-over (suc N) P f each =
+    least-iff (λ a. (
+      ⊎-elim (λ h. (h .0, let lt = h .1 in omega arith, h .2)) (λ h. (N, omega arith, h)),
+      λ h. last a h,
+    ))
+    (least-lower (least-over N P f (λ i h. each i (omega arith))) (each N (omega arith)))
+  where
+    last : (a : ℕ) → (i : ℕ) × (i < suc N) × P i a → ((i : ℕ) × (i < N) × P i a) ⊎ P N a
+    last a (i, h, p) = ⊎-elim
+        (λ e. inr (subst (λ (j : ℕ). P j a) (eqb-true i N e) p))
+        (λ e. let ne : i ≡ N → ⊥ = eqb-false i N e in inl (i, omega arith, p))
+        (either (eqb i N))
+
+-- The lowest mark.
+module _ (p : ℕ → ℕ → List Attribute → Items → Bool) where
+  mutual
+    unfolding lowestMark SomeElement
+
+    pub least-mark : (φ : Items) → Least (λ at. SomeElement (λ e mark δ χ. (mark ≡ at) × (p e mark δ χ ≡ true)) φ) (lowestMark p φ)
+    least-mark Items.none = nowhere (λ n h. h)
+    least-mark (more i φ) = least-lower (least-mark-in i) (least-mark φ)
+
+    least-mark-in : (i : Item) → Least (λ at. SomeElementOf (λ e mark δ χ. (mark ≡ at) × (p e mark δ χ ≡ true)) i) (lowestMarkIn p i)
+    least-mark-in text = nowhere (λ n h. h)
+    least-mark-in (gap g) = nowhere (λ n h. h)
+    least-mark-in (element e mark δ φ) = least-lower (least-test (p e mark δ φ) mark) (least-mark φ)

@@ -1,0 +1,116 @@
+-- Verdict 11 is decided by kinds: some page of a root template is not exactly the root element if and only if the template's set has
+-- the kind "empty" or the kind "other".
+use Prim.Native.Nat.{ℕ, zero, suc, _≤_, _<_}
+use native.Mathlib.Omega.{arith}
+use mathlib.Core.Path.{_≡_, refl, sym, ap, subst, _∙_}
+use mathlib.Core.List.{List, [], _∷_}
+use mathlib.Core.Bool.{Bool, true, false, cond, _&&_, _||_, true≢false, false≢true}
+use mathlib.Core.Logic.{_↔_, _⊎_, inl, inr, ⊎-elim}
+use lib.Dec.{eqb}
+use borrow.Author.Tests.{eqb-true, eqb-false, ne-eqb}
+use Rattle.vocabularies.specs.Vocabulary.{Vocabulary}
+use Rattle.pages.specs.Items.{Item, text, gap, element, Items, none, more, gapIn, gapInItem}
+use Rattle.pages.specs.RightPages.{word, wordItem, RootAlone}
+use Rattle.judging.specs.Judgement.{isAlone}
+use Rattle.summaries.specs.Proposal.{root}
+use Rattle.summaries.specs.Summaries.{Summary}
+use Rattle.summaries.specs.Languages.{DerivedFrom}
+use Rattle.agreement.proofs.Deciding.{false-iff}
+use Rattle.agreement.proofs.Gaps.{Gapless}
+use Rattle.agreement.proofs.Roots.{decided-alone}
+use Rattle.patterns.specs.Readings.{rootReading, kindOf, empty, alone, other}
+use Rattle.patterns.specs.Given.{Bounded}
+use Rattle.patterns.specs.Rounds.{Sets}
+use Rattle.patterns.specs.Exactness.{Exact}
+use Rattle.patterns.specs.Shows.{notRoot}
+use Rattle.patterns.proofs.Tests.{or-left, or-right, or-cases, and-both, and-left, and-right, either, eqb-same}
+use Rattle.patterns.proofs.Lawful.{Lawful, root-lawful}
+use Rattle.patterns.proofs.Closed.{derived-gapless}
+
+-- A gap is a gap.
+gap-found : (g : ℕ) (φ : Items) → gapIn (more (gap g) φ) g ≡ true
+unfolding gapIn
+gap-found g φ = or-left (eqb g g) (gapIn φ g) (eqb-same g)
+
+rest-gapless : (i : Item) (φ : Items) → Gapless (more i φ) → Gapless φ
+unfolding gapIn
+rest-gapless i φ h g = second (gapInItem i g) (gapIn φ g) (h g)
+  where
+    second : (a b : Bool) → (a || b) ≡ false → b ≡ false
+    second true b e = absurd (true≢false e)
+    second false b e = e
+
+-- Two items that are no gaps are two contents, which is another kind.
+two-contents : (top c : ℕ) (j : Item) (φ : Items) → Gapless (more j φ) → kindOf top (c ∷ word (more j φ)) ≡ other
+unfolding word wordItem kindOf
+two-contents top c text φ h = refl
+two-contents top c (gap g) φ h = absurd (true≢false (sym (gap-found g φ) ∙ h g))
+two-contents top c (element e mark δ χ) φ h = refl
+
+one-content : (top c : ℕ) → eqb (kindOf top (c ∷ [])) alone ≡ eqb c top
+unfolding kindOf
+one-content top c = go (eqb c top)
+  where
+    go : (b : Bool) → eqb (cond b alone other) alone ≡ b
+    go true = refl
+    go false = refl
+
+and-no : (b : Bool) → (b && false) ≡ false
+and-no true = refl
+and-no false = refl
+
+and-yes : (b : Bool) → (b && true) ≡ b
+and-yes true = refl
+and-yes false = refl
+
+-- Of a page without gaps the kind tells whether it is exactly the root element.
+pub kind-alone : (top : ℕ) → (top ≡ 0 → ⊥) → (φ : Items) → Gapless φ → isAlone top φ ≡ eqb (kindOf top (word φ)) alone
+unfolding word wordItem kindOf
+kind-alone top pos none h = refl
+kind-alone top pos (more text none) h = sym (one-content top 0 ∙ ne-eqb 0 top (λ e. pos (sym e)))
+kind-alone top pos (more text (more j φ)) h =
+    ap (λ (k : ℕ). eqb k alone) (sym (two-contents top 0 j φ (rest-gapless text (more j φ) h)))
+kind-alone top pos (more (gap g) φ) h = absurd (true≢false (sym (gap-found g φ) ∙ h g))
+kind-alone top pos (more (element e mark δ χ) none) h = and-yes (eqb e top) ∙ sym (one-content top e)
+kind-alone top pos (more (element e mark δ χ) (more j φ)) h =
+    and-no (eqb e top) ∙ ap (λ (k : ℕ). eqb k alone) (sym (two-contents top e j φ (rest-gapless (element e mark δ χ) (more j φ) h)))
+
+not-alone : (k : ℕ) → k < 3 → eqb k alone ≡ false → (k ≡ empty) ⊎ (k ≡ other)
+not-alone zero h e = inl refl
+not-alone (suc zero) h e = absurd (true≢false e)
+not-alone (suc (suc zero)) h e = inr refl
+not-alone (suc (suc (suc k))) h e = absurd (omega arith)
+
+module _ (φs : List Items) (G : Summary) (bounded : Bounded φs G) (D : Vocabulary) (pos : D .root ≡ 0 → ⊥)
+    (K : Sets) (exact : Exact φs G (rootReading (D .root)) K) where
+  -- A page of a root that is not exactly the root element.
+  abbrev pub OtherPage : ℕ → Type 0
+  OtherPage r = (page : Items) × DerivedFrom φs G r page × (RootAlone D page → ⊥)
+
+  other-kind : (r k : ℕ) → eqb k alone ≡ false → G (root r) ≡ true → K r k ≡ true → OtherPage r
+  other-kind r k ne g e =
+      let (page, d, p) = exact r k (bounded .roots r g) .0 e in (
+        page,
+        (g, d),
+        false-iff (decided-alone D page) .0
+            (kind-alone (D .root) pos page (derived-gapless φs G d) ∙ ap (λ (x : ℕ). eqb x alone) p ∙ ne),
+      )
+
+  pub not-root-exact : (r : ℕ) → notRoot G K r ≡ true ↔ OtherPage r
+  not-root-exact r = (to, back)
+    where
+      to : notRoot G K r ≡ true → OtherPage r
+      to e = ⊎-elim
+          (other-kind r empty refl (and-left (G (root r)) (K r empty || K r other) e))
+          (other-kind r other refl (and-left (G (root r)) (K r empty || K r other) e))
+          (or-cases (K r empty) (K r other) (and-right (G (root r)) (K r empty || K r other) e))
+
+      back : OtherPage r → notRoot G K r ≡ true
+      back (page, (g, d), n) =
+          let kind : ℕ = kindOf (D .root) (word page) in
+          let held : K r kind ≡ true = exact r kind (bounded .roots r g) .1 (page, d, refl) in
+          and-both g (⊎-elim
+          (λ (q : kind ≡ empty). or-left (K r empty) (K r other) (subst (λ (k : ℕ). K r k ≡ true) q held))
+          (λ (q : kind ≡ other). or-right (K r empty) (K r other) (subst (λ (k : ℕ). K r k ≡ true) q held))
+          (not-alone kind (root-lawful (D .root) .below (word page))
+          (sym (kind-alone (D .root) pos page (derived-gapless φs G d)) ∙ false-iff (decided-alone D page) .1 n)))

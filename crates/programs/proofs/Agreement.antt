@@ -1,0 +1,56 @@
+-- Code that agrees with a reading: what follows of the reading, and of readings made from it.
+use Prim.Native.Nat.{ℕ}
+use mathlib.Core.Path.{_≡_, refl, sym, subst}
+use mathlib.Core.List.{List}
+use native.Mathlib.Omega.{arith}
+use Rattle.verdicts.specs.declared.Form.{Form}
+use Rattle.commands.specs.declared.Position.{Position}
+use Rattle.commands.specs.declared.Part.{Part}
+use Rattle.commands.specs.declared.Part.the-variants.{Whole, Refused}
+use Rattle.commands.specs.Reading.{Read, whole, refused, unfinished, andThen, enough}
+use Rattle.commands.specs.Parts.{AgreesAs, Enough}
+
+-- Code that agrees with a reading agrees with what the reading is made into.
+pub agrees-map : {A B : Type 0} (P : A → ℕ → Type 0) (Q : B → ℕ → Type 0) (g : A → B) (r : Read A) (p : Part)
+    → ((a : A) (end : ℕ) → P a end → Q (g a) end) → AgreesAs P r p → AgreesAs Q (andThen r λ a end. whole (g a) end) p
+agrees-map P Q g (whole a end) (Whole p) h w = (w .0, h a end (w .1))
+agrees-map P Q g (whole a end) (Refused f n) h w = w
+agrees-map P Q g (refused f n) (Whole p) h w = w
+agrees-map P Q g (refused f n) (Refused f′ n′) h w = w
+agrees-map P Q g unfinished p h w = w
+
+module _ {A : Type 0} (P : A → ℕ → Type 0) where
+  -- Where the code's part is whole, so is the reading.
+  pub record WholeAs (r : Read A) (p : Position) : Type 0 where
+    pub tree : A
+    pub end : ℕ
+    pub reads : r ≡ whole tree end
+    pub ends : p .at ≡ end
+    pub holds : P tree end
+
+  by-whole : (r : Read A) (p : Position) → AgreesAs P r (Whole p) → WholeAs r p
+  by-whole (whole a end) p w = record { tree = a; end = end; reads = refl; ends = w .0; holds = w .1 }
+  by-whole (refused f n) p w = absurd w
+  by-whole unfinished p w = absurd w
+
+  pub agrees-whole : (r : Read A) (part : Part) (p : Position) → part ≡ Whole p → AgreesAs P r part → WholeAs r p
+  agrees-whole r part p e w = by-whole r p (subst (AgreesAs P r) e w)
+
+  -- Where it is refused, whatever is read next is refused alike.
+  by-refused : {B : Type 0} (Q : B → ℕ → Type 0) (r : Read A) (k : A → ℕ → Read B) (f : Form) (n : ℕ) → AgreesAs P r (Refused f n) → AgreesAs Q (andThen r k) (Refused f n)
+  by-refused Q (whole a end) k f n w = absurd w
+  by-refused Q (refused f′ n′) k f n w = w
+  by-refused Q unfinished k f n w = absurd w
+
+  pub agrees-refused : {B : Type 0} (Q : B → ℕ → Type 0) (r : Read A) (k : A → ℕ → Read B) (part : Part) (f : Form) (n : ℕ)
+      → part ≡ Refused f n → AgreesAs P r part → AgreesAs Q (andThen r k) part
+  agrees-refused Q r k part f n e w = subst (AgreesAs Q (andThen r k)) (sym e) (by-refused Q r k f n (subst (AgreesAs P r) e w))
+
+  pub whole-agrees : (r : Read A) (part : Part) (p : Position) (a : A) (end : ℕ) → r ≡ whole a end → part ≡ Whole p → p .at ≡ end → P a end → AgreesAs P r part
+  whole-agrees r part p a end e e′ h w = rw (e, e′) (h, w)
+
+  pub refused-agrees : (r : Read A) (part : Part) (f : Form) (n : ℕ) → r ≡ refused f n → part ≡ Refused f n → AgreesAs P r part
+  refused-agrees r part f n e e′ = rw (e, e′) (refl, refl)
+
+pub enough-enough : (s : List ℕ) (at : ℕ) → Enough s at (enough s)
+enough-enough s at = omega arith

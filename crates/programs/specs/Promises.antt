@@ -1,0 +1,114 @@
+-- What the code that reads programs promises, in terms of the definitions that read them.
+use Prim.Native.Nat.{ℕ, _+_, _≤_, _<_}
+use mathlib.Core.Path.{_≡_}
+use mathlib.Core.List.{List, map}
+use mathlib.Core.Bool.{Bool, true, false, cond, _&&_, _||_}
+use mathlib.Core.Option.{Option, some, none}
+use lib.ListN.{length, getD}
+use lib.Seq.{slice}
+use lib.Dec.{eqb, ltb}
+use Rattle.verdicts.specs.declared.Form.the-variants.{TooMany, Missing}
+use Rattle.sets.specs.Sets.{member}
+use Rattle.commands.specs.declared.Decoded.{Decoded}
+use Rattle.commands.specs.declared.Decoded.the-variants as Decodeds
+use Rattle.commands.specs.declared.Part.{Part}
+use Rattle.commands.specs.declared.Part.the-variants.{Whole, Refused}
+use Rattle.commands.specs.Commands.{byte, operandsOf, operandBytes, allInRange, command}
+use Rattle.commands.specs.Parts.{AgreesAs, Enough}
+use Rattle.programs.specs.declared.ProgramRead.{ProgramRead}
+use Rattle.programs.specs.declared.Stray.{Stray}
+use Rattle.programs.specs.declared.Stray.the-variants.{At, Nowhere}
+use Rattle.programs.specs.Program.{Statement, Variable, templates, strings, statementAt, named}
+use Rattle.programs.specs.ProgramReading.{Placed, statementOf, statementRead, templatesThere, mostPoints, statementContext, pointsThere, statements, program}
+
+-- A variable's number in a set, and which variables there are.
+abbrev pub numberOf : Variable → ℕ
+numberOf (templates x) = x
+numberOf (strings y) = 4 + y
+
+abbrev pub IsVariable : Variable → Type 0
+IsVariable (templates x) = x < 4
+IsVariable (strings y) = y < 4
+
+-- The set has just the variables that are named.
+pub record Names (names : Variable → Bool) (set : ℕ) : Type 0 where
+  pub holds : (v : Variable) → IsVariable v → member set (numberOf v) ≡ names v
+
+-- What is known of the bytes where a statement stands, of a job with `count` templates.
+pub record Stands (s : List ℕ) (count at : ℕ) : Type 0 where
+  pub inside : at + operandBytes (byte s at) < length s
+  pub ranges : allInRange (operandsOf (byte s at)) s (at + 1) ≡ true
+  pub template-there : templatesThere count (statementRead s at (byte s at)) ≡ true
+
+-- What is kept of a program: where the statement of each point stands, and which variables some statement names.
+pub record Tabled (s : List ℕ) (count : ℕ) (r : ProgramRead) (ts : List Statement) : Type 0 where
+  pub points : r .count ≡ length ts
+  pub most : r .count ≤ mostPoints
+  pub statement : (i : ℕ) → i < r .count → statementRead s (getD (r .places) i 0) (byte s (getD (r .places) i 0)) ≡ statementAt ts i
+  pub stands : (i : ℕ) → i < r .count → Stands s count (getD (r .places) i 0)
+  pub points-there : (i : ℕ) → i < r .count → pointsThere (r .count) (statementAt ts i) ≡ true
+  pub names : Names (named ts) (r .named)
+
+-- At every fuel that is enough.
+abbrev pub ProgramReads : List ℕ → ℕ → ℕ → ProgramRead → Type 0
+ProgramReads s count at r = (f : ℕ) → Enough s at f → AgreesAs (λ ts end. Tabled s count r ts) (program f count s at) (r .part)
+
+-- The steps on the way. A command alone as a part:
+abbrev pub partOf : Decoded → Part
+partOf (Decodeds.Moved code next) = Whole next
+partOf (Decodeds.Refused form at) = Refused form at
+
+-- The command of a statement with what is tested on it alone, in document 01's order: 8 before 6.
+abbrev pub testedHere : ℕ → List ℕ → ℕ → ℕ → Decoded → Decoded
+testedHere count s before at (Decodeds.Moved code next) =
+    cond (eqb code 0x3F)
+    (Decodeds.Moved code next)
+    (cond (templatesThere count (statementRead s at code))
+    (cond (ltb before mostPoints) (Decodeds.Moved code next) (Decodeds.Refused TooMany at))
+    (Decodeds.Refused Missing at))
+testedHere count s before at (Decodeds.Refused form n) = Decodeds.Refused form n
+
+abbrev pub statementHere : ℕ → List ℕ → ℕ → ℕ → Decoded
+statementHere count s before at = testedHere count s before at (command (statementContext before) s at)
+
+abbrev pub isTemplate : ℕ → Variable → Bool
+isTemplate x (templates k) = eqb k x
+isTemplate x (strings k) = false
+
+abbrev pub isString : ℕ → Variable → Bool
+isString y (templates k) = false
+isString y (strings k) = eqb k y
+
+-- The second set has what the first has, and the variable that is meant.
+pub record Adds (is : Variable → Bool) (set r : ℕ) : Type 0 where
+  pub holds : (v : Variable) → IsVariable v → member r (numberOf v) ≡ (is v || member set (numberOf v))
+
+-- The statement that stands at an offset.
+abbrev pub placedAt : List ℕ → ℕ → Placed
+placedAt s at = record { at = at; statement = statementRead s at (byte s at) }
+
+abbrev pub placed : List ℕ → List ℕ → List Placed
+placed s places = map (placedAt s) places
+
+abbrev pub strayOf : Stray → Option ℕ
+strayOf (At at) = some at
+strayOf Nowhere = none
+
+-- Where the first of the next points stands among the operands of a command, before the second; 0: there is none.
+pub record PointsAt (code first : ℕ) : Type 0 where
+  pub low : first ≤ 5
+  pub tells : (o : ℕ → ℕ) (points : ℕ)
+      → pointsThere points (statementOf code o) ≡ cond (eqb first 0) true (ltb (o first) points && ltb (o (first + 1)) points)
+
+-- The statements from point `before` on stand at the places that are kept; `now` are the variables that were named before.
+pub record Kept (s : List ℕ) (count before now : ℕ) (r : ProgramRead) (ts : List Placed) : Type 0 where
+  pub least : before ≤ r .count
+  pub most : r .count ≤ mostPoints
+  pub wide : length (r .places) ≡ mostPoints
+  pub are : ts ≡ placed s (slice before (r .count) (r .places))
+  pub stands : (i : ℕ) → before ≤ i → i < r .count → Stands s count (getD (r .places) i 0)
+  pub names : Names (λ v. member now (numberOf v) || named (map (λ t. t .statement) ts) v) (r .named)
+
+abbrev pub StatementsRead : List ℕ → ℕ → ℕ → ℕ → ℕ → ProgramRead → Type 0
+StatementsRead s count before now at r =
+    (f : ℕ) → Enough s at f → AgreesAs (λ ts end. Kept s count before now r ts) (statements f count s before at) (r .part)

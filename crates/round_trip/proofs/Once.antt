@@ -1,0 +1,33 @@
+-- What stands in a list once is new each time that it is read: not among what was read before it.
+use Prim.Native.Nat.{ℕ}
+use mathlib.Core.Path.{_≡_, refl, sym}
+use mathlib.Core.List.{List, [], _∷_}
+use mathlib.Core.Bool.{Bool, true, false, _||_}
+use lib.Dec.{eqb}
+use borrow.Author.Tests.{eqb-false, ne-eqb}
+use Rattle.vocabularies.specs.Vocabulary.{isIn}
+
+-- None of the numbers passes the test.
+abbrev pub NoneOf : (ℕ → Bool) → List ℕ → Type 0
+NoneOf p [] = Unit {0}
+NoneOf p (n ∷ ns) = (p n ≡ false) × NoneOf p ns
+
+pub none-of-none : (ns : List ℕ) → NoneOf (λ _. false) ns
+none-of-none [] = tt
+none-of-none (n ∷ ns) = (refl, none-of-none ns)
+
+pub either-false : (a b : Bool) → (a || b) ≡ false → (a ≡ false) × (b ≡ false)
+either-false true b e = (e, cc)
+either-false false b e = (refl, e)
+
+-- A test that n passes besides: none of the numbers passes it, if n is not among them.
+pub none-after : (p p′ : ℕ → Bool) (n : ℕ) → ((m : ℕ) → p m ≡ false → eqb n m ≡ false → p′ m ≡ false)
+    → (ns : List ℕ) → isIn n ns ≡ false → NoneOf p ns → NoneOf p′ ns
+unfolding isIn
+none-after p p′ n h [] i c = tt
+none-after p p′ n h (m ∷ ms) i c =
+    let both = either-false (eqb n m) (isIn n ms) i in
+    (h m (c .0) (both .0), none-after p p′ n h ms (both .1) (c .1))
+
+pub eqb-turned : (n m : ℕ) → eqb n m ≡ false → eqb m n ≡ false
+eqb-turned n m e = ne-eqb m n (λ q. eqb-false n m e (sym q))

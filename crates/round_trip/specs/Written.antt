@@ -1,0 +1,196 @@
+-- Vocabularies and pages written out as bytes (document 01, "A job, command by command", "Judge a page"), and which of them have all
+-- their parts in range. The numbers here are the document's own, not those of the definitions that read. The laws of proofs/ say that
+-- what is in range is read back as itself; a definition of reading that refused or altered any part of it would break them.
+use Prim.Native.Nat.{ℕ, zero, suc, _+_, _/_, _%_, _^_, _≤_, _<_, max}
+use mathlib.Core.Path.{_≡_}
+use mathlib.Core.List.{List, [], _∷_, _++_, map}
+use mathlib.Core.Bool.{Bool, true, false, cond}
+use lib.ListN.{length}
+use lib.Dec.{ltb}
+use Rattle.vocabularies.specs.Vocabulary.{Formula, conj, disj, neg, truth, attr, content, order, value, Rule, Vocabulary, isIn, declared}
+use Rattle.vocabularies.specs.Facts.{factsOf}
+use Rattle.pages.specs.Items.{Value, string, open-gap, Attribute, Item, text, gap, element, Items, none, more}
+
+-- The n bytes of a number below 256 ^ n, highest first.
+unfoldable pub highest-first : ℕ → ℕ → List ℕ
+highest-first zero m = []
+highest-first (suc n) m = m / 256 ^ n ∷ highest-first n (m % 256 ^ n)
+
+-- A formula in prefix order.
+unfoldable pub written-formula : Formula → List ℕ
+unfolding highest-first
+written-formula (conj ψ₁ ψ₂) = 0x10 ∷ written-formula ψ₁ ++ written-formula ψ₂
+written-formula (disj ψ₁ ψ₂) = 0x11 ∷ written-formula ψ₁ ++ written-formula ψ₂
+written-formula (neg ψ) = 0x12 ∷ written-formula ψ
+written-formula truth = 0x13 ∷ []
+written-formula (attr a) = 0x14 ∷ a ∷ []
+written-formula (content c) = 0x15 ∷ c ∷ []
+written-formula (order c d) = 0x16 ∷ c ∷ d ∷ []
+written-formula (value a m) = 0x17 ∷ a ∷ highest-first 8 m
+
+-- Each number of a list behind its own command.
+unfoldable pub written-numbers : ℕ → List ℕ → List ℕ
+written-numbers c [] = []
+written-numbers c (n ∷ ns) = c ∷ n ∷ written-numbers c ns
+
+-- `04` and a formula for each.
+unfoldable pub written-clauses : List Formula → List ℕ
+unfolding written-formula
+written-clauses [] = []
+written-clauses (ψ ∷ ψs) = 0x04 ∷ written-formula ψ ++ written-clauses ψs
+
+unfoldable pub written-rule : Rule → List ℕ
+unfolding written-numbers written-clauses
+written-rule r = 0x01 ∷ r .element ∷ written-numbers 0x02 (r .attributes) ++ written-numbers 0x03 (r .contents) ++ written-clauses (r .clauses)
+
+unfoldable pub written-rules : List Rule → List ℕ
+unfolding written-rule
+written-rules [] = []
+written-rules (r ∷ rs) = written-rule r ++ written-rules rs
+
+-- The rules in their order, then the root.
+unfoldable pub written-vocabulary : Vocabulary → List ℕ
+unfolding written-rules
+written-vocabulary D = written-rules (D .rules) ++ 0x05 ∷ D .root ∷ []
+
+-- Numbers from `least` to `most`, rising strictly.
+unfoldable pub Rising : ℕ → ℕ → List ℕ → Type 0
+Rising least most [] = Unit {0}
+Rising least most (n ∷ ns) = (least ≤ n) × (n ≤ most) × Rising (n + 1) most ns
+
+-- No number stands in the list twice.
+unfoldable pub Distinct : List ℕ → Type 0
+unfolding isIn
+Distinct [] = Unit {0}
+Distinct (n ∷ ns) = (isIn n ns ≡ false) × Distinct ns
+
+abbrev pub IsElement : ℕ → Type 0
+IsElement e = (1 ≤ e) × (e ≤ 63)
+
+-- How many of `10` to `12` stand above one another.
+unfoldable pub connective-depth : Formula → ℕ
+connective-depth (conj ψ₁ ψ₂) = suc (max (connective-depth ψ₁) (connective-depth ψ₂))
+connective-depth (disj ψ₁ ψ₂) = suc (max (connective-depth ψ₁) (connective-depth ψ₂))
+connective-depth (neg ψ) = suc (connective-depth ψ)
+connective-depth truth = 0
+connective-depth (attr a) = 0
+connective-depth (content c) = 0
+connective-depth (order c d) = 0
+connective-depth (value a m) = 0
+
+unfoldable pub NamesInRange : Formula → Type 0
+NamesInRange (conj ψ₁ ψ₂) = NamesInRange ψ₁ × NamesInRange ψ₂
+NamesInRange (disj ψ₁ ψ₂) = NamesInRange ψ₁ × NamesInRange ψ₂
+NamesInRange (neg ψ) = NamesInRange ψ
+NamesInRange truth = Unit {0}
+NamesInRange (attr a) = a ≤ 31
+NamesInRange (content c) = c ≤ 63
+NamesInRange (order c d) = (c ≤ 63) × (d ≤ 63)
+NamesInRange (value a m) = (a ≤ 31) × (0 < m) × (m < 2 ^ 64)
+
+pub record ClauseInRange (ψ : Formula) : Type 0 where
+  pub names : NamesInRange ψ
+  pub nesting : connective-depth ψ ≤ 16
+  pub facts : length (factsOf ψ) ≤ 8
+
+unfoldable pub ClausesInRange : List Formula → Type 0
+ClausesInRange [] = Unit {0}
+ClausesInRange (ψ ∷ ψs) = ClauseInRange ψ × ClausesInRange ψs
+
+pub record RuleInRange (r : Rule) : Type 0 where
+  pub element : IsElement (r .element)
+  pub attributes : Rising 0 31 (r .attributes)
+  pub contents : Rising 0 63 (r .contents)
+  pub clauses : ClausesInRange (r .clauses)
+
+unfoldable pub RulesInRange : List Rule → Type 0
+RulesInRange [] = Unit {0}
+RulesInRange (r ∷ rs) = RuleInRange r × RulesInRange rs
+
+-- No rule is given twice, and the root has one.
+pub record VocabularyInRange (D : Vocabulary) : Type 0 where
+  pub rules : RulesInRange (D .rules)
+  pub once : Distinct (map (λ r. r .element) (D .rules))
+  pub root : declared (D .rules) (D .root) ≡ true
+
+-- `24 a s`, or `28 a` for a string outside 0 to 63; an attribute gap, `25 a h`, stands in templates alone.
+abbrev pub written-value : ℕ → Value → List ℕ
+written-value a (string s) = cond (ltb s 64) (0x24 ∷ a ∷ s ∷ []) (0x28 ∷ a ∷ [])
+written-value a (open-gap h) = 0x25 ∷ a ∷ h ∷ []
+
+unfoldable pub written-attributes : List Attribute → List ℕ
+written-attributes [] = []
+written-attributes (a ∷ δ) = written-value (a .name) (a .value) ++ written-attributes δ
+
+-- `21`, `22 g` (in templates alone), and `23 e` with its attributes and items, up to `26`.
+unfoldable mutual
+  unfolding written-attributes
+
+  pub written-items : Items → List ℕ
+  written-items none = []
+  written-items (more i φ) = written-item i ++ written-items φ
+
+  pub written-item : Item → List ℕ
+  written-item text = 0x21 ∷ []
+  written-item (gap g) = 0x22 ∷ g ∷ []
+  written-item (element e mark δ φ) = 0x23 ∷ e ∷ written-attributes δ ++ written-items φ ++ 0x26 ∷ []
+
+unfoldable pub written-page : Items → List ℕ
+unfolding written-items
+written-page φ = written-items φ ++ 0x27 ∷ []
+
+-- Items that are written from an offset on, with each element's mark where its `23` stands.
+unfoldable mutual
+  unfolding written-items
+
+  pub marked : ℕ → Items → Items
+  marked at none = none
+  marked at (more i φ) = more (marked-item at i) (marked (at + length (written-item i)) φ)
+
+  pub marked-item : ℕ → Item → Item
+  marked-item at text = text
+  marked-item at (gap g) = gap g
+  marked-item at (element e mark δ φ) = element e at δ (marked (at + 2 + length (written-attributes δ)) φ)
+
+-- A named string, or 64, which stands for all others; no attribute gap.
+abbrev pub ValueInRange : Value → Type 0
+ValueInRange (string s) = s ≤ 64
+ValueInRange (open-gap h) = ⊥
+
+unfoldable pub AttributesInRange : List Attribute → Type 0
+AttributesInRange [] = Unit {0}
+AttributesInRange (a ∷ δ) = (a .name ≤ 31) × ValueInRange (a .value) × AttributesInRange δ
+
+-- How many elements stand above one another.
+unfoldable mutual
+  pub element-depth : Items → ℕ
+  element-depth none = 0
+  element-depth (more i φ) = max (element-depth-of i) (element-depth φ)
+
+  pub element-depth-of : Item → ℕ
+  element-depth-of text = 0
+  element-depth-of (gap g) = 0
+  element-depth-of (element e mark δ φ) = suc (element-depth φ)
+
+-- No gap; each element in range and among those that have a rule, none of its attributes twice.
+unfoldable mutual
+  unfolding AttributesInRange Distinct
+
+  pub ItemsInRange : (ℕ → Bool) → Items → Type 0
+  ItemsInRange ruled none = Unit {0}
+  ItemsInRange ruled (more i φ) = ItemInRange ruled i × ItemsInRange ruled φ
+
+  pub ItemInRange : (ℕ → Bool) → Item → Type 0
+  ItemInRange ruled text = Unit {0}
+  ItemInRange ruled (gap g) = ⊥
+  ItemInRange ruled (element e mark δ φ) =
+      IsElement e × (ruled e ≡ true) × AttributesInRange δ × Distinct (map (λ a. a .name) δ) × ItemsInRange ruled φ
+
+pub record PageInRange (D : Vocabulary) (φ : Items) : Type 0 where
+  pub items : ItemsInRange (declared (D .rules)) φ
+  pub nesting : element-depth φ ≤ 1024
+
+-- Each number is a byte.
+unfoldable pub Bytes : List ℕ → Type 0
+Bytes [] = Unit {0}
+Bytes (b ∷ w) = (b < 256) × Bytes w

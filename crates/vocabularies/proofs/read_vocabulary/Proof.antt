@@ -1,0 +1,101 @@
+-- Each rule is put into the tables; what is read from the next one on is read from the start.
+use borrow.Author.Needs.{needs}
+use Prim.Native.Nat.{_-_}
+use lib.ListN.{length}
+use Rattle.vocabularies.proofs.Parts.{command-fits}
+use Rattle.vocabularies.proofs.Vocabularies.{RulesContinue, rules-start, rules-refused, element-fits, rules-root, rules-missing, rules-twice, rules-broken, rules-more, rules-fall}
+use Rattle.vocabularies.proofs.read_vocabulary.Statement.{statement}
+use Rattle.vocabularies.proofs.read_vocabulary.Tie as tie
+
+abbrev Inv-loop : tie.InvT-loop
+Inv-loop s place₀ tables₀ place tables = RulesContinue s (place .at) tables
+
+abbrev μ-loop : tie.MeasureT-loop
+μ-loop s place₀ tables₀ place tables = length s - place .at
+
+no-tables-requires : tie.Need-no-tables-requires Inv-loop μ-loop
+no-tables-requires c κs = search needs
+
+loop-holds : tie.Need-loop-holds Inv-loop μ-loop
+loop-holds c = search rules-start
+
+command-requires : tie.Need-command-requires Inv-loop μ-loop
+command-requires c κs = search needs
+
+enum-known-d : tie.Need-enum-known-d Inv-loop μ-loop
+enum-known-d c = search needs
+
+enum-told : tie.Need-enum-told Inv-loop μ-loop
+enum-told c = search needs
+
+part-of-requires : tie.Need-part-of-requires Inv-loop μ-loop
+part-of-requires c κs = search needs
+
+returns : tie.Need-returns Inv-loop μ-loop
+returns c = search rules-refused
+
+add-byte-at : tie.Need-add-byte-at Inv-loop μ-loop
+add-byte-at c = record { fits = search command-fits }
+
+byte-at-requires : tie.Need-byte-at-requires Inv-loop μ-loop
+byte-at-requires c κs = search needs
+
+has-requires : tie.Need-has-requires Inv-loop μ-loop
+has-requires c κs = search element-fits
+
+returns-2 : tie.Need-returns-2 Inv-loop μ-loop
+returns-2 c = search rules-root
+
+returns-3 : tie.Need-returns-3 Inv-loop μ-loop
+returns-3 c = search rules-missing
+
+returns-4 : tie.Need-returns-4 Inv-loop μ-loop
+returns-4 c = search rules-twice
+
+read-rule-requires : tie.Need-read-rule-requires Inv-loop μ-loop
+read-rule-requires c κs = search needs
+
+enum-known-part : tie.Need-enum-known-part Inv-loop μ-loop
+enum-known-part c = search needs
+
+enum-told-2 : tie.Need-enum-told-2 Inv-loop μ-loop
+enum-told-2 c = search needs
+
+returns-5 : tie.Need-returns-5 Inv-loop μ-loop
+returns-5 c = search rules-broken
+
+with-rule-requires : tie.Need-with-rule-requires Inv-loop μ-loop
+with-rule-requires c κs = search element-fits
+
+loop-less : tie.Need-loop-less Inv-loop μ-loop
+loop-less c = search rules-fall
+
+loop-again : tie.Need-loop-again Inv-loop μ-loop
+loop-again c = search rules-more
+
+pub read-vocabulary-spec : {M : Type 1} → statement M
+read-vocabulary-spec =
+    tie.close
+    (tie.spec
+    Inv-loop
+    μ-loop
+    no-tables-requires
+    loop-holds
+    command-requires
+    enum-known-d
+    enum-told
+    part-of-requires
+    returns
+    add-byte-at
+    byte-at-requires
+    has-requires
+    returns-2
+    returns-3
+    returns-4
+    read-rule-requires
+    enum-known-part
+    enum-told-2
+    returns-5
+    with-rule-requires
+    loop-less
+    loop-again)
