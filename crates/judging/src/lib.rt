@@ -1,1 +1,397 @@
 // The judge of one page under a vocabulary.
+ghost use mathlib.Core.Path.{_≡_};
+ghost use mathlib.Core.Bool.{not, _||_};
+ghost use mathlib.Core.List.{List, [], _∷_, _++_};
+ghost use Prim.Native.Nat.{ℕ, _≤_, _<_};
+ghost use lib.ListN.{length, getD};
+ghost use Rattle.sets.specs.Sets.{member};
+ghost use Rattle.vocabularies.specs.Vocabulary.{Vocabulary};
+ghost use Rattle.judging.specs.Judgement.{orElse};
+ghost use Rattle.judging.specs.Promises.{tableAtoms, Holds, NoConnective, AllHold, Names, Containing, IsRight, Tabled, wrongOf, JudgesItem, JudgesItems};
+use commands::Position;
+
+// The truth of a formula, and the position after it.
+pub struct Held {
+    pub value: bool,
+    pub next: Position,
+}
+
+// The names of an element's attributes, and the position after them.
+pub struct Named {
+    pub names: u64,
+    pub next: Position,
+}
+
+// Where the first wrong element stands, if there is one.
+pub enum Wrong {
+    Nothing,
+    At(usize),
+}
+
+// An item that was judged: what content it is, the position after it, and the first wrong element in it.
+pub struct Judged {
+    pub content: u8,
+    pub next: Position,
+    pub wrong: Wrong,
+}
+
+// A list of items that was judged: its contents, the position after it, and the first wrong element in it.
+pub struct Listed {
+    pub inside: u64,
+    pub next: Position,
+    pub wrong: Wrong,
+}
+
+// The word at a place; 0 past the end.
+fn word_at(words: &[u64], i: u8) -> u64
+    ensures { λ r. ⌜ r ≡ getD (now (words .entry)) i 0 ⌝ }
+{
+    let k = i as usize;
+    if k < words.len() {
+        return words[k];
+    }
+    0
+}
+
+// No number above 63 is a member.
+fn is_member(set: u64, i: u8) -> bool
+    ensures { λ r. ⌜ r ≡ member set i ⌝ }
+{
+    if 64 <= i {
+        return false;
+    }
+    sets::has(set, i)
+}
+
+// No d stands before a c.
+fn is_ordered(preceding: &[u64], c: u8, d: u8) -> bool
+    ensures { λ r. ⌜ r ≡ not (member (getD (now (preceding .entry)) c 0) d) ⌝ }
+{
+    !is_member(word_at(preceding, c), d)
+}
+
+// Attribute a is absent, or has a string of the set m.
+fn is_valued(names: u64, strings: &[u8], a: u8, m: u64) -> bool
+    ensures { λ r. ⌜ r ≡ (not (member names a) || member m (getD (now (strings .entry)) a 0)) ⌝ }
+{
+    if !is_member(names, a) {
+        return true;
+    }
+    is_member(m, commands::byte_at(strings, a as usize))
+}
+
+// The formula of one command here, for an element with these tables.
+fn atom(
+    v: &[u8],
+    here: Position,
+    names: u64,
+    strings: &[u8],
+    inside: u64,
+    preceding: &[u64],
+) -> Held
+    requires { ⌜ NoConnective (now v) (here .at) ⌝ }
+    ensures forward { λ r. ⌜ here .at ≤ r .next .at ⌝ }
+    ensures truth { λ r. ⌜ Holds (tableAtoms names (now (strings .entry)) inside (now (preceding .entry))) (now (v .entry)) (here .at) r ⌝ }
+{
+    let at = here.at;
+    if v.len() <= at {
+        return Held {
+            value: false,
+            next: here,
+        };
+    }
+    match v[at] {
+        0x13 => Held {
+            value: true,
+            next: Position { at: at + 1 },
+        },
+        0x14 => Held {
+            value: is_member(names, commands::byte_at(v, at + 1)),
+            next: Position { at: at + 2 },
+        },
+        0x15 => Held {
+            value: is_member(inside, commands::byte_at(v, at + 1)),
+            next: Position { at: at + 2 },
+        },
+        0x16 => Held {
+            value: is_ordered(
+                preceding,
+                commands::byte_at(v, at + 1),
+                commands::byte_at(v, at + 2),
+            ),
+            next: Position { at: at + 3 },
+        },
+        0x17 => Held {
+            value: is_valued(
+                names,
+                strings,
+                commands::byte_at(v, at + 1),
+                commands::set_at(v, at + 2),
+            ),
+            next: Position { at: at + 10 },
+        },
+        _ => Held {
+            value: false,
+            next: here,
+        },
+    }
+}
+
+// The formula here, for an element with these tables; the forms stand in the order of source 000's grammar, the last five in `atom`.
+fn holds(
+    v: &[u8],
+    here: Position,
+    names: u64,
+    strings: &[u8],
+    inside: u64,
+    preceding: &[u64],
+) -> Held
+    ensures forward { λ r. ⌜ here .at ≤ r .next .at ⌝ }
+    ensures truth { λ r. ⌜ Holds (tableAtoms names (now (strings .entry)) inside (now (preceding .entry))) (now (v .entry)) (here .at) r ⌝ }
+{
+    let at = here.at;
+    if v.len() <= at {
+        return Held {
+            value: false,
+            next: here,
+        };
+    }
+    let inner = Position { at: at + 1 };
+    match v[at] {
+        0x10 => {
+            let first = holds(v, inner, names, strings, inside, preceding);
+            let middle = first.next;
+            let second = holds(v, middle, names, strings, inside, preceding);
+            if first.value {
+                return second;
+            }
+            let next = second.next;
+            Held { value: false, next }
+        }
+        0x11 => {
+            let first = holds(v, inner, names, strings, inside, preceding);
+            let middle = first.next;
+            let second = holds(v, middle, names, strings, inside, preceding);
+            if first.value {
+                let next = second.next;
+                return Held { value: true, next };
+            }
+            second
+        }
+        0x12 => {
+            let only = holds(v, inner, names, strings, inside, preceding);
+            let next = only.next;
+            Held {
+                value: !only.value,
+                next,
+            }
+        }
+        _ => atom(v, here, names, strings, inside, preceding),
+    }
+}
+
+// Whether all clauses that stand from an offset on are met, by an element with these tables.
+fn all_hold(
+    v: &[u8],
+    from: usize,
+    names: u64,
+    strings: &[u8],
+    inside: u64,
+    preceding: &[u64],
+) -> bool
+    ensures { λ r. ⌜ AllHold (tableAtoms names (now (strings .entry)) inside (now (preceding .entry))) (now (v .entry)) from r ⌝ }
+{
+    let mut at = from;
+    while at < v.len() {
+        if v[at] != 0x04 {
+            return true;
+        }
+        let held = holds(
+            v,
+            Position { at: at + 1 },
+            names,
+            strings,
+            inside,
+            preceding,
+        );
+        if !held.value {
+            return false;
+        }
+        let next = held.next;
+        at = next.at;
+    }
+    true
+}
+
+// Whether an element with these tables is right under the rule of these attributes, contents and clauses.
+fn is_right(
+    v: &[u8],
+    attributes: u64,
+    contents: u64,
+    clauses: usize,
+    names: u64,
+    strings: &[u8],
+    inside: u64,
+    preceding: &[u64],
+) -> bool
+    ensures { λ r. ⌜ IsRight (now (v .entry)) attributes contents clauses names (now (strings .entry)) inside (now (preceding .entry)) r ⌝ }
+{
+    if !sets::is_within(names, attributes) {
+        return false;
+    }
+    if !sets::is_within(inside, contents) {
+        return false;
+    }
+    all_hold(v, clauses, names, strings, inside, preceding)
+}
+
+// The attributes straight after `23 e`: their names, and in `strings` the string of each, 64 for one outside 0 to 63.
+fn read_attributes(p: &[u8], here: Position, strings: &mut [u8]) -> Named
+    requires { ⌜ 32 ≤ length (now strings) ⌝ }
+    ensures forward { λ r. ⌜ here .at ≤ r .next .at ⌝ }
+    ensures named { λ r. ⌜ Names (now (p .entry)) (here .at) r (now (strings .exit)) ⌝ }
+{
+    let mut at = here.at;
+    let mut names: u64 = 0;
+    while at < p.len() {
+        let a = commands::byte_at(p, at + 1) % 32;
+        let i = a as usize;
+        if p[at] == 0x24 {
+            names = sets::with(names, a);
+            strings[i] = commands::byte_at(p, at + 2);
+            at += 3;
+        } else {
+            if p[at] != 0x28 {
+                return Named {
+                    names,
+                    next: Position { at },
+                };
+            }
+            names = sets::with(names, a);
+            strings[i] = 64;
+            at += 2;
+        }
+    }
+    Named {
+        names,
+        next: Position { at },
+    }
+}
+
+fn first_of(a: Wrong, b: Wrong) -> Wrong
+    ensures { λ r. ⌜ wrongOf r ≡ orElse (wrongOf a) (wrongOf b) ⌝ }
+{
+    match a {
+        Wrong::Nothing => b,
+        Wrong::At(at) => Wrong::At(at),
+    }
+}
+
+// One content more, after those inside.
+fn add_content(preceding: &mut [u64], inside: u64, c: u8) -> u64
+    requires { ⌜ (64 ≤ length (now preceding)) × (c < 64) ⌝ }
+    ensures { λ r. ⌜ ((w : List ℕ) → Containing w inside (now (preceding .entry)) → Containing (w ++ (c ∷ [])) r (now (preceding .exit))) ⌝ }
+{
+    let k = c as usize;
+    preceding[k] = sets::union(preceding[k], inside);
+    sets::with(inside, c)
+}
+
+// The item here, under the rules whose tables are given. An element is judged before those inside it.
+pub fn judge_item(
+    v: &[u8],
+    attributes: &[u64; 64],
+    contents: &[u64; 64],
+    clauses: &[usize; 64],
+    p: &[u8],
+    here: Position,
+) -> Judged
+    ensures forward { λ r. ⌜ (here .at < length (now (p .entry)) → here .at < r .next .at) ⌝ }
+    ensures small { λ r. ⌜ r .content < 64 ⌝ }
+    ensures judged { λ r. ⌜ ((D : Vocabulary) → Tabled (now (v .entry)) D (now (attributes .entry)) (now (contents .entry)) (now (clauses .entry)) → JudgesItem D (now (p .entry)) (here .at) r) ⌝ }
+{
+    let at = here.at;
+    if p.len() <= at {
+        return Judged {
+            content: 0,
+            next: here,
+            wrong: Wrong::Nothing,
+        };
+    }
+    if p[at] != 0x23 {
+        return Judged {
+            content: 0,
+            next: Position { at: at + 1 },
+            wrong: Wrong::Nothing,
+        };
+    }
+    let e = commands::byte_at(p, at + 1) % 64;
+    let k = e as usize;
+    let mut strings = [0u8; 32];
+    let named = read_attributes(p, Position { at: at + 2 }, &mut strings);
+    let start = named.next;
+    let mut preceding = [0u64; 64];
+    let list = judge_items(v, attributes, contents, clauses, p, start, &mut preceding);
+    let next = list.next;
+    if is_right(
+        v,
+        attributes[k],
+        contents[k],
+        clauses[k],
+        named.names,
+        &strings,
+        list.inside,
+        &preceding,
+    ) {
+        let wrong = list.wrong;
+        return Judged {
+            content: e,
+            next,
+            wrong,
+        };
+    }
+    Judged {
+        content: e,
+        next,
+        wrong: Wrong::At(at),
+    }
+}
+
+// The items from here on, up to `26`.
+fn judge_items(
+    v: &[u8],
+    attributes: &[u64; 64],
+    contents: &[u64; 64],
+    clauses: &[usize; 64],
+    p: &[u8],
+    here: Position,
+    preceding: &mut [u64],
+) -> Listed
+    requires { ⌜ 64 ≤ length (now preceding) ⌝ }
+    ensures forward { λ r. ⌜ here .at ≤ r .next .at ⌝ }
+    ensures judged { λ r. ⌜ ((D : Vocabulary) → Tabled (now (v .entry)) D (now (attributes .entry)) (now (contents .entry)) (now (clauses .entry)) → Containing [] 0 (now (preceding .entry)) → JudgesItems D (now (p .entry)) (here .at) r (now (preceding .exit))) ⌝ }
+{
+    let mut at = here.at;
+    let mut inside: u64 = 0;
+    let mut wrong = Wrong::Nothing;
+    while at < p.len() {
+        if p[at] == 0x26 {
+            return Listed {
+                inside,
+                next: Position { at: at + 1 },
+                wrong,
+            };
+        }
+        let item = judge_item(v, attributes, contents, clauses, p, Position { at });
+        inside = add_content(preceding, inside, item.content);
+        let found = item.wrong;
+        wrong = first_of(wrong, found);
+        let next = item.next;
+        at = next.at;
+    }
+    Listed {
+        inside,
+        next: Position { at },
+        wrong,
+    }
+}

@@ -1,11 +1,9 @@
 -- How the code that reads items agrees with the definitions: a law for each way that a turn of it goes.
-use Prim.Native.Nat.{ℕ, zero, suc, _+_, _-_, _≤_, _<_}
-use mathlib.Core.Path.{_≡_, refl, sym, ap, _∙_}
+use Prim.Native.Nat.{ℕ, zero, suc, _+_, _≤_, _<_}
+use mathlib.Core.Path.{_≡_, refl}
 use mathlib.Core.List.{List, [], _∷_}
-use mathlib.Core.Bool.{Bool, true, false, cond, _&&_, _||_}
+use mathlib.Core.Bool.{Bool, true, false}
 use native.Mathlib.Omega.{arith}
-use lib.ListN.{length}
-use lib.Dec.{eqb, ltb, leb}
 use borrow.Author.Tests.{eq-eqb, ne-eqb, lt-ltb, le-ltb}
 use Rattle.verdicts.specs.declared.Form.{Form}
 use Rattle.verdicts.specs.declared.Form.the-variants.{NotRising, TooMany, Missing}
@@ -17,47 +15,19 @@ use Rattle.commands.specs.declared.Decoded.the-variants as Decoded
 use Rattle.commands.specs.declared.Part.{Part}
 use Rattle.commands.specs.declared.Part.the-variants.{Whole, Refused}
 use Rattle.commands.specs.Commands.{byte, allowed, command}
-use Rattle.commands.specs.Reading.{Read, whole, refused, unfinished, andThen, onDecoded, onCommand, when}
-use Rattle.commands.specs.Parts.{Agrees, AgreesAs, Enough}
-use Rattle.commands.proofs.Laws.{MovedOver, moved}
+use Rattle.commands.specs.Reading.{Read, whole, andThen}
+use Rattle.commands.specs.Parts.{Agrees}
+use Rattle.commands.proofs.Laws.{moved}
 use Rattle.vocabularies.specs.Vocabulary.{isIn}
 use Rattle.pages.specs.declared.Kind.{Kind}
-use Rattle.pages.specs.Items.{Attribute, Item, Items}
 use Rattle.pages.specs.ItemReading.{itemContext, attributeContext, nesting, endOf, attributes, items, item}
-use Rattle.pages.specs.Promises.{AttributesRead, ItemsRead, EnoughForItem, ItemRead}
-use Rattle.pages.proofs.Laws.{Onward, items-move, item-move, attributes-move}
+use Rattle.pages.specs.Promises.{AttributesRead, ItemsRead, ItemRead}
+use Rattle.pages.proofs.Laws.{item-move, attributes-move}
+use Rattle.pages.proofs.Parts.{agrees-made, refused-first, whole-first}
 
-module _ {A B : Type 0} where
-  -- What a part is made into does not matter.
-  agrees-made : (g : A → B) (x : Read A) (r : Part) → Agrees x r → Agrees (andThen x (λ a end. whole (g a) end)) r
-  agrees-made g (whole a end) (Whole p) h = h
-  agrees-made g (whole a end) (Refused f at) h = h
-  agrees-made g (refused f at) (Whole p) h = h
-  agrees-made g (refused f at) (Refused f′ at′) h = h
-  agrees-made g unfinished (Whole p) h = h
-  agrees-made g unfinished (Refused f at) h = h
-
-  -- A part that is refused refuses what it is a part of.
-  pub agrees-refused : (Q : B → ℕ → Type 0) (k : A → ℕ → Read B) (x : Read A) (f : Form) (n : ℕ) (r : Part) → r ≡ Refused f n → Agrees x r
-      → AgreesAs Q (andThen x k) r
-  agrees-refused Q k x f n (Whole p) e h = absurd (let z : _≡_ {A = ℕ} 0 1 = cc in omega arith)
-  agrees-refused Q k (whole a end) f n (Refused f′ n′) e h = absurd h
-  agrees-refused Q k (refused f″ n″) f n (Refused f′ n′) e h = h
-  agrees-refused Q k unfinished f n (Refused f′ n′) e h = h
-
-  agrees-onward : (k : A → ℕ → Read B) (x : Read A) (p : Position) (first r : Part) → first ≡ Whole p → Agrees x first
-      → ((a : A) → x ≡ whole a (p .at) → Agrees (k a (p .at)) r) → Agrees (andThen x k) r
-  agrees-onward k (whole a end) p (Whole q) r e h goes =
-      let there : end ≡ p .at = sym (h .0) ∙ ap (λ (q : Position). q .at) (same e) in
-      rw there (goes a (rw there))
-    where
-      same : Whole q ≡ Whole p → q ≡ p
-      same e = cc
-  agrees-onward k (whole a end) p (Refused f n) r e h goes = absurd h
-  agrees-onward k (refused f at) p (Whole q) r e h goes = absurd h
-  agrees-onward k (refused f at) p (Refused f′ n) r e h goes = absurd (let z : _≡_ {A = ℕ} 0 1 = cc in omega arith)
-  agrees-onward k unfinished p (Whole q) r e h goes = absurd h
-  agrees-onward k unfinished p (Refused f n) r e h goes = absurd h
+-- What a part is made into does not change where it ends.
+made : {A B : Type 0} (g : A → B) (x : Read A) (r : Part) → Agrees x r → Agrees (andThen x (λ a end. whole (g a) end)) r
+made g x r h = agrees-made _ _ g (λ a end u. u) x r h
 
 -- The attributes; `x` is where they stand.
 module _ (k : Kind) (x : Context) (is : x ≡ attributeContext k) (s before : List ℕ) (at : ℕ) where
@@ -84,7 +54,7 @@ module _ (k : Kind) (x : Context) (is : x ≡ attributeContext k) (s before : Li
       attributes-next r fresh goes zero enough = absurd (omega arith)
       attributes-next r fresh goes (suc f) enough =
           let m = moved x s at code next d in
-          rw (← is, a, d, fresh) (agrees-made _ (attributes f k s (byte s (at + 1) ∷ before) (next .at)) r (goes f (omega arith)))
+          rw (← is, a, d, fresh) (made _ (attributes f k s (byte s (at + 1) ∷ before) (next .at)) r (goes f (omega arith)))
 
 -- A list of items.
 module _ (k : Kind) (ruled : ℕ → Bool) (s : List ℕ) (depth at : ℕ) where
@@ -97,15 +67,15 @@ module _ (k : Kind) (ruled : ℕ → Bool) (s : List ℕ) (depth at : ℕ) where
     pub items-refused : (f : Form) (n : ℕ) → first ≡ Refused f n → ItemsRead k ruled s depth at first
     unfolding items
     items-refused f n e zero enough = absurd (omega arith)
-    items-refused f n e (suc g) enough = rw (ne-eqb _ _ goes-on) (agrees-refused _ _ (item g k ruled s depth at) f n first e (reads g (omega arith)))
+    items-refused f n e (suc g) enough = rw (ne-eqb _ _ goes-on) (refused-first _ _ (item g k ruled s depth at) first (reads g (omega arith)) f n e)
 
     pub items-next : (next : Position) (r : Part) → first ≡ Whole next → ItemsRead k ruled s depth (next .at) r → ItemsRead k ruled s depth at r
     unfolding items
     items-next next r e goes zero enough = absurd (omega arith)
     items-next next r e goes (suc f) enough = rw (ne-eqb _ _ goes-on)
-        (agrees-onward _ (item f k ruled s depth at) next first r e (reads f (omega arith)) λ i e.
+        (whole-first _ _ (item f k ruled s depth at) first (reads f (omega arith)) next r e λ i e.
         let m = item-move f k ruled s depth at i (next .at) e in
-        agrees-made _ (items f k ruled s depth (next .at)) r (goes f (omega arith)))
+        made _ (items f k ruled s depth (next .at)) r (goes f (omega arith)))
 
 -- An item; `x` is where it stands.
 module _ (k : Kind) (x : Context) (is : x ≡ itemContext k) (ruled : ℕ → Bool) (s : List ℕ) (depth at : ℕ) where
@@ -139,7 +109,7 @@ module _ (k : Kind) (x : Context) (is : x ≡ itemContext k) (ruled : ℕ → Bo
           item-attributes-refused f n e (suc g) enough =
               let m = moved x s at code next d in
               rw (← is, d, eq-eqb _ _ opens, has, lt-ltb _ _ nests)
-              (agrees-refused _ _ (attributes g k s [] (next .at)) f n named e (reads g (omega arith)))
+              (refused-first _ _ (attributes g k s [] (next .at)) named (reads g (omega arith)) f n e)
 
           pub item-element : (inside : Position) (r : Part) → named ≡ Whole inside → ItemsRead k ruled s (depth + 1) (inside .at) r
               → ItemRead k ruled s depth at r
@@ -148,40 +118,6 @@ module _ (k : Kind) (x : Context) (is : x ≡ itemContext k) (ruled : ℕ → Bo
           item-element inside r e goes (suc f) enough =
               let m = moved x s at code next d in
               rw (← is, d, eq-eqb _ _ opens, has, lt-ltb _ _ nests)
-              (agrees-onward _ (attributes f k s [] (next .at)) inside named r e (reads f (omega arith)) λ δ e.
+              (whole-first _ _ (attributes f k s [] (next .at)) named (reads f (omega arith)) inside r e λ δ e.
               let n = attributes-move f k s [] (next .at) δ (inside .at) (m .inside) e in
-              agrees-made _ (items f k ruled s (depth + 1) (inside .at)) r (goes f (omega arith)))
-
--- Where a part that was read ends.
-module _ {A : Type 0} where
-  pub agrees-whole : (x : Read A) (p : Position) (r : Part) → r ≡ Whole p → Agrees x r → (a : A) × (x ≡ whole a (p .at))
-  agrees-whole (whole a end) p (Whole q) e h = (a, ap (whole a) (sym (h .0) ∙ ap (λ (q : Position). q .at) (same e)))
-    where
-      same : Whole q ≡ Whole p → q ≡ p
-      same e = cc
-  agrees-whole (whole a end) p (Refused f n) e h = absurd h
-  agrees-whole (refused f at) p (Whole q) e h = absurd h
-  agrees-whole (refused f at) p (Refused f′ n) e h = absurd (let z : _≡_ {A = ℕ} 0 1 = cc in omega arith)
-  agrees-whole unfinished p (Whole q) e h = absurd h
-  agrees-whole unfinished p (Refused f n) e h = absurd h
-
-pub attributes-onward : (k : Kind) (s before : List ℕ) (at : ℕ) (p : Position) (r : Part) → at ≤ length s → r ≡ Whole p
-    → AttributesRead k s before at r → (at ≤ p .at) × (p .at ≤ length s)
-attributes-onward k s before at p r inside e h =
-    let f : ℕ = (length s - at) + (length s - at) + 2 in
-    let w = agrees-whole (attributes f k s before at) p r e (h f (omega arith)) in
-    attributes-move f k s before at (w .0) (p .at) inside (w .1)
-
-pub items-onward : (k : Kind) (ruled : ℕ → Bool) (s : List ℕ) (depth at : ℕ) (p : Position) (r : Part) → r ≡ Whole p
-    → ItemsRead k ruled s depth at r → Onward s at (p .at)
-items-onward k ruled s depth at p r e h =
-    let f : ℕ = (length s - at) + (length s - at) + 2 in
-    let w = agrees-whole (items f k ruled s depth at) p r e (h f (omega arith)) in
-    items-move f k ruled s depth at (w .0) (p .at) (w .1)
-
-pub item-onward : (k : Kind) (ruled : ℕ → Bool) (s : List ℕ) (depth at : ℕ) (p : Position) (r : Part) → r ≡ Whole p
-    → ItemRead k ruled s depth at r → Onward s at (p .at)
-item-onward k ruled s depth at p r e h =
-    let f : ℕ = (length s - at) + (length s - at) + 1 in
-    let w = agrees-whole (item f k ruled s depth at) p r e (h f (omega arith)) in
-    item-move f k ruled s depth at (w .0) (p .at) (w .1)
+              made _ (items f k ruled s (depth + 1) (inside .at)) r (goes f (omega arith)))

@@ -1,6 +1,6 @@
--- What holds of reading items: it moves on and does not leave the bytes, enough fuel is enough and any other gives the same, and it
--- goes only by which elements have a rule.
-use Prim.Native.Nat.{ℕ, zero, suc, _+_, _-_, _≤_, _<_}
+-- What holds of reading items: names are in range, reading moves on and does not leave the bytes, no fuel that is enough runs out and
+-- all of them give the same, and reading goes only by which elements have a rule.
+use Prim.Native.Nat.{ℕ, zero, suc, _+_, _≤_, _<_}
 use mathlib.Core.Path.{_≡_, refl, sym, ap, _∙_, fun-ext}
 use mathlib.Core.Logic.{_⊎_, inl, inr}
 use mathlib.Core.List.{List, [], _∷_}
@@ -17,7 +17,7 @@ use Rattle.commands.specs.declared.Position.{Position}
 use Rattle.commands.specs.declared.Decoded.{Decoded}
 use Rattle.commands.specs.declared.Decoded.the-variants.{Moved, Refused}
 use Rattle.commands.specs.Commands.{byte, operandsOf, allInRange, allowed, command}
-use Rattle.commands.specs.Reading.{Read, whole, refused, unfinished, andThen, onDecoded, onCommand, when}
+use Rattle.commands.specs.Reading.{Read, whole, refused, unfinished, andThen, onDecoded, when}
 use Rattle.commands.specs.Parts.{Enough}
 use Rattle.commands.proofs.Laws.{MovedOver, moved, byte-past}
 use Rattle.vocabularies.specs.Vocabulary.{isIn}
@@ -26,7 +26,7 @@ use Rattle.pages.specs.declared.Kind.the-variants.{Template, Page}
 use Rattle.pages.specs.Items.{Attribute, Item, Items}
 use Rattle.pages.specs.ItemReading.{itemContext, attributeContext, nesting, endOf, attributes, items, item, mostTemplates, templates}
 use Rattle.pages.specs.Promises.{EnoughForItem}
-use Rattle.pages.proofs.Whole.{never-unfinished, AttributesEnd, AttributeMore, attributes-whole, ItemsEnd, ItemsMore, items-whole, LeafRead, ElementRead, item-whole, TemplatesEnd, TemplateMore, templates-whole}
+use Rattle.pages.proofs.Whole.{never-unfinished, attributes-whole, items-whole, item-whole, templates-whole}
 
 and-left : (a b : Bool) → (a && b) ≡ true → a ≡ true
 and-left true b e = refl
@@ -40,7 +40,7 @@ or-cases : (a b : Bool) → (a || b) ≡ true → (a ≡ true) ⊎ (b ≡ true)
 or-cases true b e = inl refl
 or-cases false b e = inr e
 
--- The ranges of the names that stand in what was read.
+-- The ranges of names.
 pub attribute-range : (k : Kind) (s : List ℕ) (at code : ℕ) (next : Position) → command (attributeContext k) s at ≡ Moved code next
     → byte s (at + 1) ≤ 31
 unfolding allowed allInRange operandsOf
@@ -72,7 +72,7 @@ pub record Onward (s : List ℕ) (at end : ℕ) : Type 0 where
   pub forward : at < end
   pub within : end ≤ length s
 
--- What stands where a byte other than 0 stands.
+-- A byte other than 0 is one of the bytes.
 stands-inside : (s : List ℕ) (at : ℕ) → (byte s at ≡ 0 → ⊥) → at < length s
 stands-inside s at h = go (ltb at (length s)) refl
   where

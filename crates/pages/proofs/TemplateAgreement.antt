@@ -1,7 +1,7 @@
 -- How the code that reads templates agrees with the definition: a law for each way that a turn of it goes.
 use Prim.Native.Nat.{ℕ, zero, suc, _+_, _-_, _≤_, _<_}
-use mathlib.Core.Path.{_≡_, refl, sym, ap, _∙_}
-use mathlib.Core.Logic.{_⊎_, inl, inr}
+use mathlib.Core.Path.{_≡_, refl, _∙_}
+use mathlib.Core.Logic.{inl, inr}
 use mathlib.Core.List.{List, [], _∷_, _++_, append-assoc, append-nil}
 use mathlib.Core.Bool.{Bool}
 use native.Mathlib.Nat.{eq-or-lt-of-le}
@@ -18,34 +18,21 @@ use Rattle.commands.specs.declared.Decoded.the-variants as Decoded
 use Rattle.commands.specs.declared.Part.{Part}
 use Rattle.commands.specs.declared.Part.the-variants.{Whole, Refused}
 use Rattle.commands.specs.Commands.{command}
-use Rattle.commands.specs.Reading.{Read, whole, refused, unfinished, andThen}
 use Rattle.commands.specs.Parts.{AgreesAs, Enough}
 use Rattle.commands.proofs.Laws.{moved}
-use Rattle.pages.specs.declared.Kind.{Kind}
 use Rattle.pages.specs.declared.Kind.the-variants.{Template}
 use Rattle.pages.specs.declared.TemplatesRead.{TemplatesRead}
 use Rattle.pages.specs.Items.{Items, none}
 use Rattle.pages.specs.ItemReading.{items, mostTemplates, templates}
 use Rattle.pages.specs.Promises.{ItemsRead, StandsAt, Located, TemplatesFrom}
-use Rattle.pages.proofs.Laws.{items-move, items-settle}
-use Rattle.pages.proofs.Agreement.{agrees-refused, agrees-whole}
+use Rattle.pages.proofs.Laws.{items-move}
+use Rattle.pages.proofs.Parts.{agrees-made, refused-first}
+use Rattle.pages.proofs.Trees.{TreeRead}
 
 -- The templates from an offset on, after those done: where they are read whole, all of them are located.
 abbrev pub TemplatesOn : (ℕ → Bool) → List ℕ → List Items → ℕ → ℕ → TemplatesRead → Type 0
 TemplatesOn ruled s done count at r = (f : ℕ) → Enough s at f
     → AgreesAs (λ φs end. Located ruled s (done ++ φs) (r .count) (r .starts)) (templates f ruled s count at) (r .part)
-
--- A list of items that was read is a tree, the same at every fuel that is enough.
-pub record TreeRead (k : Kind) (ruled : ℕ → Bool) (s : List ℕ) (depth at end : ℕ) : Type 0 where
-  pub tree : Items
-  pub reads : (f : ℕ) → Enough s at f → items f k ruled s depth at ≡ whole tree end
-
-pub tree-read : (k : Kind) (ruled : ℕ → Bool) (s : List ℕ) (depth at : ℕ) (p : Position) (r : Part) → r ≡ Whole p
-    → ItemsRead k ruled s depth at r → TreeRead k ruled s depth at (p .at)
-tree-read k ruled s depth at p r e h =
-    let f : ℕ = (length s - at) + (length s - at) + 2 in
-    let w = agrees-whole (items f k ruled s depth at) p r e (h f (omega arith)) in
-    record { tree = w .0; reads = λ g enough. items-settle g f k ruled s depth at enough (omega arith) .same ∙ w .1 }
 
 module _ (ruled : ℕ → Bool) (s : List ℕ) where
   pub located-none : (starts : List ℕ) → Located ruled s [] 0 starts
@@ -66,17 +53,6 @@ module _ (ruled : ℕ → Bool) (s : List ℕ) where
           λ f enough. rw (start, earlier) (h .located t low (omega arith) f (rw start at enough))
     ];
   }
-
-module _ {A B : Type 0} where
-  -- What a part is made into, with what is said of it.
-  agrees-as-made : (g : A → B) (P : A → ℕ → Type 0) (Q : B → ℕ → Type 0) → ((a : A) (end : ℕ) → P a end → Q (g a) end)
-      → (x : Read A) (r : Part) → AgreesAs P x r → AgreesAs Q (andThen x (λ a end. whole (g a) end)) r
-  agrees-as-made g P Q h (whole a end) (Whole p) (e, says) = (e, h a end says)
-  agrees-as-made g P Q h (whole a end) (Refused f at) says = says
-  agrees-as-made g P Q h (refused f at) (Whole p) says = says
-  agrees-as-made g P Q h (refused f at) (Refused f′ at′) says = says
-  agrees-as-made g P Q h unfinished (Whole p) says = says
-  agrees-as-made g P Q h unfinished (Refused f at) says = says
 
 module _ (ruled : ℕ → Bool) (s : List ℕ) (done : List Items) (count at : ℕ) (r : TemplatesRead) where
   pub templates-refused : (f : Form) (n : ℕ) → command Templates s at ≡ Decoded.Refused f n → r .part ≡ Refused f n → TemplatesOn ruled s done count at r
@@ -103,7 +79,7 @@ module _ (ruled : ℕ → Bool) (s : List ℕ) (done : List Items) (count at : �
         template-refused f n body reads e same zero enough = absurd (omega arith)
         template-refused f n body reads e same (suc g) enough =
             let m = moved Templates s at code next d in
-            rw (d, ne-eqb _ _ starts, lt-ltb _ _ few, same) (agrees-refused _ _ (items g Template ruled s 0 (next .at)) f n body e (reads g (omega arith)))
+            rw (d, ne-eqb _ _ starts, lt-ltb _ _ few, same) (refused-first _ _ (items g Template ruled s 0 (next .at)) body (reads g (omega arith)) f n e)
 
         pub templates-next : (after : ℕ) (read : TreeRead Template ruled s 0 (next .at) after)
             → TemplatesOn ruled s (done ++ (read .tree ∷ [])) (count + 1) after r → TemplatesOn ruled s done count at r
@@ -114,7 +90,7 @@ module _ (ruled : ℕ → Bool) (s : List ℕ) (done : List Items) (count at : �
             let reads = read .reads f (omega arith) in
             let n = items-move f Template ruled s 0 (next .at) (read .tree) after reads in
             rw (d, ne-eqb _ _ starts, lt-ltb _ _ few, reads)
-            (agrees-as-made (λ φs. read .tree ∷ φs) _ _ (λ φs end located. rw (append-assoc done (read .tree ∷ []) φs) at located)
+            (agrees-made _ _ (λ φs. read .tree ∷ φs) (λ φs end located. rw (append-assoc done (read .tree ∷ []) φs) at located)
             (templates f ruled s (count + 1) after) (r .part) (goes f (omega arith)))
 
 -- The templates done in the turns of a loop: they are located, and what is read after them goes on them.

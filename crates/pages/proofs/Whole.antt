@@ -1,12 +1,10 @@
--- What attributes, items and templates that were read whole tell: what stands at their offset, and where their parts are. Reading
--- moves on, and does not leave the bytes.
-use Prim.Native.Nat.{ℕ, zero, suc, _+_, _≤_, _<_}
-use mathlib.Core.Path.{_≡_, refl, sym, ap, _∙_}
-use mathlib.Core.Logic.{_⊎_, inl, inr, ⊎-elim}
+-- What attributes, items and templates that were read whole tell: what stands at their offset, and where their parts are.
+use Prim.Native.Nat.{ℕ, suc, _+_, _<_}
+use mathlib.Core.Path.{_≡_, refl, sym, ap}
+use mathlib.Core.Logic.{_⊎_, inl, inr}
 use mathlib.Core.List.{List, [], _∷_}
-use mathlib.Core.Bool.{Bool, true, false, cond}
+use mathlib.Core.Bool.{Bool, true, false}
 use native.Mathlib.Omega.{arith}
-use lib.ListN.{length}
 use lib.Dec.{eqb, ltb}
 use borrow.Author.Tests.{eqb-true, eqb-false, ltb-true}
 use Rattle.verdicts.specs.declared.Form.{Form}
@@ -15,13 +13,13 @@ use Rattle.commands.specs.declared.Context.{Context}
 use Rattle.commands.specs.declared.Context.the-variants.{Templates}
 use Rattle.commands.specs.declared.Position.{Position}
 use Rattle.commands.specs.declared.Decoded.the-variants.{Moved}
-use Rattle.commands.specs.Commands.{byte, allowed, operandBytes, command}
+use Rattle.commands.specs.Commands.{byte, allowed, command}
 use Rattle.commands.specs.Reading.{Read, whole, refused, unfinished, andThen, onCommand, when}
-use Rattle.commands.proofs.Laws.{MovedOver, moved, byte-past, andThen-whole, onCommand-whole, when-whole}
+use Rattle.commands.proofs.Laws.{moved, andThen-whole, onCommand-whole, when-whole}
 use Rattle.vocabularies.specs.Vocabulary.{isIn}
 use Rattle.pages.specs.declared.Kind.{Kind}
-use Rattle.pages.specs.declared.Kind.the-variants.{Template, Page}
-use Rattle.pages.specs.Items.{Value, Attribute, Item, element, Items, none, more}
+use Rattle.pages.specs.declared.Kind.the-variants.{Template}
+use Rattle.pages.specs.Items.{Attribute, Item, element, Items, none, more}
 use Rattle.pages.specs.ItemReading.{itemContext, attributeContext, nesting, valueAt, endOf, leafAt, attributes, items, item, mostTemplates, templates}
 
 module _ {A : Type 0} where

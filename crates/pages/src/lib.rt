@@ -159,6 +159,18 @@ pub fn alone(s: &[u8], part: Part) -> Part
     Part::Whole(end)
 }
 
+impl TemplatesRead {
+    fn new(part: Part, count: usize, starts: [usize; 32]) -> Self
+        ensures { λ r. ⌜ (r .part ≡ part) × (r .count ≡ count) × (r .starts ≡ starts) ⌝ }
+    {
+        TemplatesRead {
+            part,
+            count,
+            starts,
+        }
+    }
+}
+
 // The templates of a job, up to `2F`.
 pub fn read_templates(declared: u64, s: &[u8], here: Position) -> TemplatesRead
     ensures { λ r. ⌜ TemplatesFrom (member declared) (now (s .entry)) (here .at) r ⌝ }
@@ -169,35 +181,19 @@ pub fn read_templates(declared: u64, s: &[u8], here: Position) -> TemplatesRead
     loop {
         let d = p.command(s, Context::Templates);
         let Decoded::Moved(code, next) = d else {
-            return TemplatesRead {
-                part: part_of(d),
-                count,
-                starts,
-            };
+            return TemplatesRead::new(part_of(d), count, starts);
         };
         if code == 0x2F {
-            return TemplatesRead {
-                part: Part::Whole(next),
-                count,
-                starts,
-            };
+            return TemplatesRead::new(Part::Whole(next), count, starts);
         }
         if MOST_TEMPLATES <= count {
-            return TemplatesRead {
-                part: Part::Refused(Form::TooMany, p.at),
-                count,
-                starts,
-            };
+            return TemplatesRead::new(Part::Refused(Form::TooMany, p.at), count, starts);
         }
         count += 1;
         starts[count] = next.at;
         let template = read_items(Kind::Template, declared, s, next, 0);
         let Part::Whole(after) = template else {
-            return TemplatesRead {
-                part: template,
-                count,
-                starts,
-            };
+            return TemplatesRead::new(template, count, starts);
         };
         p = after;
     }

@@ -1,4 +1,4 @@
--- The patterns of a clause. A pattern's marks are those of the attributes and the word; patterns are joined as the words and the
+-- The patterns of a clause. A pattern's flags are those of the attributes and the word; patterns are joined as the words and the
 -- attributes are; and the truth of the clause follows from the pattern and the names of the attributes.
 use Prim.Native.Nat.{ℕ, suc, _+_, _*_, _/_, _%_, _^_, _<_}
 use native.Mathlib.Omega.{arith}
@@ -12,10 +12,10 @@ use Rattle.vocabularies.specs.Vocabulary.{Formula, conj, disj, neg, truth, attr
 use Rattle.vocabularies.specs.Facts.{Fact, present, ordered, valued, sameFact, isAmong, factsOf}
 use Rattle.pages.specs.Items.{Attribute}
 use Rattle.pages.specs.RightPages.{names}
-use Rattle.judging.specs.Judgement.{Atoms, truthOf, precedes, holdsValue, atomsOf}
-use Rattle.patterns.specs.Patterns.{marked, numbered, patternOf, markIn, joinedMark, join, atomsBy}
+use Rattle.judging.specs.Judgement.{truthOf, atomsOf}
+use Rattle.patterns.specs.Patterns.{flagged, numbered, patternOf, flagIn, joinedFlag, join, atomsBy}
 use Rattle.patterns.proofs.Tests.{or-left, or-right}
-use Rattle.patterns.proofs.Facts.{same-fact, fact-same, Closed, Covers, facts-cover, facts-closed}
+use Rattle.patterns.proofs.Facts.{same-fact, fact-same, Closed, Covers, facts-cover}
 use Rattle.patterns.proofs.Words.{in-append, precedes-append, holds-append}
 
 double-below : (b : Bool) (n m : ℕ) → n < m → cond b 1 0 + 2 * n < 2 * m
@@ -25,64 +25,64 @@ double-below false n m h = omega arith
 twice : (k : ℕ) → 2 * 2 ^ k ≡ 2 ^ suc k
 twice k = omega arith
 
-pub numbered-below : (fs : List Fact) (mark : Fact → Bool) → numbered fs mark < 2 ^ length fs
+pub numbered-below : (fs : List Fact) (flag : Fact → Bool) → numbered fs flag < 2 ^ length fs
 unfolding numbered
-numbered-below [] mark = omega arith
-numbered-below (f ∷ fs) mark =
-    subst (λ (m : ℕ). cond (mark f) 1 0 + 2 * numbered fs mark < m) (twice (length fs))
-    (double-below (mark f) (numbered fs mark) (2 ^ length fs) (numbered-below fs mark))
+numbered-below [] flag = omega arith
+numbered-below (f ∷ fs) flag =
+    subst (λ (m : ℕ). cond (flag f) 1 0 + 2 * numbered fs flag < m) (twice (length fs))
+    (double-below (flag f) (numbered fs flag) (2 ^ length fs) (numbered-below fs flag))
 
-lowest : (b : Bool) (n : ℕ) → eqb ((cond b 1 0 + 2 * n) % 2) 1 ≡ b
+pub lowest : (b : Bool) (n : ℕ) → eqb ((cond b 1 0 + 2 * n) % 2) 1 ≡ b
 lowest true n = eq-eqb ((1 + 2 * n) % 2) 1 (omega arith)
 lowest false n = ne-eqb ((0 + 2 * n) % 2) 1 (λ e. omega arith)
 
-higher : (b : Bool) (n : ℕ) → (cond b 1 0 + 2 * n) / 2 ≡ n
+pub higher : (b : Bool) (n : ℕ) → (cond b 1 0 + 2 * n) / 2 ≡ n
 higher true n = omega arith
 higher false n = omega arith
 
--- The marks of a number are those that it was made of.
-pub mark-numbered : (fs : List Fact) (mark : Fact → Bool) (f : Fact) → markIn fs (numbered fs mark) f ≡ (isAmong f fs && mark f)
-unfolding numbered markIn isAmong
-mark-numbered [] mark f = refl
-mark-numbered (g ∷ fs) mark f = go (sameFact f g) refl (mark-numbered fs mark f)
+-- The flags of a number are those that it was made of.
+pub flag-numbered : (fs : List Fact) (flag : Fact → Bool) (f : Fact) → flagIn fs (numbered fs flag) f ≡ (isAmong f fs && flag f)
+unfolding numbered flagIn isAmong
+flag-numbered [] flag f = refl
+flag-numbered (g ∷ fs) flag f = go (sameFact f g) refl (flag-numbered fs flag f)
   where
     n : ℕ
-    n = cond (mark g) 1 0 + 2 * numbered fs mark
+    n = cond (flag g) 1 0 + 2 * numbered fs flag
 
-    go : (b : Bool) → sameFact f g ≡ b → markIn fs (numbered fs mark) f ≡ (isAmong f fs && mark f)
-        → cond b (eqb (n % 2) 1) (markIn fs (n / 2) f) ≡ ((b || isAmong f fs) && mark f)
-    go true e h = lowest (mark g) (numbered fs mark) ∙ ap mark (sym (same-fact f g e))
-    go false e h = ap (λ (x : ℕ). markIn fs x f) (higher (mark g) (numbered fs mark)) ∙ h
+    go : (b : Bool) → sameFact f g ≡ b → flagIn fs (numbered fs flag) f ≡ (isAmong f fs && flag f)
+        → cond b (eqb (n % 2) 1) (flagIn fs (n / 2) f) ≡ ((b || isAmong f fs) && flag f)
+    go true e h = lowest (flag g) (numbered fs flag) ∙ ap flag (sym (same-fact f g e))
+    go false e h = ap (λ (x : ℕ). flagIn fs x f) (higher (flag g) (numbered fs flag)) ∙ h
 
-pub mark-of : (fs : List Fact) (δ : List Attribute) (w : List ℕ) (f : Fact) → isAmong f fs ≡ true → markIn fs (patternOf fs δ w) f ≡ marked δ w f
+pub flag-of : (fs : List Fact) (δ : List Attribute) (w : List ℕ) (f : Fact) → isAmong f fs ≡ true → flagIn fs (patternOf fs δ w) f ≡ flagged δ w f
 unfolding patternOf
-mark-of fs δ w f e = mark-numbered fs (marked δ w) f ∙ ap (λ (b : Bool). b && marked δ w f) e
+flag-of fs δ w f e = flag-numbered fs (flagged δ w) f ∙ ap (λ (b : Bool). b && flagged δ w f) e
 
--- Numbers with the same marks for all facts are the same.
-pub numbered-same : (fs : List Fact) (mark mark′ : Fact → Bool) → ((f : Fact) → isAmong f fs ≡ true → mark f ≡ mark′ f)
-    → numbered fs mark ≡ numbered fs mark′
+-- Numbers with the same flags for all facts are the same.
+pub numbered-same : (fs : List Fact) (flag flag′ : Fact → Bool) → ((f : Fact) → isAmong f fs ≡ true → flag f ≡ flag′ f)
+    → numbered fs flag ≡ numbered fs flag′
 unfolding numbered isAmong
-numbered-same [] mark mark′ h = refl
-numbered-same (f ∷ fs) mark mark′ h =
+numbered-same [] flag flag′ h = refl
+numbered-same (f ∷ fs) flag flag′ h =
     rw (
       h f (or-left (sameFact f f) (isAmong f fs) (fact-same f)),
-      numbered-same fs mark mark′ (λ g e. h g (or-right (sameFact g f) (isAmong g fs) e)),
+      numbered-same fs flag flag′ (λ g e. h g (or-right (sameFact g f) (isAmong g fs) e)),
     )
 
 module _ (fs : List Fact) (closed : Closed fs) (δ ε : List Attribute) (u v : List ℕ) where
-  joined-mark : (f : Fact) → isAmong f fs ≡ true → marked (δ ++ ε) (u ++ v) f ≡ joinedMark fs (patternOf fs δ u) (patternOf fs ε v) f
-  joined-mark (present c) e = rw (mark-of fs δ u (present c) e, mark-of fs ε v (present c) e) (in-append c u v)
-  joined-mark (ordered c d) e = rw (
-    mark-of fs δ u (ordered c d) e,
-    mark-of fs ε v (ordered c d) e,
-    mark-of fs δ u (present d) (closed c d e .1),
-    mark-of fs ε v (present c) (closed c d e .0),
+  joined-flag : (f : Fact) → isAmong f fs ≡ true → flagged (δ ++ ε) (u ++ v) f ≡ joinedFlag fs (patternOf fs δ u) (patternOf fs ε v) f
+  joined-flag (present c) e = rw (flag-of fs δ u (present c) e, flag-of fs ε v (present c) e) (in-append c u v)
+  joined-flag (ordered c d) e = rw (
+    flag-of fs δ u (ordered c d) e,
+    flag-of fs ε v (ordered c d) e,
+    flag-of fs δ u (present d) (closed c d e .1),
+    flag-of fs ε v (present c) (closed c d e .0),
   ) (precedes-append u v d c)
-  joined-mark (valued a m) e = rw (mark-of fs δ u (valued a m) e, mark-of fs ε v (valued a m) e) (holds-append δ ε a m)
+  joined-flag (valued a m) e = rw (flag-of fs δ u (valued a m) e, flag-of fs ε v (valued a m) e) (holds-append δ ε a m)
 
   pub pattern-append : patternOf fs (δ ++ ε) (u ++ v) ≡ join fs (patternOf fs δ u) (patternOf fs ε v)
   unfolding patternOf join
-  pattern-append = numbered-same fs (marked (δ ++ ε) (u ++ v)) (joinedMark fs (patternOf fs δ u) (patternOf fs ε v)) joined-mark
+  pattern-append = numbered-same fs (flagged (δ ++ ε) (u ++ v)) (joinedFlag fs (patternOf fs δ u) (patternOf fs ε v)) joined-flag
 
 -- Attributes and contents of an element by themselves, and then joined.
 pub pattern-element : (fs : List Fact) → Closed fs → (δ : List Attribute) (w : List ℕ)
@@ -92,7 +92,7 @@ pattern-element fs closed δ w =
 
 pub pattern-below : (fs : List Fact) (δ : List Attribute) (w : List ℕ) → patternOf fs δ w < 2 ^ length fs
 unfolding patternOf
-pattern-below fs δ w = numbered-below fs (marked δ w)
+pattern-below fs δ w = numbered-below fs (flagged δ w)
 
 truth-by : (fs : List Fact) (δ : List Attribute) (w : List ℕ) (ψ : Formula) → Covers fs ψ
     → truthOf (atomsOf δ w) ψ ≡ truthOf (atomsBy fs (names δ) (patternOf fs δ w)) ψ
@@ -102,9 +102,9 @@ truth-by fs δ w (disj ψ₁ ψ₂) k = ap₂ _||_ (truth-by fs δ w ψ₁ (k .0
 truth-by fs δ w (neg ψ) k = ap not (truth-by fs δ w ψ k)
 truth-by fs δ w truth k = refl
 truth-by fs δ w (attr a) k = refl
-truth-by fs δ w (content c) k = sym (mark-of fs δ w (present c) k)
-truth-by fs δ w (order c d) k = ap not (sym (mark-of fs δ w (ordered c d) k))
-truth-by fs δ w (value a m) k = ap (λ (b : Bool). not (isIn a (names δ)) || b) (sym (mark-of fs δ w (valued a m) k))
+truth-by fs δ w (content c) k = sym (flag-of fs δ w (present c) k)
+truth-by fs δ w (order c d) k = ap not (sym (flag-of fs δ w (ordered c d) k))
+truth-by fs δ w (value a m) k = ap (λ (b : Bool). not (isIn a (names δ)) || b) (sym (flag-of fs δ w (valued a m) k))
 
 -- A clause is true exactly if its pattern makes it true.
 pub truth-of-pattern : (ψ : Formula) (δ : List Attribute) (w : List ℕ)

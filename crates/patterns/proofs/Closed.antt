@@ -2,8 +2,8 @@
 use Prim.Native.Nat.{ℕ}
 use mathlib.Core.Path.{_≡_, refl, sym, ap, _∙_}
 use mathlib.Core.List.{List}
-use mathlib.Core.Bool.{Bool, true, false, _||_}
-use Rattle.pages.specs.Items.{Item, text, gap, element, Items, none, more, one, _⋈_, gapIn, gapInItem}
+use mathlib.Core.Bool.{false, _||_, or-assoc}
+use Rattle.pages.specs.Items.{Item, element, Items, none, more, one, _⋈_, gapIn, gapInItem}
 use Rattle.summaries.specs.Summaries.{Summary}
 use Rattle.summaries.specs.Languages.{Derives, ItemDerives, nothing, item-then, text-stays, gap-takes, element-keeps}
 use Rattle.agreement.proofs.Gaps.{Gapless}
@@ -11,11 +11,7 @@ use Rattle.agreement.proofs.Gaps.{Gapless}
 gap-append : (u v : Items) (g : ℕ) → gapIn (u ⋈ v) g ≡ (gapIn u g || gapIn v g)
 unfolding _⋈_ gapIn
 gap-append none v g = refl
-gap-append (more i u) v g = rw (gap-append u v g) (regroup (gapInItem i g) (gapIn u g) (gapIn v g))
-  where
-    regroup : (p q r : Bool) → (p || (q || r)) ≡ (p || q || r)
-    regroup true q r = refl
-    regroup false q r = refl
+gap-append (more i u) v g = rw (gap-append u v g) (sym (or-assoc (gapInItem i g) (gapIn u g) (gapIn v g)))
 
 gapless-one : (i : Item) (g : ℕ) → gapInItem i g ≡ false → gapIn (one i) g ≡ false
 unfolding gapIn

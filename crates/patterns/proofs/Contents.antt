@@ -2,29 +2,33 @@
 use Prim.Native.Nat.{ℕ, zero, suc, _≤_, _<_}
 use native.Mathlib.Omega.{arith}
 use mathlib.Core.Path.{_≡_, refl, sym, ap, subst, _∙_}
-use mathlib.Core.List.{List, [], _∷_}
-use mathlib.Core.Bool.{Bool, true, false, _&&_, _||_, false≢true}
+use mathlib.Core.List.{List}
+use mathlib.Core.Bool.{Bool, true, false, _&&_, _||_, or-false, false≢true}
 use mathlib.Core.Logic.{_↔_, _⊎_, inl, inr, ⊎-elim}
 use lib.ListN.{length}
 use lib.Dec.{eqb}
 use borrow.Author.Tests.{eqb-true}
 use Rattle.vocabularies.specs.Vocabulary.{isIn}
-use Rattle.pages.specs.Items.{Attribute, Item, text, gap, element, Items, none, more, one, _⋈_}
+use Rattle.pages.specs.Items.{Item, text, element, Items, one, _⋈_}
 use Rattle.pages.specs.RightPages.{word, wordItem, SomeElement, SomeElementOf}
 use Rattle.programs.specs.Program.{templateAt}
 use Rattle.summaries.specs.Proposal.{edge}
 use Rattle.summaries.specs.Summaries.{Summary}
 use Rattle.summaries.specs.Languages.{Derives, ItemDerives, nothing, item-then, text-stays, gap-takes, element-keeps}
 use Rattle.patterns.specs.Given.{Bounded, contents, NamesInRange}
-use Rattle.patterns.specs.Rounds.{Set, Sets, only, anyBelow, anyTemplate, iterate}
+use Rattle.patterns.specs.Rounds.{Set, Sets, iterate}
 use Rattle.patterns.specs.Reached.{Yields, contentsOf, itemContents, contentRound, contentRounds}
 use Rattle.patterns.specs.Exactness.{Occurs, ContentsExact, YieldsExact}
-use Rattle.patterns.proofs.Tests.{or-left, or-right, or-cases, and-both, and-left, and-right, eqb-same, any-below, below-any}
+use Rattle.patterns.proofs.Tests.{or-left, or-right, or-cases, and-both, and-left, and-right, any-below, below-any}
 use Rattle.patterns.proofs.Words.{in-append, word-⋈}
 
 module _ (φs : List Items) (G : Summary) where
-  abbrev ContentsSound : Sets → Type 0
+  -- Contents that stand in pages, and sets of contents that a round does not leave.
+  abbrev pub ContentsSound : Sets → Type 0
   ContentsSound C = (n c : ℕ) → n ≤ length φs → C n c ≡ true → Occurs φs G n (templateAt φs n) c
+
+  abbrev pub ContentsKept : Set → Sets → Type 0
+  ContentsKept Y C = (n c : ℕ) → n ≤ length φs → c < contents → contentRound φs G Y C n c ≡ true → C n c ≡ true
 
 -- A content of items one after the other.
 in-left : (c : ℕ) (u v : Items) → isIn c (word u) ≡ true → isIn c (word (u ⋈ v)) ≡ true
@@ -36,12 +40,9 @@ in-right c u v e = ap (isIn c) (word-⋈ u v) ∙ in-append c (word u) (word v) 
 in-cases : (c : ℕ) (u v : Items) → isIn c (word (u ⋈ v)) ≡ true → (isIn c (word u) ≡ true) ⊎ (isIn c (word v) ≡ true)
 in-cases c u v e = or-cases (isIn c (word u)) (isIn c (word v)) (sym (ap (isIn c) (word-⋈ u v) ∙ in-append c (word u) (word v)) ∙ e)
 
-in-one : (b : Bool) → b ≡ true → (b || false) ≡ true
-in-one b e = or-left b false e
-
+-- Of one content.
 one-in : (b : Bool) → (b || false) ≡ true → b ≡ true
-one-in true e = refl
-one-in false e = e
+one-in b e = sym (or-false b) ∙ e
 
 module _ (φs : List Items) (G : Summary) (named : NamesInRange φs) where
   mutual
@@ -100,38 +101,34 @@ module _ (φs : List Items) (G : Summary) (bounded : Bounded φs G) where
 
       item-occurs-made : {n : ℕ} {i : Item} {u : Items} → ItemDerives φs G n i u → (c : ℕ) → itemContents φs G C n i c ≡ true
           → (u′ : Items) × ItemDerives φs G n i u′ × (isIn c (word u′) ≡ true)
-      item-occurs-made text-stays c e = (one text, text-stays, in-one (eqb c 0) e)
+      item-occurs-made text-stays c e = (one text, text-stays, or-left (eqb c 0) false e)
       item-occurs-made (gap-takes {n = n} {g = g} m e′ d) c e =
           let (m′, h, p) = below-any (suc (length φs)) (λ k. G (edge n g k) && C k c) e in
           let (page, d′, q) = sound m′ c (omega arith) (and-right (G (edge n g m′)) (C m′ c) p) in
           (page, gap-takes m′ (and-left (G (edge n g m′)) (C m′ c) p) d′, q)
       item-occurs-made (element-keeps {e = e′} {mark = mark} {δ′ = δ′} {φ′ = φ′} a d) c e =
-          (one (element e′ mark δ′ φ′), element-keeps a d, in-one (eqb c e′) e)
+          (one (element e′ mark δ′ φ′), element-keeps a d, or-left (eqb c e′) false e)
 
   module _ (Y : Set) (yields : YieldsExact φs G Y) where
-    rounds-sound : (t : ℕ) → ContentsSound φs G (contentRounds φs G Y t)
-    unfolding contentRounds contentRound iterate
-    rounds-sound zero n c h e = absurd (false≢true e)
-    rounds-sound (suc t) n c h e =
-        let (page, d) = yields n h .0 (and-left (Y n) (contentsOf φs G (contentRounds φs G Y t) n (templateAt φs n) c) e) in
-        occurs-made (contentRounds φs G Y t) (rounds-sound t) d c
-        (and-right (Y n) (contentsOf φs G (contentRounds φs G Y t) n (templateAt φs n) c) e)
+    -- From contents that stand in pages a round finds such.
+    pub content-round-sound : (C : Sets) → ContentsSound φs G C → ContentsSound φs G (contentRound φs G Y C)
+    unfolding contentRound
+    content-round-sound C sound n c h e =
+        let (page, d) = yields n h .0 (and-left (Y n) (contentsOf φs G C n (templateAt φs n) c) e) in
+        occurs-made C sound d c (and-right (Y n) (contentsOf φs G C n (templateAt φs n) c) e)
 
-    -- The sets of a round after which nothing changes are exact.
-    pub contents-exact : NamesInRange φs → (t : ℕ)
-        → ((n c : ℕ) → n ≤ length φs → c < contents → contentRounds φs G Y (suc t) n c ≡ contentRounds φs G Y t n c)
-        → ContentsExact φs G (contentRounds φs G Y t)
-    unfolding contentRounds contentRound iterate
-    contents-exact named t settled n c h = (
-      rounds-sound t n c h,
-      λ (page, d, i). complete n c h (page, d) (occurs-found (contentRounds φs G Y t) complete d c i),
-    )
+    -- Contents that stand in pages, to which a round adds none, are all that do.
+    pub contents-exact : NamesInRange φs → (C : Sets) → ContentsSound φs G C → ContentsKept φs G Y C → ContentsExact φs G C
+    unfolding contentRound
+    contents-exact named C sound kept n c h = (sound n c h, λ (page, d, i). complete n c h (page, d) (occurs-found C complete d c i))
       where
-        complete : (m b : ℕ) → m ≤ length φs → Yields φs G m → contentsOf φs G (contentRounds φs G Y t) m (templateAt φs m) b ≡ true
-            → contentRounds φs G Y t m b ≡ true
-        complete m b k y e =
-            let small = occurs-in-range φs G named m b (occurs-made (contentRounds φs G Y t) (rounds-sound t) (y .1) b e) in
-            sym (settled m b k small) ∙ and-both (yields m k .1 y) e
+        complete : (m b : ℕ) → m ≤ length φs → Yields φs G m → contentsOf φs G C m (templateAt φs m) b ≡ true → C m b ≡ true
+        complete m b k y e = kept m b k (occurs-in-range φs G named m b (occurs-made C sound (y .1) b e)) (and-both (yields m k .1 y) e)
+
+    pub content-rounds-sound : (t : ℕ) → ContentsSound φs G (contentRounds φs G Y t)
+    unfolding contentRounds iterate
+    content-rounds-sound zero n c h e = absurd (false≢true e)
+    content-rounds-sound (suc t) n c h e = content-round-sound (contentRounds φs G Y t) (content-rounds-sound t) n c h e
 
   -- From exact sets the contents of any items of a template of which pages come are exact.
   pub items-contents-exact : (C : Sets) → ContentsExact φs G C → (n : ℕ) (φ page : Items) → Derives φs G n φ page

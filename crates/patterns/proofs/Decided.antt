@@ -5,16 +5,14 @@ use Prim.Native.Nat.{ℕ, suc, _≤_, _<_}
 use native.Mathlib.Omega.{arith}
 use mathlib.Core.Path.{_≡_, refl, sym, subst, _∙_}
 use mathlib.Core.List.{List}
-use mathlib.Core.Bool.{Bool, true, false, cond, false≢true, true≢false}
-use mathlib.Core.Option.{Option, some, none}
-use mathlib.Core.Logic.{_↔_, _⊎_, inl, inr, ⊎-elim}
+use mathlib.Core.Bool.{Bool, true, false, cond, false≢true}
+use mathlib.Core.Option.{Option, none}
+use mathlib.Core.Logic.{_↔_, inl, inr}
 use lib.ListN.{length}
 use Rattle.vocabularies.specs.Vocabulary.{Vocabulary}
-use Rattle.pages.specs.Items.{Attribute, Item, text, gap, element, Items, more}
-use Rattle.pages.specs.Items as Items
+use Rattle.pages.specs.Items.{Attribute, Item, Items}
 use Rattle.pages.specs.RightPages.{ElementRight, Accepts, RootAlone, Right, SomeElement, SomeElementOf, WrongAt}
 use Rattle.programs.specs.Program.{templateAt}
-use Rattle.summaries.specs.Proposal.{root}
 use Rattle.summaries.specs.Summaries.{Summary}
 use Rattle.summaries.specs.Languages.{AttributesDerive, Derives, ItemDerives, Language, DerivedFrom, nothing, item-then, text-stays, gap-takes, element-keeps}
 use Rattle.agreement.proofs.Deciding.{Decided, holds, fails}
@@ -22,17 +20,20 @@ use Rattle.agreement.proofs.Roots.{decided-alone}
 use Rattle.agreement.proofs.Gaps.{Gapless}
 use Rattle.agreement.proofs.Pages.{Found, no-wrong, wrong, found, accepts-right}
 use Rattle.patterns.specs.Given.{Bounded, contents, NamesInRange, SoundVocabulary}
-use Rattle.patterns.specs.Reached.{Yields, Reached, CanBe}
+use Rattle.patterns.specs.Reached.{Reached, CanBe}
 use Rattle.patterns.specs.Elements.{wrongElement}
-use Rattle.patterns.specs.Shows.{Least, nowhere, Tables, ExactTables, notRoot, lowestOver, lowestMark, lowestRoot, lowestWrongIn, lowestWrong}
+use Rattle.patterns.specs.Shows.{Least, nowhere, Tables, ExactTables, notRoot, lowestMark, lowestRoot, lowestWrongIn, lowestWrong}
 use Rattle.patterns.proofs.Closed.{derived-gapless}
-use Rattle.patterns.proofs.NotRoot.{OtherPage, not-root-exact}
+use Rattle.patterns.proofs.NotRoot.{not-root-exact}
 use Rattle.patterns.proofs.Standing.{Saying, Made, standing, reached-yields}
 use Rattle.patterns.proofs.Reaching.{reached-there}
 use Rattle.patterns.proofs.WrongElements.{wrong-exact}
 use Rattle.patterns.proofs.Lowest.{least-iff, none-of, least-none, least-test, least-over, least-mark}
 
--- What is said of every element of items is said of some.
+-- An element of this mark that is not right.
+abbrev pub Wrong : Vocabulary → ℕ → Saying
+Wrong D at e mark δ φ = (mark ≡ at) × (ElementRight D e δ φ → ⊥)
+
 module _ (φs : List Items) (G : Summary) where
   -- An element of template n whose gaps can be filled, and whose contents have names in range.
   pub record Fillable (n : ℕ) (δ : List Attribute) (φ : Items) : Type 0 where
@@ -80,10 +81,6 @@ module _ (φs : List Items) (G : Summary) (bounded : Bounded φs G) (named : Nam
           → (i : ℕ) × (i < suc (length φs)) × ((i ≡ r) × (notRoot G (T .kinds) i ≡ true))
       back r h = (r, (let le = bounded .roots r (h .1 .0) in omega arith), (refl, decides r .1 h))
 
-  -- An element of this mark that is not right.
-  abbrev pub Wrong : ℕ → Saying
-  Wrong at e mark δ φ = (mark ≡ at) × (ElementRight D e δ φ → ⊥)
-
   -- An element of template n of this mark that the test finds wrong.
   abbrev Tested : ℕ → ℕ → Saying
   Tested at n e mark δ φ = (mark ≡ at) × (wrongElement φs G (T .clauses) (T .contents) D n e δ φ ≡ true)
@@ -95,17 +92,17 @@ module _ (φs : List Items) (G : Summary) (bounded : Bounded φs G) (named : Nam
       (f .attributes-fill) (f .inside-fills) (f .small) D e
       (λ r p ψ m. (sound .named-only e r ψ p m, exact .clauses e r ψ p m))
 
-  tested-made : (at n e mark : ℕ) (δ : List Attribute) (φ : Items) → Fillable φs G n δ φ → Tested at n e mark δ φ → Made φs G (Wrong at) n e mark δ φ
+  tested-made : (at n e mark : ℕ) (δ : List Attribute) (φ : Items) → Fillable φs G n δ φ → Tested at n e mark δ φ → Made φs G (Wrong D at) n e mark δ φ
   tested-made at n e mark δ φ f (q, t) =
       let (δ′, φ′, a, d, p) = element-decided n e δ φ f .0 t in
       (δ′, φ′, a, d, (q, p))
 
-  made-tested : (at n e mark : ℕ) (δ : List Attribute) (φ : Items) → Fillable φs G n δ φ → Made φs G (Wrong at) n e mark δ φ → Tested at n e mark δ φ
+  made-tested : (at n e mark : ℕ) (δ : List Attribute) (φ : Items) → Fillable φs G n δ φ → Made φs G (Wrong D at) n e mark δ φ → Tested at n e mark δ φ
   made-tested at n e mark δ φ f (δ′, φ′, a, d, (q, p)) = (q, element-decided n e δ φ f .1 (δ′, φ′, a, d, p))
 
   -- The lowest element of a template that is wrong in some page.
   pub lowest-wrong-in : (n : ℕ) → n ≤ length φs
-      → Least (λ at. Reached φs G n × SomeElement (Made φs G (Wrong at) n) (templateAt φs n)) (lowestWrongIn φs G D T n)
+      → Least (λ at. Reached φs G n × SomeElement (Made φs G (Wrong D at) n) (templateAt φs n)) (lowestWrongIn φs G D T n)
   unfolding lowestWrongIn
   lowest-wrong-in n h = go (T .reached n) refl
     where
@@ -113,13 +110,13 @@ module _ (φs : List Items) (G : Summary) (bounded : Bounded φs G) (named : Nam
       test e mark δ φ = wrongElement φs G (T .clauses) (T .contents) D n e δ φ
 
       go : (b : Bool) → T .reached n ≡ b
-          → Least (λ at. Reached φs G n × SomeElement (Made φs G (Wrong at) n) (templateAt φs n)) (cond b (lowestMark test (templateAt φs n)) none)
+          → Least (λ at. Reached φs G n × SomeElement (Made φs G (Wrong D at) n) (templateAt φs n)) (cond b (lowestMark test (templateAt φs n)) none)
       go true e =
           let r : Reached φs G n = exact .reached n h .0 e in
           let (page, d) = reached-yields φs G r in
           least-iff (λ at. (
-            λ s. (r, some-map φs G (Tested at) (Made φs G (Wrong at)) (tested-made at) d (named n) s),
-            λ (r′, s). some-map φs G (Made φs G (Wrong at)) (Tested at) (made-tested at) d (named n) s,
+            λ s. (r, some-map φs G (Tested at) (Made φs G (Wrong D at)) (tested-made at) d (named n) s),
+            λ (r′, s). some-map φs G (Made φs G (Wrong D at)) (Tested at) (made-tested at) d (named n) s,
           ))
           (least-mark test (templateAt φs n))
       go false e = nowhere (λ at (r, s). false≢true (sym e ∙ exact .reached n h .1 r))
@@ -128,17 +125,17 @@ module _ (φs : List Items) (G : Summary) (bounded : Bounded φs G) (named : Nam
   pub lowest-wrong : Least (λ at. (page : Items) × Language φs G page × WrongAt D at page) (lowestWrong φs G D T)
   unfolding lowestWrong WrongAt
   lowest-wrong = least-iff (λ at. (to at, back at))
-      (least-over (suc (length φs)) (λ n at. Reached φs G n × SomeElement (Made φs G (Wrong at) n) (templateAt φs n)) (lowestWrongIn φs G D T)
+      (least-over (suc (length φs)) (λ n at. Reached φs G n × SomeElement (Made φs G (Wrong D at) n) (templateAt φs n)) (lowestWrongIn φs G D T)
       (λ n h. lowest-wrong-in n (omega arith)))
     where
-      to : (at : ℕ) → (n : ℕ) × (n < suc (length φs)) × (Reached φs G n × SomeElement (Made φs G (Wrong at) n) (templateAt φs n))
-          → (page : Items) × Language φs G page × SomeElement (Wrong at) page
-      to at (n, h, (r, s)) = standing φs G (Wrong at) .1 (n, r, s)
+      to : (at : ℕ) → (n : ℕ) × (n < suc (length φs)) × (Reached φs G n × SomeElement (Made φs G (Wrong D at) n) (templateAt φs n))
+          → (page : Items) × Language φs G page × SomeElement (Wrong D at) page
+      to at (n, h, (r, s)) = standing φs G (Wrong D at) .1 (n, r, s)
 
-      back : (at : ℕ) → (page : Items) × Language φs G page × SomeElement (Wrong at) page
-          → (n : ℕ) × (n < suc (length φs)) × (Reached φs G n × SomeElement (Made φs G (Wrong at) n) (templateAt φs n))
+      back : (at : ℕ) → (page : Items) × Language φs G page × SomeElement (Wrong D at) page
+          → (n : ℕ) × (n < suc (length φs)) × (Reached φs G n × SomeElement (Made φs G (Wrong D at) n) (templateAt φs n))
       back at w =
-          let (n, r, s) = standing φs G (Wrong at) .0 w in
+          let (n, r, s) = standing φs G (Wrong D at) .0 w in
           (n, (let le = reached-there φs G bounded r in omega arith), (r, s))
 
   -- Every page of the language is right if and only if no root gives 11 and no element is wrong.

@@ -1,32 +1,32 @@
 -- The patterns of an element are exact: each is that of some choice of strings for its attributes and of some contents, and a clause
 -- can fail exactly if it fails for one of them. All strings outside the named ones give an attribute the same pattern.
-use Prim.Native.Nat.{ℕ, suc, _≤_, _<_, _^_}
+use Prim.Native.Nat.{ℕ, suc, _≤_, _^_}
 use native.Mathlib.Omega.{arith}
 use mathlib.Core.Path.{_≡_, refl, sym, ap, ap₂, subst, _∙_}
-use mathlib.Core.List.{List, [], _∷_, _++_}
-use mathlib.Core.Bool.{Bool, true, false, not, _&&_, _||_, true≢false, false≢true}
-use mathlib.Core.Logic.{_↔_, _⊎_, inl, inr, ⊎-elim}
+use mathlib.Core.List.{List, [], _∷_}
+use mathlib.Core.Bool.{Bool, true, false, not, _&&_, true≢false, false≢true}
+use mathlib.Core.Logic.{_↔_, ⊎-elim}
 use lib.ListN.{length}
-use lib.Dec.{eqb, ltb}
-use borrow.Author.Tests.{eqb-true, eq-eqb, ltb-true, ltb-false, not-true}
+use lib.Dec.{eqb}
+use borrow.Author.Tests.{eqb-true, not-true}
 use Rattle.sets.specs.Sets.{member}
 use Rattle.commands.specs.Commands.{strings}
-use Rattle.vocabularies.specs.Vocabulary.{Formula, conj, disj, neg, truth, attr, content, order, value, isIn}
+use Rattle.vocabularies.specs.Vocabulary.{Formula, conj, disj, neg, truth, attr, content, order, value}
 use Rattle.vocabularies.specs.Facts.{Fact, present, ordered, valued, isAmong, add, withFacts, factsOf}
 use Rattle.pages.specs.Items.{Value, string, open-gap, Attribute, Items}
 use Rattle.pages.specs.RightPages.{names, word}
-use Rattle.judging.specs.Judgement.{truthOf, precedes, hasString, holdsValue, atomsOf}
+use Rattle.judging.specs.Judgement.{truthOf, holdsValue, atomsOf}
 use Rattle.summaries.specs.Proposal as Proposal
 use Rattle.summaries.specs.Summaries.{Summary}
-use Rattle.summaries.specs.Languages.{AttributesDerive, no-attribute, fixed, filled, Derives}
-use Rattle.patterns.specs.Patterns.{marked, patternOf, join, atomsBy}
-use Rattle.patterns.specs.Readings.{factReading}
+use Rattle.summaries.specs.Languages.{AttributesDerive, no-attribute, fixed, filled}
+use Rattle.patterns.specs.Patterns.{flagged, patternOf, join, atomsBy}
+use Rattle.patterns.specs.Morphisms.{factMorphism}
 use Rattle.patterns.specs.Given.{Bounded, NamedOnly}
-use Rattle.patterns.specs.Rounds.{Set, Sets, only, anyBelow, anyNamed, product, patterns}
+use Rattle.patterns.specs.Rounds.{Sets, only, anyBelow, patterns}
 use Rattle.patterns.specs.Reached.{CanBe}
 use Rattle.patterns.specs.Elements.{attributePattern, valuePatterns, attributePatterns, elementPatterns, clauseFails}
 use Rattle.patterns.specs.Exactness.{Exact}
-use Rattle.patterns.proofs.Tests.{or-left, or-right, or-cases, and-both, and-left, and-right, either, eqb-same, any-below, below-any}
+use Rattle.patterns.proofs.Tests.{and-both, and-left, and-right, eqb-same, any-below, below-any}
 use Rattle.patterns.proofs.Facts.{Closed, facts-closed, among-add-cases}
 use Rattle.patterns.proofs.Clauses.{numbered-same, pattern-append, pattern-element, pattern-below, truth-of-pattern}
 use Rattle.patterns.proofs.Lawful.{clause-lawful}
@@ -68,12 +68,12 @@ facts-named ψ k = named-with ψ [] k (λ a m e. absurd (false≢true e))
 -- All strings outside the named ones share one pattern.
 pub others-share : (fs : List Fact) → NamedSets fs → (a s : ℕ) → strings ≤ s → attributePattern fs a s ≡ attributePattern fs a strings
 unfolding patternOf holdsValue
-others-share fs named a s h = numbered-same fs (marked (one s) []) (marked (one strings) []) each
+others-share fs named a s h = numbered-same fs (flagged (one s) []) (flagged (one strings) []) each
   where
     one : ℕ → List Attribute
     one t = record { name = a; value = string t } ∷ []
 
-    each : (f : Fact) → isAmong f fs ≡ true → marked (one s) [] f ≡ marked (one strings) [] f
+    each : (f : Fact) → isAmong f fs ≡ true → flagged (one s) [] f ≡ flagged (one strings) [] f
     each (present c) e = refl
     each (ordered c d) e = refl
     each (valued b m) e = rw (named b m e s h, named b m e strings (omega arith))
@@ -92,12 +92,12 @@ module _ (φs : List Items) (G : Summary) (bounded : Bounded φs G) (fs : List F
   unfolding attributePatterns
   attributes-found no-attribute = eqb-same (patternOf fs [] [])
   attributes-found {n} (fixed {a = a} {s = s} {δ = δ} {δ′ = δ′} d) =
-      in-product (factReading fs) (valuePatterns G fs n a (string s)) (attributePatterns G fs n δ) (attributePattern fs a s) (patternOf fs δ′ [])
+      in-product (factMorphism fs) (valuePatterns G fs n a (string s)) (attributePatterns G fs n δ) (attributePattern fs a s) (patternOf fs δ′ [])
       (patternOf fs (record { name = a; value = string s } ∷ δ′) [])
       (pattern-below fs (record { name = a; value = string s } ∷ []) []) (pattern-below fs δ′ [])
       (eqb-same (attributePattern fs a s)) (attributes-found d) (attribute-then (record { name = a; value = string s }) δ′)
   attributes-found {n} (filled {a = a} {h = h} {δ = δ} {δ′ = δ′} s e d) =
-      in-product (factReading fs) (valuePatterns G fs n a (open-gap h)) (attributePatterns G fs n δ) (attributePattern fs a s) (patternOf fs δ′ [])
+      in-product (factMorphism fs) (valuePatterns G fs n a (open-gap h)) (attributePatterns G fs n δ) (attributePattern fs a s) (patternOf fs δ′ [])
       (patternOf fs (record { name = a; value = string s } ∷ δ′) [])
       (pattern-below fs (record { name = a; value = string s } ∷ []) []) (pattern-below fs δ′ [])
       (string-found n a h s e) (attributes-found d) (attribute-then (record { name = a; value = string s }) δ′)
@@ -125,7 +125,7 @@ module _ (φs : List Items) (G : Summary) (bounded : Bounded φs G) (fs : List F
   unfolding attributePatterns AttributesMade
   attributes-made n [] x e = ([], no-attribute, sym (eqb-true x (patternOf fs [] []) e))
   attributes-made n (a ∷ δ) x e =
-      let f = factors (factReading fs) (valuePatterns G fs n (a .name) (a .value)) (attributePatterns G fs n δ) x e in
+      let f = factors (factMorphism fs) (valuePatterns G fs n (a .name) (a .value)) (attributePatterns G fs n δ) x e in
       let (δ′, d, p) = value-made n (a .name) (a .value) δ (f .first) (f .second) (f .in-first) (attributes-made n δ (f .second) (f .in-second)) in
       (δ′, d, p ∙ sym (f .joined))
 
@@ -142,25 +142,25 @@ names-kept φs G (fixed {a = a} d) = ap (λ (ns : List ℕ). a ∷ ns) (names-ke
 names-kept φs G (filled {a = a} s e d) = ap (λ (ns : List ℕ). a ∷ ns) (names-kept φs G d)
 
 module _ (φs : List Items) (G : Summary) (bounded : Bounded φs G) (ψ : Formula) (named : NamedOnly ψ)
-    (X : Sets) (exact : Exact φs G (factReading (factsOf ψ)) X) where
+    (X : Sets) (exact : Exact φs G (factMorphism (factsOf ψ)) X) where
   -- Some filling of an element has pattern x.
   abbrev HasPattern : ℕ → List Attribute → Items → ℕ → Type 0
   HasPattern n δ φ x = CanBe φs G n δ φ (λ δ′ φ′. patternOf (factsOf ψ) δ′ (word φ′) ≡ x)
 
   pattern-made : (n : ℕ) (δ : List Attribute) (φ : Items) (x : ℕ) → elementPatterns φs G (factsOf ψ) X n δ φ x ≡ true → HasPattern n δ φ x
   pattern-made n δ φ x e =
-      let f = factors (factReading (factsOf ψ)) (attributePatterns G (factsOf ψ) n δ) (patterns φs G (factReading (factsOf ψ)) X n φ) x e in
+      let f = factors (factMorphism (factsOf ψ)) (attributePatterns G (factsOf ψ) n δ) (patterns φs G (factMorphism (factsOf ψ)) X n φ) x e in
       let (δ′, a, p) = attributes-exact φs G bounded (factsOf ψ) (facts-closed ψ) (facts-named ψ named) n δ (f .first) .0 (f .in-first) in
-      let (φ′, d, q) = contents-exact φs G bounded (factReading (factsOf ψ)) (clause-lawful ψ) X exact n φ (f .second) .0 (f .in-second) in
+      let (φ′, d, q) = contents-exact φs G bounded (factMorphism (factsOf ψ)) (clause-lawful ψ) X exact n φ (f .second) .0 (f .in-second) in
       (δ′, φ′, a, d, pattern-element (factsOf ψ) (facts-closed ψ) δ′ (word φ′) ∙ ap₂ (join (factsOf ψ)) p q ∙ sym (f .joined))
 
   pattern-found : (n : ℕ) (δ : List Attribute) (φ : Items) (x : ℕ) → HasPattern n δ φ x → elementPatterns φs G (factsOf ψ) X n δ φ x ≡ true
   pattern-found n δ φ x (δ′, φ′, a, d, p) =
-      in-product (factReading (factsOf ψ)) (attributePatterns G (factsOf ψ) n δ) (patterns φs G (factReading (factsOf ψ)) X n φ)
+      in-product (factMorphism (factsOf ψ)) (attributePatterns G (factsOf ψ) n δ) (patterns φs G (factMorphism (factsOf ψ)) X n φ)
       (patternOf (factsOf ψ) δ′ []) (patternOf (factsOf ψ) [] (word φ′)) x
       (pattern-below (factsOf ψ) δ′ []) (pattern-below (factsOf ψ) [] (word φ′))
       (attributes-exact φs G bounded (factsOf ψ) (facts-closed ψ) (facts-named ψ named) n δ (patternOf (factsOf ψ) δ′ []) .1 (δ′, a, refl))
-      (contents-exact φs G bounded (factReading (factsOf ψ)) (clause-lawful ψ) X exact n φ (patternOf (factsOf ψ) [] (word φ′)) .1 (φ′, d, refl))
+      (contents-exact φs G bounded (factMorphism (factsOf ψ)) (clause-lawful ψ) X exact n φ (patternOf (factsOf ψ) [] (word φ′)) .1 (φ′, d, refl))
       (sym p ∙ pattern-element (factsOf ψ) (facts-closed ψ) δ′ (word φ′))
 
   -- The patterns of an element are those of its attributes and contents, filled in any way.

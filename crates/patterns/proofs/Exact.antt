@@ -6,27 +6,26 @@ use Prim.Native.Nat.{ℕ, zero, suc, _≤_, _<_}
 use native.Mathlib.Omega.{arith}
 use mathlib.Core.Path.{_≡_, refl, sym, ap, ap₂, _∙_}
 use mathlib.Core.List.{List, [], _∷_}
-use mathlib.Core.Bool.{Bool, true, false, _&&_, false≢true}
+use mathlib.Core.Bool.{true, _&&_, false≢true}
 use mathlib.Core.Logic.{_↔_}
 use lib.ListN.{length}
-use lib.Dec.{eqb}
 use borrow.Author.Tests.{eqb-true, eq-eqb}
-use Rattle.pages.specs.Items.{Attribute, Item, text, gap, element, Items, none, more, one, _⋈_}
+use Rattle.pages.specs.Items.{Item, text, gap, element, Items, none, more, one, _⋈_}
 use Rattle.pages.specs.RightPages.{word}
 use Rattle.programs.specs.Program.{templateAt}
 use Rattle.summaries.specs.Proposal.{edge}
 use Rattle.summaries.specs.Summaries.{Summary}
 use Rattle.summaries.specs.Languages.{Derives, ItemDerives, nothing, item-then, text-stays, gap-takes, element-keeps}
-use Rattle.patterns.specs.Readings.{Reading}
+use Rattle.patterns.specs.Morphisms.{Morphism}
 use Rattle.patterns.specs.Given.{Bounded}
-use Rattle.patterns.specs.Rounds.{Set, Sets, only, anyBelow, iterate, attributesTake, gapTakes, allTake, itemTakes, product, patterns, itemPatterns, round, rounds, Settled}
+use Rattle.patterns.specs.Rounds.{Set, Sets, only, anyBelow, iterate, attributesTake, allTake, itemTakes, product, patterns, itemPatterns, round, rounds, Settled}
 use Rattle.patterns.specs.Exactness.{Derivable, Exact}
 use Rattle.patterns.proofs.Tests.{and-both, and-left, and-right, eqb-same, any-below, below-any}
 use Rattle.patterns.proofs.Words.{word-⋈}
 use Rattle.patterns.proofs.Lawful.{Lawful}
 use Rattle.patterns.proofs.Attributes.{filled-take, take-filled}
 
-module _ (φs : List Items) (G : Summary) (R : Reading) where
+module _ (φs : List Items) (G : Summary) (R : Morphism) where
   -- Sets that a round does not leave, and sets that hold only derived patterns.
   abbrev pub Kept : Sets → Type 0
   Kept X = (n x : ℕ) → n ≤ length φs → round φs G R X n x ≡ true → X n x ≡ true
@@ -35,12 +34,12 @@ module _ (φs : List Items) (G : Summary) (R : Reading) where
   Sound X = (n x : ℕ) → n ≤ length φs → X n x ≡ true → Derivable φs G R n (templateAt φs n) x
 
 -- Members of a product.
-pub in-product : (R : Reading) (A B : Set) (x y z : ℕ) → x < R .size → y < R .size → A x ≡ true → B y ≡ true → z ≡ R .op x y
+pub in-product : (R : Morphism) (A B : Set) (x y z : ℕ) → x < R .size → y < R .size → A x ≡ true → B y ≡ true → z ≡ R .op x y
     → product R A B z ≡ true
 in-product R A B x y z hx hy a b e = any-below (R .size) (λ x′. A x′ && anyBelow (R .size) (λ y′. B y′ && only (R .op x′ y′) z)) x hx
     (and-both a (any-below (R .size) (λ y′. B y′ && only (R .op x y′) z) y hy (and-both b (eq-eqb z (R .op x y) e))))
 
-pub record Factors (R : Reading) (A B : Set) (z : ℕ) : Type 0 where
+pub record Factors (R : Morphism) (A B : Set) (z : ℕ) : Type 0 where
   pub first : ℕ
   pub second : ℕ
   pub first-below : first < R .size
@@ -49,7 +48,7 @@ pub record Factors (R : Reading) (A B : Set) (z : ℕ) : Type 0 where
   pub in-second : B second ≡ true
   pub joined : z ≡ R .op first second
 
-pub factors : (R : Reading) (A B : Set) (z : ℕ) → product R A B z ≡ true → Factors R A B z
+pub factors : (R : Morphism) (A B : Set) (z : ℕ) → product R A B z ≡ true → Factors R A B z
 factors R A B z e =
     let (x, hx, p) = below-any (R .size) (λ x′. A x′ && anyBelow (R .size) (λ y′. B y′ && only (R .op x′ y′) z)) e in
     let (y, hy, q) = below-any (R .size) (λ y′. B y′ && only (R .op x y′) z)
@@ -64,7 +63,7 @@ factors R A B z e =
       joined = eqb-true z (R .op x y) (and-right (B y) (only (R .op x y) z) q);
     }
 
-module _ (φs : List Items) (G : Summary) (bounded : Bounded φs G) (R : Reading) (lawful : Lawful R) where
+module _ (φs : List Items) (G : Summary) (bounded : Bounded φs G) (R : Morphism) (lawful : Lawful R) where
   -- Where there is a pattern, every gap has something to take.
   mutual
     unfolding patterns allTake
@@ -158,28 +157,29 @@ module _ (φs : List Items) (G : Summary) (bounded : Bounded φs G) (R : Reading
             sym (eqb-true x (R .of (e′ ∷ [])) (and-right (attributesTake G n δ && allTake φs G R X n φ) (only (R .of (e′ ∷ [])) x) e)),
           )
 
-  -- Every pattern of a round is that of a page that is derived.
+  -- From derived patterns a round works out derived ones; so every pattern of every round is derived.
+  pub round-sound : (X : Sets) → Sound φs G R X → Sound φs G R (round φs G R X)
+  unfolding round
+  round-sound X sound n x h e = made X sound (templateAt φs n) n x e
+
   pub rounds-sound : (t : ℕ) → Sound φs G R (rounds φs G R t)
-  unfolding rounds round iterate
+  unfolding rounds iterate
   rounds-sound zero n x h e = absurd (false≢true e)
-  rounds-sound (suc t) n x h e = made (rounds φs G R t) (rounds-sound t) (templateAt φs n) n x e
+  rounds-sound (suc t) n x h e = round-sound (rounds φs G R t) (rounds-sound t) n x h e
+
+  -- Derived patterns, to which a round adds none, are all that there are.
+  pub exact-of : (X : Sets) → Sound φs G R X → Kept φs G R X → Exact φs G R X
+  unfolding round
+  exact-of X sound kept n x h = (sound n x h, λ (page, d, p). kept n x h (rw (← p) (found X kept d)))
 
   settled-kept : (X : Sets) → Sound φs G R X → Settled φs G R X → Kept φs G R X
-  unfolding round
   settled-kept X sound settled n x h e =
-      let (page, d, p) = made X sound (templateAt φs n) n x e in
+      let (page, d, p) = round-sound X sound n x h e in
       sym (settled n x h (rw (← p) (lawful .below (word page)))) ∙ e
 
   -- The sets of a round after which nothing changes are exact.
   pub exact : (t : ℕ) → Settled φs G R (rounds φs G R t) → Exact φs G R (rounds φs G R t)
-  unfolding round
-  exact t settled n x h = (
-    rounds-sound t n x h,
-    λ (page, d, p). kept n x h (rw (← p) (found (rounds φs G R t) kept d)),
-  )
-    where
-      kept : Kept φs G R (rounds φs G R t)
-      kept = settled-kept (rounds φs G R t) (rounds-sound t) settled
+  exact t settled = exact-of (rounds φs G R t) (rounds-sound t) (settled-kept (rounds φs G R t) (rounds-sound t) settled)
 
   -- From exact sets the patterns of any items of a template are exact, as of the contents of an element in it.
   pub contents-exact : (X : Sets) → Exact φs G R X → (n : ℕ) (φ : Items) (x : ℕ) → patterns φs G R X n φ x ≡ true ↔ Derivable φs G R n φ x

@@ -1,24 +1,24 @@
--- The three readings keep what a reading says of itself: patterns lie below the size, and are joined as the words are.
-use Prim.Native.Nat.{ℕ, _<_, _^_}
+-- Both morphisms keep what one says of itself: patterns lie below the size, and are joined as the words are.
+use Prim.Native.Nat.{ℕ, _<_}
 use native.Mathlib.Omega.{arith}
-use mathlib.Core.Path.{_≡_, refl, sym, ap}
+use mathlib.Core.Path.{_≡_, refl}
 use mathlib.Core.List.{List, [], _∷_, _++_}
 use mathlib.Core.Bool.{Bool, true, false, cond}
 use lib.Dec.{eqb}
 use Rattle.vocabularies.specs.Vocabulary.{Formula}
 use Rattle.vocabularies.specs.Facts.{Fact, factsOf}
-use Rattle.patterns.specs.Readings.{Reading, factReading, rootReading, pageReading, kindOf, joinKinds, empty, alone, other}
+use Rattle.patterns.specs.Morphisms.{Morphism, factMorphism, rootMorphism, kindOf, joinKinds, empty, alone, other}
 use Rattle.patterns.proofs.Facts.{Closed, facts-closed}
 use Rattle.patterns.proofs.Clauses.{pattern-append, pattern-below}
 
-pub record Lawful (R : Reading) : Type 0 where
+pub record Lawful (R : Morphism) : Type 0 where
   pub below : (w : List ℕ) → R .of w < R .size
   pub joins : (u v : List ℕ) → R .of (u ++ v) ≡ R .op (R .of u) (R .of v)
 
-pub facts-lawful : (fs : List Fact) → Closed fs → Lawful (factReading fs)
+pub facts-lawful : (fs : List Fact) → Closed fs → Lawful (factMorphism fs)
 facts-lawful fs closed = record { below = pattern-below fs []; joins = pattern-append fs closed [] [] }
 
-pub clause-lawful : (ψ : Formula) → Lawful (factReading (factsOf ψ))
+pub clause-lawful : (ψ : Formula) → Lawful (factMorphism (factsOf ψ))
 clause-lawful ψ = facts-lawful (factsOf ψ) (facts-closed ψ)
 
 kind-below : (root : ℕ) (w : List ℕ) → kindOf root w < 3
@@ -57,8 +57,5 @@ kinds-join root (c ∷ c′ ∷ u) v = go (eqb (kindOf root v) empty)
     go true = refl
     go false = refl
 
-pub root-lawful : (root : ℕ) → Lawful (rootReading root)
+pub root-lawful : (root : ℕ) → Lawful (rootMorphism root)
 root-lawful root = record { below = kind-below root; joins = kinds-join root }
-
-pub page-lawful : Lawful pageReading
-page-lawful = record { below = λ w. omega arith; joins = λ u v. refl }

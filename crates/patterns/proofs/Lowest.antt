@@ -1,9 +1,9 @@
 -- Lowest numbers: of two sorts, over a range, and of the marks of elements.
 use Prim.Native.Nat.{ℕ, zero, suc, _≤_, _<_}
 use native.Mathlib.Omega.{arith}
-use mathlib.Core.Path.{_≡_, refl, sym, subst}
+use mathlib.Core.Path.{_≡_, refl, ap, subst}
 use mathlib.Core.List.{List}
-use mathlib.Core.Bool.{Bool, true, false, cond, true≢false, false≢true}
+use mathlib.Core.Bool.{Bool, true, false, cond, _||_, false≢true}
 use mathlib.Core.Option.{Option, some, none}
 use mathlib.Core.Logic.{_↔_, _⊎_, inl, inr, ⊎-elim}
 use lib.Dec.{leb, eqb}
@@ -11,8 +11,9 @@ use borrow.Author.Tests.{leb-true, leb-false, eqb-true, eqb-false}
 use Rattle.pages.specs.Items.{Attribute, Item, text, gap, element, Items, more}
 use Rattle.pages.specs.Items as Items
 use Rattle.pages.specs.RightPages.{SomeElement, SomeElementOf}
-use Rattle.patterns.specs.Shows.{Least, nowhere, least, lower, only-if, lowestOver, lowestMark, lowestMarkIn}
-use Rattle.patterns.proofs.Tests.{either}
+use Rattle.patterns.specs.Shows.{Least, nowhere, least, lower, onlyIf, lowestOver, lowestMark, lowestMarkIn}
+use Rattle.patterns.proofs.Tests.{or-left, or-right, or-cases, either}
+use Rattle.patterns.proofs.Standing.{some-into, some-either}
 
 pub least-iff : {P Q : ℕ → Type 0} {o : Option ℕ} → ((n : ℕ) → P n ↔ Q n) → Least P o → Least Q o
 least-iff h (nowhere k) = nowhere (λ n q. k n (h n .1 q))
@@ -31,8 +32,15 @@ pub least-none : {P : ℕ → Type 0} {o : Option ℕ} → Least P o → ((n : �
 least-none (nowhere k) h = refl
 least-none (least {n = n} p k) h = absurd (h n p)
 
+-- There is one lowest number.
+pub least-unique : {P : ℕ → Type 0} {a b : Option ℕ} → Least P a → Least P b → a ≡ b
+least-unique (nowhere h) (nowhere k) = refl
+least-unique (nowhere h) (least {n = n} p k) = absurd (h n p)
+least-unique (least {n = n} p h) (nowhere k) = absurd (k n p)
+least-unique (least {n = n} p h) (least {n = m} q k) = let same : n ≡ m = omega (arith, h m q, k n p) in ap some same
+
 -- One number under a test.
-pub least-test : (b : Bool) (n : ℕ) → Least (λ m. (n ≡ m) × (b ≡ true)) (only-if b n)
+pub least-test : (b : Bool) (n : ℕ) → Least (λ m. (n ≡ m) × (b ≡ true)) (onlyIf b n)
 least-test true n = least {n = n} (refl, refl) (λ m h. let e = h .0 in omega arith)
 least-test false n = nowhere (λ m h. false≢true (h .1))
 
@@ -80,3 +88,20 @@ module _ (p : ℕ → ℕ → List Attribute → Items → Bool) where
     least-mark-in text = nowhere (λ n h. h)
     least-mark-in (gap g) = nowhere (λ n h. h)
     least-mark-in (element e mark δ φ) = least-lower (least-test (p e mark δ φ) mark) (least-mark φ)
+
+-- The lowest mark for two tests is the lower of the two lowest: tests may be made one after the other, clause by clause.
+pub mark-either : (p q : ℕ → ℕ → List Attribute → Items → Bool) (φ : Items)
+    → lowestMark (λ e mark δ χ. p e mark δ χ || q e mark δ χ) φ ≡ lower (lowestMark p φ) (lowestMark q φ)
+mark-either p q φ = least-unique (least-mark (λ e mark δ χ. p e mark δ χ || q e mark δ χ) φ)
+    (least-iff (λ at. (
+      ⊎-elim
+          (some-into (λ e mark δ χ. (mark ≡ at) × (p e mark δ χ ≡ true)) (λ e mark δ χ. (mark ≡ at) × ((p e mark δ χ || q e mark δ χ) ≡ true))
+          (λ e mark δ χ h. (h .0, or-left (p e mark δ χ) (q e mark δ χ) (h .1))) φ)
+          (some-into (λ e mark δ χ. (mark ≡ at) × (q e mark δ χ ≡ true)) (λ e mark δ χ. (mark ≡ at) × ((p e mark δ χ || q e mark δ χ) ≡ true))
+          (λ e mark δ χ h. (h .0, or-right (p e mark δ χ) (q e mark δ χ) (h .1))) φ),
+      λ s. some-either (λ e mark δ χ. (mark ≡ at) × (p e mark δ χ ≡ true)) (λ e mark δ χ. (mark ≡ at) × (q e mark δ χ ≡ true)) φ
+          (some-into (λ e mark δ χ. (mark ≡ at) × ((p e mark δ χ || q e mark δ χ) ≡ true))
+          (λ e mark δ χ. ((mark ≡ at) × (p e mark δ χ ≡ true)) ⊎ ((mark ≡ at) × (q e mark δ χ ≡ true)))
+          (λ e mark δ χ h. ⊎-elim (λ t. inl (h .0, t)) (λ t. inr (h .0, t)) (or-cases (p e mark δ χ) (q e mark δ χ) (h .1))) φ s),
+    ))
+    (least-lower (least-mark p φ) (least-mark q φ)))

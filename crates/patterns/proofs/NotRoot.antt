@@ -1,13 +1,13 @@
 -- Verdict 11 is decided by kinds: some page of a root template is not exactly the root element if and only if the template's set has
 -- the kind "empty" or the kind "other".
-use Prim.Native.Nat.{ℕ, zero, suc, _≤_, _<_}
+use Prim.Native.Nat.{ℕ, zero, suc, _<_}
 use native.Mathlib.Omega.{arith}
 use mathlib.Core.Path.{_≡_, refl, sym, ap, subst, _∙_}
 use mathlib.Core.List.{List, [], _∷_}
-use mathlib.Core.Bool.{Bool, true, false, cond, _&&_, _||_, true≢false, false≢true}
+use mathlib.Core.Bool.{Bool, true, false, cond, _||_, and-true, and-false, true≢false}
 use mathlib.Core.Logic.{_↔_, _⊎_, inl, inr, ⊎-elim}
 use lib.Dec.{eqb}
-use borrow.Author.Tests.{eqb-true, eqb-false, ne-eqb}
+use borrow.Author.Tests.{ne-eqb}
 use Rattle.vocabularies.specs.Vocabulary.{Vocabulary}
 use Rattle.pages.specs.Items.{Item, text, gap, element, Items, none, more, gapIn, gapInItem}
 use Rattle.pages.specs.RightPages.{word, wordItem, RootAlone}
@@ -18,13 +18,13 @@ use Rattle.summaries.specs.Languages.{DerivedFrom}
 use Rattle.agreement.proofs.Deciding.{false-iff}
 use Rattle.agreement.proofs.Gaps.{Gapless}
 use Rattle.agreement.proofs.Roots.{decided-alone}
-use Rattle.patterns.specs.Readings.{rootReading, kindOf, empty, alone, other}
+use Rattle.patterns.specs.Morphisms.{rootMorphism, kindOf, empty, alone, other}
 use Rattle.patterns.specs.Given.{Bounded}
 use Rattle.patterns.specs.Rounds.{Sets}
 use Rattle.patterns.specs.Exactness.{Exact}
 use Rattle.patterns.specs.Shows.{notRoot}
-use Rattle.patterns.proofs.Tests.{or-left, or-right, or-cases, and-both, and-left, and-right, either, eqb-same}
-use Rattle.patterns.proofs.Lawful.{Lawful, root-lawful}
+use Rattle.patterns.proofs.Tests.{or-left, or-right, or-cases, and-both, and-left, and-right, eqb-same}
+use Rattle.patterns.proofs.Lawful.{root-lawful}
 use Rattle.patterns.proofs.Closed.{derived-gapless}
 
 -- A gap is a gap.
@@ -55,14 +55,6 @@ one-content top c = go (eqb c top)
     go true = refl
     go false = refl
 
-and-no : (b : Bool) → (b && false) ≡ false
-and-no true = refl
-and-no false = refl
-
-and-yes : (b : Bool) → (b && true) ≡ b
-and-yes true = refl
-and-yes false = refl
-
 -- Of a page without gaps the kind tells whether it is exactly the root element.
 pub kind-alone : (top : ℕ) → (top ≡ 0 → ⊥) → (φ : Items) → Gapless φ → isAlone top φ ≡ eqb (kindOf top (word φ)) alone
 unfolding word wordItem kindOf
@@ -71,9 +63,9 @@ kind-alone top pos (more text none) h = sym (one-content top 0 ∙ ne-eqb 0 top 
 kind-alone top pos (more text (more j φ)) h =
     ap (λ (k : ℕ). eqb k alone) (sym (two-contents top 0 j φ (rest-gapless text (more j φ) h)))
 kind-alone top pos (more (gap g) φ) h = absurd (true≢false (sym (gap-found g φ) ∙ h g))
-kind-alone top pos (more (element e mark δ χ) none) h = and-yes (eqb e top) ∙ sym (one-content top e)
+kind-alone top pos (more (element e mark δ χ) none) h = and-true (eqb e top) ∙ sym (one-content top e)
 kind-alone top pos (more (element e mark δ χ) (more j φ)) h =
-    and-no (eqb e top) ∙ ap (λ (k : ℕ). eqb k alone) (sym (two-contents top e j φ (rest-gapless (element e mark δ χ) (more j φ) h)))
+    and-false (eqb e top) ∙ ap (λ (k : ℕ). eqb k alone) (sym (two-contents top e j φ (rest-gapless (element e mark δ χ) (more j φ) h)))
 
 not-alone : (k : ℕ) → k < 3 → eqb k alone ≡ false → (k ≡ empty) ⊎ (k ≡ other)
 not-alone zero h e = inl refl
@@ -82,7 +74,7 @@ not-alone (suc (suc zero)) h e = inr refl
 not-alone (suc (suc (suc k))) h e = absurd (omega arith)
 
 module _ (φs : List Items) (G : Summary) (bounded : Bounded φs G) (D : Vocabulary) (pos : D .root ≡ 0 → ⊥)
-    (K : Sets) (exact : Exact φs G (rootReading (D .root)) K) where
+    (K : Sets) (exact : Exact φs G (rootMorphism (D .root)) K) where
   -- A page of a root that is not exactly the root element.
   abbrev pub OtherPage : ℕ → Type 0
   OtherPage r = (page : Items) × DerivedFrom φs G r page × (RootAlone D page → ⊥)

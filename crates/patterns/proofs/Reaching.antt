@@ -1,20 +1,18 @@
--- The templates from which pages come, and those that are reached: the tests are exact, for any reading's sets and for the sets of
--- a round after which nothing changes.
-use Prim.Native.Nat.{ℕ, zero, suc, _≤_, _<_}
+-- The templates from which pages come, and those that are reached: the tests are exact.
+use Prim.Native.Nat.{ℕ, zero, suc, _≤_}
 use native.Mathlib.Omega.{arith}
-use mathlib.Core.Path.{_≡_, refl, sym, subst, _∙_}
+use mathlib.Core.Path.{_≡_, refl, sym, subst}
 use mathlib.Core.List.{List}
-use mathlib.Core.Bool.{Bool, true, false, _&&_, _||_, false≢true}
-use mathlib.Core.Logic.{_↔_, _⊎_, inl, inr, ⊎-elim}
+use mathlib.Core.Bool.{Bool, true, _&&_, _||_, false≢true}
+use mathlib.Core.Logic.{⊎-elim}
 use lib.ListN.{length}
-use lib.Dec.{eqb}
 use borrow.Author.Tests.{eqb-true}
-use Rattle.pages.specs.Items.{Attribute, Item, text, gap, element, Items, none, more, gapIn, gapInItem}
+use Rattle.pages.specs.Items.{Item, text, gap, element, Items, none, more, gapIn, gapInItem}
 use Rattle.pages.specs.RightPages.{word}
 use Rattle.programs.specs.Program.{templateAt}
 use Rattle.summaries.specs.Proposal.{root, edge}
 use Rattle.summaries.specs.Summaries.{Summary}
-use Rattle.patterns.specs.Readings.{Reading}
+use Rattle.patterns.specs.Morphisms.{Morphism}
 use Rattle.patterns.specs.Given.{Bounded}
 use Rattle.patterns.specs.Rounds.{Set, Sets, anyBelow, anyTemplate, iterate}
 use Rattle.patterns.specs.Reached.{Yields, Reached, from-root, through-gap, leadsTo, itemLeadsTo, reachRound, reachRounds}
@@ -23,8 +21,8 @@ use Rattle.patterns.proofs.Tests.{or-left, or-right, or-cases, and-both
 use Rattle.patterns.proofs.Lawful.{Lawful}
 
 module _ (φs : List Items) (G : Summary) where
-  -- Pages come of a template exactly if its set, for any reading, is not empty.
-  pub yields-exact : (R : Reading) → Lawful R → (X : Sets) → Exact φs G R X → YieldsExact φs G (λ n. anyBelow (R .size) (X n))
+  -- Pages come of a template exactly if its set, for any morphism, is not empty.
+  pub yields-exact : (R : Morphism) → Lawful R → (X : Sets) → Exact φs G R X → YieldsExact φs G (λ n. anyBelow (R .size) (X n))
   yields-exact R lawful X ex n h = (to, back)
     where
       to : anyBelow (R .size) (X n) ≡ true → Yields φs G n
@@ -68,6 +66,14 @@ module _ (G : Summary) (n m : ℕ) where
     item-gap-leads (gap k) g h e = subst (λ (j : ℕ). G (edge n j m) ≡ true) (sym (eqb-true k g h)) e
     item-gap-leads (element e′ mark δ φ) g h e = gap-leads φ g h e
 
+module _ (φs : List Items) (G : Summary) where
+  -- Templates that are reached, and sets of templates that a round does not leave.
+  abbrev pub ReachedSound : Set → Type 0
+  ReachedSound S = (n : ℕ) → n ≤ length φs → S n ≡ true → Reached φs G n
+
+  abbrev pub ReachedKept : Set → Set → Type 0
+  ReachedKept Y S = (n : ℕ) → n ≤ length φs → reachRound φs G Y S n ≡ true → S n ≡ true
+
 module _ (φs : List Items) (G : Summary) (bounded : Bounded φs G) where
   pub reached-there : {n : ℕ} → Reached φs G n → n ≤ length φs
   reached-there (from-root {r = r} g y) = bounded .roots r g
@@ -75,8 +81,7 @@ module _ (φs : List Items) (G : Summary) (bounded : Bounded φs G) where
 
   module _ (Y : Set) (yields : YieldsExact φs G Y) where
     -- Sets that a round does not leave hold every template that is reached.
-    pub reached-found : (S : Set) → ((n : ℕ) → n ≤ length φs → reachRound φs G Y S n ≡ true → S n ≡ true)
-        → {n : ℕ} → Reached φs G n → S n ≡ true
+    pub reached-found : (S : Set) → ReachedKept φs G Y S → {n : ℕ} → Reached φs G n → S n ≡ true
     unfolding reachRound
     reached-found S kept (from-root {r = r} g y) = kept r (bounded .roots r g)
         (and-both (yields r (bounded .roots r g) .1 y)
@@ -88,27 +93,27 @@ module _ (φs : List Items) (G : Summary) (bounded : Bounded φs G) where
         (let le : n ≤ length φs = reached-there r in omega arith)
         (and-both (reached-found S kept r) (gap-leads G n m (templateAt φs n) g h e)))))
 
-    -- Every template of a round is reached.
-    pub reached-made : (t n : ℕ) → n ≤ length φs → reachRounds φs G Y t n ≡ true → Reached φs G n
-    unfolding reachRounds reachRound iterate
-    reached-made zero n h e = absurd (false≢true e)
-    reached-made (suc t) n h e =
+    -- From templates that are reached a round finds such.
+    pub reach-round-sound : (S : Set) → ReachedSound φs G S → ReachedSound φs G (reachRound φs G Y S)
+    unfolding reachRound
+    reach-round-sound S sound n h e =
         let y : Yields φs G n = yields n h .0 (and-left (Y n) (G (root n) || anyTemplate φs from) e) in
         ⊎-elim
         (λ g. from-root g y)
         (λ a.
         let (m, hm, p) = below-any (suc (length φs)) from a in
-        let (g, k, q) = leads G m n (templateAt φs m) (and-right (reachRounds φs G Y t m) (leadsTo G m n (templateAt φs m)) p) in
-        through-gap (reached-made t m (omega arith) (and-left (reachRounds φs G Y t m) (leadsTo G m n (templateAt φs m)) p)) k q y)
+        let (g, k, q) = leads G m n (templateAt φs m) (and-right (S m) (leadsTo G m n (templateAt φs m)) p) in
+        through-gap (sound m (omega arith) (and-left (S m) (leadsTo G m n (templateAt φs m)) p)) k q y)
         (or-cases (G (root n)) (anyTemplate φs from) (and-right (Y n) (G (root n) || anyTemplate φs from) e))
       where
         from : ℕ → Bool
-        from m = reachRounds φs G Y t m && leadsTo G m n (templateAt φs m)
+        from m = S m && leadsTo G m n (templateAt φs m)
 
-    pub reached-exact : (t : ℕ) → ((n : ℕ) → n ≤ length φs → reachRounds φs G Y (suc t) n ≡ reachRounds φs G Y t n)
-        → ReachedExact φs G (reachRounds φs G Y t)
+    -- Templates that are reached, to which a round adds none, are all that are.
+    pub reached-exact : (S : Set) → ReachedSound φs G S → ReachedKept φs G Y S → ReachedExact φs G S
+    reached-exact S sound kept n h = (sound n h, reached-found S kept)
+
+    pub reach-rounds-sound : (t : ℕ) → ReachedSound φs G (reachRounds φs G Y t)
     unfolding reachRounds iterate
-    reached-exact t settled n h = (
-      reached-made t n h,
-      reached-found (reachRounds φs G Y t) (λ m k e. sym (settled m k) ∙ e),
-    )
+    reach-rounds-sound zero n h e = absurd (false≢true e)
+    reach-rounds-sound (suc t) n h e = reach-round-sound (reachRounds φs G Y t) (reach-rounds-sound t) n h e

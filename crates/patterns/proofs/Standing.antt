@@ -4,14 +4,13 @@
 use Prim.Native.Nat.{ℕ}
 use mathlib.Core.Path.{_≡_, refl, sym, subst}
 use mathlib.Core.List.{List}
-use mathlib.Core.Bool.{Bool, true, false, _||_, false≢true}
+use mathlib.Core.Bool.{true, false≢true}
 use mathlib.Core.Logic.{_↔_, _⊎_, inl, inr, ⊎-elim}
-use lib.Dec.{eqb}
 use borrow.Author.Tests.{eqb-true}
 use Rattle.pages.specs.Items.{Attribute, Item, text, gap, element, Items, none, more, one, _⋈_, gapIn, gapInItem}
 use Rattle.pages.specs.RightPages.{SomeElement, SomeElementOf}
 use Rattle.programs.specs.Program.{templateAt}
-use Rattle.summaries.specs.Proposal.{root, edge}
+use Rattle.summaries.specs.Proposal.{edge}
 use Rattle.summaries.specs.Summaries.{Summary}
 use Rattle.summaries.specs.Languages.{Derives, ItemDerives, Language, nothing, item-then, text-stays, gap-takes, element-keeps}
 use Rattle.patterns.specs.Reached.{Yields, Reached, from-root, through-gap, CanBe}
@@ -37,6 +36,38 @@ unfolding SomeElement _⋈_
 some-cases P none v s = inr s
 some-cases P (more i u) v (inl s) = inl (inl s)
 some-cases P (more i u) v (inr s) = ⊎-elim (λ t. inl (inr t)) (λ t. inr t) (some-cases P u v s)
+
+-- An element of which one of two things is said, and one of which more is said.
+module _ (P Q : Saying) where
+  mutual
+    unfolding SomeElement
+
+    pub some-either : (φ : Items) → SomeElement (λ e mark δ χ. P e mark δ χ ⊎ Q e mark δ χ) φ → SomeElement P φ ⊎ SomeElement Q φ
+    some-either none s = absurd s
+    some-either (more i φ) (inl s) = ⊎-elim (λ t. inl (inl t)) (λ t. inr (inl t)) (item-some-either i s)
+    some-either (more i φ) (inr s) = ⊎-elim (λ t. inl (inr t)) (λ t. inr (inr t)) (some-either φ s)
+
+    item-some-either : (i : Item) → SomeElementOf (λ e mark δ χ. P e mark δ χ ⊎ Q e mark δ χ) i → SomeElementOf P i ⊎ SomeElementOf Q i
+    item-some-either text s = absurd s
+    item-some-either (gap g) s = absurd s
+    item-some-either (element e mark δ φ) (inl (inl p)) = inl (inl p)
+    item-some-either (element e mark δ φ) (inl (inr q)) = inr (inl q)
+    item-some-either (element e mark δ φ) (inr s) = ⊎-elim (λ t. inl (inr t)) (λ t. inr (inr t)) (some-either φ s)
+
+module _ (P Q : Saying) (to : (e mark : ℕ) (δ : List Attribute) (φ : Items) → P e mark δ φ → Q e mark δ φ) where
+  mutual
+    unfolding SomeElement
+
+    pub some-into : (φ : Items) → SomeElement P φ → SomeElement Q φ
+    some-into none s = s
+    some-into (more i φ) (inl s) = inl (item-some-into i s)
+    some-into (more i φ) (inr s) = inr (some-into φ s)
+
+    item-some-into : (i : Item) → SomeElementOf P i → SomeElementOf Q i
+    item-some-into text s = s
+    item-some-into (gap g) s = s
+    item-some-into (element e mark δ φ) (inl p) = inl (to e mark δ φ p)
+    item-some-into (element e mark δ φ) (inr s) = inr (some-into φ s)
 
 module _ (φs : List Items) (G : Summary) where
   pub reached-yields : {n : ℕ} → Reached φs G n → Yields φs G n

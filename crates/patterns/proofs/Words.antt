@@ -1,8 +1,8 @@
 -- Words and attributes one after the other: which contents stand in them, which pairs are broken, which strings are held.
 use Prim.Native.Nat.{ℕ}
-use mathlib.Core.Path.{_≡_, refl, ap, _∙_}
+use mathlib.Core.Path.{_≡_, refl, sym, ap, _∙_}
 use mathlib.Core.List.{List, [], _∷_, _++_}
-use mathlib.Core.Bool.{Bool, true, false, _&&_, _||_}
+use mathlib.Core.Bool.{Bool, true, false, _&&_, _||_, or-false, or-assoc}
 use lib.Dec.{eqb}
 use Rattle.vocabularies.specs.Vocabulary.{isIn}
 use Rattle.pages.specs.Items.{Attribute, Item, text, gap, element, Items, none, more, _⋈_}
@@ -13,20 +13,12 @@ use Rattle.patterns.proofs.Tests.{eqb-sym}
 pub in-append : (c : ℕ) (u v : List ℕ) → isIn c (u ++ v) ≡ (isIn c u || isIn c v)
 unfolding isIn
 in-append c [] v = refl
-in-append c (x ∷ u) v = rw (in-append c u v) (regroup (eqb c x) (isIn c u) (isIn c v))
-  where
-    regroup : (p q r : Bool) → (p || (q || r)) ≡ (p || q || r)
-    regroup true q r = refl
-    regroup false q r = refl
+in-append c (x ∷ u) v = rw (in-append c u v) (sym (or-assoc (eqb c x) (isIn c u) (isIn c v)))
 
 -- In two words a pair is broken in the one, or in the other, or across.
 pub precedes-append : (u v : List ℕ) (d c : ℕ) → precedes (u ++ v) d c ≡ (precedes u d c || precedes v d c || (isIn d u && isIn c v))
 unfolding isIn precedes
-precedes-append [] v d c = regroup (precedes v d c)
-  where
-    regroup : (p : Bool) → p ≡ (p || false)
-    regroup true = refl
-    regroup false = refl
+precedes-append [] v d c = sym (or-false (precedes v d c))
 precedes-append (x ∷ u) v d c = rw (precedes-append u v d c, in-append c u v, eqb-sym d x)
     (regroup (eqb x d) (isIn c u) (isIn c v) (precedes u d c) (precedes v d c) (isIn d u))
   where
@@ -45,11 +37,7 @@ pub holds-append : (δ ε : List Attribute) (a m : ℕ) → holdsValue (δ ++ ε
 unfolding holdsValue
 holds-append [] ε a m = refl
 holds-append (x ∷ δ) ε a m = rw (holds-append δ ε a m)
-    (regroup (eqb (x .name) a && hasString (x .value) m) (holdsValue δ a m) (holdsValue ε a m))
-  where
-    regroup : (p q r : Bool) → (p || (q || r)) ≡ (p || q || r)
-    regroup true q r = refl
-    regroup false q r = refl
+    (sym (or-assoc (eqb (x .name) a && hasString (x .value) m) (holdsValue δ a m) (holdsValue ε a m)))
 
 word-item : (i : Item) (u v : List ℕ) → wordItem i (u ++ v) ≡ wordItem i u ++ v
 unfolding wordItem

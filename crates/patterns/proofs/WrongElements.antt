@@ -1,29 +1,28 @@
 -- The test of an element is exact: where its gaps can be filled, it passes exactly if the element, filled in some way, is not right.
-use Prim.Native.Nat.{ℕ, _≤_, _<_}
-use native.Mathlib.Omega.{arith}
-use mathlib.Core.Path.{_≡_, refl, sym, ap, ap₂, subst, _∙_}
+use Prim.Native.Nat.{ℕ, _<_}
+use mathlib.Core.Path.{_≡_, refl, sym, ap, subst, _∙_}
 use mathlib.Core.List.{List, [], _∷_, List·Memᴰ·head, List·Memᴰ·tail}
 use mathlib.Core.Bool.{Bool, true, false, not, _&&_, _||_, true≢false, false≢true}
 use mathlib.Core.Option.{Option, some, none}
-use mathlib.Core.Logic.{_↔_, _⊎_, inl, inr, ⊎-elim, Iff·trans}
+use mathlib.Core.Logic.{_↔_, _⊎_, inl, inr, ⊎-elim}
 use lib.Dec.{eqb}
-use borrow.Author.Tests.{eqb-true, not-true, not-false}
+use borrow.Author.Tests.{eqb-true, not-true}
 use Rattle.vocabularies.specs.Vocabulary.{Formula, Rule, Vocabulary, ruleOf, isIn}
 use Rattle.vocabularies.specs.Facts.{factsOf}
 use Rattle.pages.specs.Items.{Attribute, Items}
 use Rattle.pages.specs.RightPages.{_∈_, names, word, ElementRight, SomeElement}
-use Rattle.judging.specs.Judgement.{Atoms, truthOf, atomsOf, allIn, allTrue, rightUnder, rightBy}
+use Rattle.judging.specs.Judgement.{truthOf, atomsOf, allIn, allTrue, rightUnder, rightBy}
 use Rattle.summaries.specs.Summaries.{Summary}
 use Rattle.summaries.specs.Languages.{AttributesDerive, Derives}
 use Rattle.agreement.proofs.Deciding.{false-iff}
 use Rattle.agreement.proofs.Elements.{decided-right}
-use Rattle.patterns.specs.Readings.{factReading}
-use Rattle.patterns.specs.Given.{Bounded, contents, NamesInRange, NamedOnly, SoundVocabulary}
-use Rattle.patterns.specs.Rounds.{Sets, anyBelow}
+use Rattle.patterns.specs.Morphisms.{factMorphism}
+use Rattle.patterns.specs.Given.{Bounded, contents, NamesInRange, NamedOnly}
+use Rattle.patterns.specs.Rounds.{Sets}
 use Rattle.patterns.specs.Reached.{CanBe, contentsOf}
 use Rattle.patterns.specs.Elements.{clauseFails, someClauseFails, contentOutside, wrongUnder, wrongBy, wrongElement}
 use Rattle.patterns.specs.Exactness.{Exact, ContentsExact}
-use Rattle.patterns.proofs.Tests.{or-left, or-right, or-cases, and-both, and-left, and-right, either, eqb-same, any-below, below-any}
+use Rattle.patterns.proofs.Tests.{or-left, or-right, or-cases, and-both, and-left, and-right, eqb-same, any-below, below-any}
 use Rattle.patterns.proofs.Contents.{occurs-small, items-contents-exact}
 use Rattle.patterns.proofs.ElementPatterns.{names-kept, clause-exact}
 
@@ -61,7 +60,7 @@ module _ (φs : List Items) (G : Summary) (bounded : Bounded φs G) (named : Nam
   module _ (X : Formula → Sets) where
     -- What is to be known of a clause.
     abbrev pub Worked : Formula → Type 0
-    Worked ψ = NamedOnly ψ × Exact φs G (factReading (factsOf ψ)) (X ψ)
+    Worked ψ = NamedOnly ψ × Exact φs G (factMorphism (factsOf ψ)) (X ψ)
 
     clauses-fail : (ψs : List Formula) → ((ψ : Formula) → ψ ∈ ψs → Worked ψ) → (n : ℕ) (δ : List Attribute) (φ : Items)
         → someClauseFails φs G X ψs n δ φ ≡ true → CanBe φs G n δ φ (λ δ′ φ′. allTrue (atomsOf δ′ (word φ′)) ψs ≡ false)

@@ -14,7 +14,7 @@ use Rattle.judging.specs.Judgement.{truthOf, allIn}
 use Rattle.summaries.specs.Proposal as Proposal
 use Rattle.summaries.specs.Summaries.{Summary}
 use Rattle.patterns.specs.Patterns.{patternOf, atomsBy}
-use Rattle.patterns.specs.Readings.{factReading}
+use Rattle.patterns.specs.Morphisms.{factMorphism}
 use Rattle.patterns.specs.Given.{contents}
 use Rattle.patterns.specs.Rounds.{Set, Sets, only, anyBelow, anyNamed, product, patterns}
 use Rattle.patterns.specs.Reached.{contentsOf}
@@ -31,12 +31,12 @@ valuePatterns G fs n a (open-gap h) = λ x. anyNamed (λ s. G (Proposal.string n
 unfoldable pub attributePatterns : Summary → List Fact → ℕ → List Attribute → Set
 unfolding anyBelow patternOf
 attributePatterns G fs n [] = only (patternOf fs [] [])
-attributePatterns G fs n (a ∷ δ) = product (factReading fs) (valuePatterns G fs n (a .name) (a .value)) (attributePatterns G fs n δ)
+attributePatterns G fs n (a ∷ δ) = product (factMorphism fs) (valuePatterns G fs n (a .name) (a .value)) (attributePatterns G fs n δ)
 
 module _ (φs : List Items) (G : Summary) where
   -- The patterns that an element of template n can have, from the clause's pattern sets.
   abbrev pub elementPatterns : List Fact → Sets → ℕ → List Attribute → Items → Set
-  elementPatterns fs X n δ φ = product (factReading fs) (attributePatterns G fs n δ) (patterns φs G (factReading fs) X n φ)
+  elementPatterns fs X n δ φ = product (factMorphism fs) (attributePatterns G fs n δ) (patterns φs G (factMorphism fs) X n φ)
 
   unfoldable pub clauseFails : Formula → Sets → ℕ → List Attribute → Items → Bool
   unfolding anyBelow attributePatterns patterns truthOf atomsBy

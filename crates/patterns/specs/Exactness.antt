@@ -12,12 +12,12 @@ use Rattle.pages.specs.RightPages.{word}
 use Rattle.programs.specs.Program.{templateAt}
 use Rattle.summaries.specs.Summaries.{Summary}
 use Rattle.summaries.specs.Languages.{Derives}
-use Rattle.patterns.specs.Readings.{Reading}
+use Rattle.patterns.specs.Morphisms.{Morphism}
 use Rattle.patterns.specs.Rounds.{Set, Sets}
 use Rattle.patterns.specs.Reached.{Yields, Reached}
 
 module _ (φs : List Items) (G : Summary) where
-  module _ (R : Reading) where
+  module _ (R : Morphism) where
     -- Some page derived from items of template n has pattern x.
     abbrev pub Derivable : ℕ → Items → ℕ → Type 0
     Derivable n φ x = (page : Items) × Derives φs G n φ page × (R .of (word page) ≡ x)

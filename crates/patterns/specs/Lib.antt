@@ -1,5 +1,5 @@
 pub mod Patterns
-pub mod Readings
+pub mod Morphisms
 pub mod Given
 pub mod Rounds
 pub mod Reached

@@ -1,12 +1,10 @@
 -- Where an element stands in some whole page (document 01, verdict 12): its template is reached from a root, from template to
 -- template through gaps, and pages come of every template on the way, the last one too. The tests find the templates reached in
 -- rounds, and the contents that can stand in the pages of each template.
-use Prim.Native.Nat.{ℕ, _≤_}
+use Prim.Native.Nat.{ℕ}
 use mathlib.Core.Path.{_≡_}
 use mathlib.Core.List.{List}
 use mathlib.Core.Bool.{Bool, true, false, _&&_, _||_}
-use lib.ListN.{length}
-use lib.Dec.{eqb}
 use Rattle.pages.specs.Items.{Attribute, Item, text, gap, element, Items, none, more, gapIn}
 use Rattle.programs.specs.Program.{templateAt}
 use Rattle.summaries.specs.Proposal.{root, edge}

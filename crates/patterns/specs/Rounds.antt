@@ -13,7 +13,7 @@ use Rattle.programs.specs.Program.{templateAt}
 use Rattle.summaries.specs.Proposal.{edge}
 use Rattle.summaries.specs.Proposal as Proposal
 use Rattle.summaries.specs.Summaries.{Summary}
-use Rattle.patterns.specs.Readings.{Reading}
+use Rattle.patterns.specs.Morphisms.{Morphism}
 
 -- A set of patterns, and one for each template.
 abbrev pub Set : Type 0
@@ -52,10 +52,10 @@ attributesTake G n [] = true
 attributesTake G n (a ∷ δ) = valueTakes G n (a .value) && attributesTake G n δ
 
 -- The patterns of a word of the one set with a word of the other after it.
-abbrev pub product : Reading → Set → Set → Set
+abbrev pub product : Morphism → Set → Set → Set
 product R A B z = anyBelow (R .size) (λ x. A x && anyBelow (R .size) (λ y. B y && only (R .op x y) z))
 
-module _ (φs : List Items) (G : Summary) (R : Reading) where
+module _ (φs : List Items) (G : Summary) (R : Morphism) where
   -- A gap of template n has some edge to a template whose set is not empty.
   abbrev pub gapTakes : Sets → ℕ → ℕ → Bool
   gapTakes X n g = anyTemplate φs (λ m. G (edge n g m) && anyBelow (R .size) (X m))

@@ -3,7 +3,7 @@
 use Prim.Native.Nat.{ℕ, zero, suc, _≤_}
 use mathlib.Core.Path.{_≡_}
 use mathlib.Core.List.{List}
-use mathlib.Core.Bool.{Bool, true, cond, _&&_, _||_}
+use mathlib.Core.Bool.{Bool, cond, _&&_, _||_}
 use mathlib.Core.Option.{Option, some, none}
 use lib.ListN.{length}
 use lib.Dec.{leb}
@@ -15,7 +15,7 @@ use Rattle.pages.specs.RightPages.{_∈_}
 use Rattle.programs.specs.Program.{templateAt}
 use Rattle.summaries.specs.Proposal.{root}
 use Rattle.summaries.specs.Summaries.{Summary}
-use Rattle.patterns.specs.Readings.{empty, other, rootReading, factReading}
+use Rattle.patterns.specs.Morphisms.{empty, other, rootMorphism, factMorphism}
 use Rattle.patterns.specs.Rounds.{Set, Sets}
 use Rattle.patterns.specs.Exactness.{Exact, ContentsExact, ReachedExact}
 use Rattle.patterns.specs.Elements.{wrongElement}
@@ -31,8 +31,8 @@ lower none o = o
 lower (some m) none = some m
 lower (some m) (some n) = some (cond (leb m n) m n)
 
-abbrev pub only-if : Bool → ℕ → Option ℕ
-only-if b n = cond b (some n) none
+abbrev pub onlyIf : Bool → ℕ → Option ℕ
+onlyIf b n = cond b (some n) none
 
 -- The lowest of what f gives below n.
 unfoldable pub lowestOver : ℕ → (ℕ → Option ℕ) → Option ℕ
@@ -48,7 +48,7 @@ unfoldable mutual
   pub lowestMarkIn : (ℕ → ℕ → List Attribute → Items → Bool) → Item → Option ℕ
   lowestMarkIn p text = none
   lowestMarkIn p (gap g) = none
-  lowestMarkIn p (element e mark δ φ) = lower (only-if (p e mark δ φ) mark) (lowestMark p φ)
+  lowestMarkIn p (element e mark δ φ) = lower (onlyIf (p e mark δ φ) mark) (lowestMark p φ)
 
 -- What is worked out for a graph: the kinds of the pages of each template, the templates that are reached, the contents that can
 -- stand in the pages of each, and the pattern sets of each clause.
@@ -60,11 +60,11 @@ pub record Tables : Type 0 where
 
 -- The tables tell what the pages have; of clauses those that stand in the vocabulary.
 pub record ExactTables (φs : List Items) (G : Summary) (D : Vocabulary) (T : Tables) : Type 0 where
-  pub kinds : Exact φs G (rootReading (D .root)) (T .kinds)
+  pub kinds : Exact φs G (rootMorphism (D .root)) (T .kinds)
   pub reached : ReachedExact φs G (T .reached)
   pub contents : ContentsExact φs G (T .contents)
   pub clauses : (e : ℕ) (r : Rule) (ψ : Formula) → ruleOf (D .rules) e ≡ some r → ψ ∈ r .clauses
-      → Exact φs G (factReading (factsOf ψ)) (T .clauses ψ)
+      → Exact φs G (factMorphism (factsOf ψ)) (T .clauses ψ)
 
 -- Some page of a root template is empty, or other than the root alone.
 abbrev pub notRoot : Summary → Sets → ℕ → Bool
@@ -74,7 +74,7 @@ module _ (φs : List Items) (G : Summary) (D : Vocabulary) (T : Tables) where
   -- Verdict 11.
   unfoldable pub lowestRoot : Option ℕ
   unfolding lowestOver
-  lowestRoot = lowestOver (suc (length φs)) (λ r. only-if (notRoot G (T .kinds) r) r)
+  lowestRoot = lowestOver (suc (length φs)) (λ r. onlyIf (notRoot G (T .kinds) r) r)
 
   -- The lowest element of template n that is wrong in some page.
   unfoldable pub lowestWrongIn : ℕ → Option ℕ

@@ -1,14 +1,20 @@
 -- Code that agrees with a reading: what follows of the reading, and of readings made from it.
-use Prim.Native.Nat.{ℕ}
-use mathlib.Core.Path.{_≡_, refl, sym, subst}
+use Prim.Native.Nat.{ℕ, suc, _+_, _-_, _≤_, _<_}
+use mathlib.Core.Path.{_≡_, refl, sym, subst, _∙_}
 use mathlib.Core.List.{List}
 use native.Mathlib.Omega.{arith}
+use lib.ListN.{length, getD, set}
+use lib.Seq.{getD-set-other}
 use Rattle.verdicts.specs.declared.Form.{Form}
+use Rattle.commands.specs.declared.Context.{Context}
 use Rattle.commands.specs.declared.Position.{Position}
+use Rattle.commands.specs.declared.Decoded.the-variants.{Moved}
 use Rattle.commands.specs.declared.Part.{Part}
 use Rattle.commands.specs.declared.Part.the-variants.{Whole, Refused}
+use Rattle.commands.specs.Commands.{command}
 use Rattle.commands.specs.Reading.{Read, whole, refused, unfinished, andThen, enough}
 use Rattle.commands.specs.Parts.{AgreesAs, Enough}
+use Rattle.commands.proofs.Laws.{MovedOver, moved}
 
 -- Code that agrees with a reading agrees with what the reading is made into.
 pub agrees-map : {A B : Type 0} (P : A → ℕ → Type 0) (Q : B → ℕ → Type 0) (g : A → B) (r : Read A) (p : Part)
@@ -54,3 +60,26 @@ module _ {A : Type 0} (P : A → ℕ → Type 0) where
 
 pub enough-enough : (s : List ℕ) (at : ℕ) → Enough s at (enough s)
 enough-enough s at = omega arith
+
+-- After a command one fuel less is enough, and fewer bytes are left.
+module _ (x : Context) (s : List ℕ) (at code : ℕ) (next : Position) (read : command x s at ≡ Moved code next) where
+  pub enough-after : (f : ℕ) → Enough s at (suc f) → Enough s (next .at) f
+  enough-after f h =
+      let over : MovedOver x s at code next = moved x s at code next read in
+      let i = over .inside in
+      let g = over .forward in
+      omega arith
+
+  pub fewer-left : length s - next .at < length s - at
+  fewer-left =
+      let over : MovedOver x s at code next = moved x s at code next read in
+      let i = over .inside in
+      let g = over .forward in
+      omega arith
+
+-- Entries that were written stay.
+pub record Stay (n : ℕ) (table later : List ℕ) : Type 0 where
+  pub same : (i : ℕ) → i < n → getD later i 0 ≡ getD table i 0
+
+pub stay-below : (n k a : ℕ) (table later : List ℕ) → n ≤ k → Stay (k + 1) (set table k a) later → Stay n table later
+stay-below n k a table later l st = record { same = λ i h. st .same i (omega arith) ∙ getD-set-other table k i a 0 (λ e. omega arith) }

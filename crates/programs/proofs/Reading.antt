@@ -1,11 +1,11 @@
 -- What reading the statements from a point on gives, from what is read at that point.
-use Prim.Native.Nat.{ℕ, zero, suc, _+_, _-_, _≤_, _<_}
+use Prim.Native.Nat.{ℕ, zero, suc, _+_, _≤_, _<_}
 use mathlib.Core.Path.{_≡_, refl, sym, ap, _∙_}
 use mathlib.Core.List.{List, [], _∷_}
 use mathlib.Core.Bool.{Bool, true, false, cond, _||_, or-false, or-assoc}
 use native.Mathlib.Omega.{arith}
 use lib.ListN.{length, getD, set}
-use lib.Seq.{slice, slice-empty, getD-set-same, getD-set-other}
+use lib.Seq.{slice, slice-empty, getD-set-same}
 use lib.Dec.{eqb, ltb}
 use borrow.Author.Tests.{eq-eqb, ne-eqb, eqb-true, eqb-false, ltb-true}
 use Rattle.verdicts.specs.declared.Form.{Form}
@@ -21,7 +21,7 @@ use Rattle.commands.proofs.Laws.{MovedOver, moved}
 use Rattle.programs.specs.declared.ProgramRead.{ProgramRead}
 use Rattle.programs.specs.Program.{statementNames, named}
 use Rattle.programs.specs.ProgramReading.{Placed, statementRead, templatesThere, mostPoints, statementContext, statements}
-use Rattle.programs.proofs.Agreement.{agrees-map}
+use Rattle.programs.proofs.Agreement.{agrees-map, enough-after, Stay}
 use Rattle.programs.proofs.Statements.{next-place}
 use Rattle.programs.specs.Promises.{partOf, testedHere, statementHere, numberOf, Names, placedAt, placed, Stands, Kept, StatementsRead}
 
@@ -114,13 +114,6 @@ module _ (count : ℕ) (s : List ℕ) (before at : ℕ) where
     },
   )
 
--- Places that were written stay.
-pub record Stay (n : ℕ) (places later : List ℕ) : Type 0 where
-  pub same : (i : ℕ) → i < n → getD later i 0 ≡ getD places i 0
-
-pub stay-below : (n at : ℕ) (places later : List ℕ) → Stay (n + 1) (set places n at) later → Stay n places later
-stay-below n at places later k = record { same = λ i h. k .same i (omega arith) ∙ getD-set-other places n i at 0 (λ e. omega arith) }
-
 -- A statement here stands before those that follow.
 module _ (count : ℕ) (s : List ℕ) (before at code : ℕ) (next : Position) (m : MayStand count s before at code next) where
   over : MovedOver (statementContext before) s at code next
@@ -135,9 +128,6 @@ module _ (count : ℕ) (s : List ℕ) (before at code : ℕ) (next : Position) (
 
   pub in-range : allInRange (operandsOf code) s (at + 1) ≡ true
   in-range = rw (over .first) (over .ranges)
-
-  pub falls : length s - next .at < length s - at
-  falls = let i = over .inside in let g = over .forward in omega arith
 
   module _ (now new now′ : ℕ) (places : List ℕ) (r : ProgramRead)
       (names-here : Names (statementNames (statementRead s at code)) new) (joined : (k : ℕ) → member now′ k ≡ (member now k || member new k))
@@ -180,4 +170,4 @@ module _ (count : ℕ) (s : List ℕ) (before at code : ℕ) (next : Position) (
       rw (reads-here count s before at f, ← d-is, d-moves, ne-eqb code 0x3F on)
       (agrees-map (λ ts end. Kept s count (before + 1) now′ r ts) (λ ts end. Kept s count before now r ts) (λ ts. record { at = at; statement = statementRead s at code } ∷ ts)
       (statements f count s (before + 1) (next .at)) (r .part) (λ ts end. kept-here now new now′ places r n j w st ts)
-      (later f (let i = over .inside in let g = over .forward in omega arith)))
+      (later f (enough-after (statementContext before) s at code next (m .read) f h)))

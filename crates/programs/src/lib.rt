@@ -25,7 +25,7 @@ pub struct ProgramRead {
 const MOST_POINTS: usize = 32;
 
 // A command alone as a part.
-fn part_of(d: Decoded) -> Part
+pub fn part_of(d: Decoded) -> Part
     ensures { λ r. ⌜ r ≡ partOf d ⌝ }
 {
     match d {

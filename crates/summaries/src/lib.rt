@@ -1,1 +1,169 @@
 // Summaries: what a proposal claims of each variable at the entry of each point.
+ghost use mathlib.Core.Path.{_≡_};
+ghost use Prim.Native.Nat.{_+_, _*_, _≤_, _<_};
+ghost use lib.Dec.{leb};
+ghost use Rattle.commands.specs.Commands.{byte};
+ghost use Rattle.summaries.specs.ProposalReading.{factAt, factThere, variableOf, factContext};
+ghost use Rattle.summaries.specs.Promises.{presentAt, Ranked, factHere, headHere, FactsRead, ProposalReads};
+use commands::Context;
+use commands::Decoded;
+use commands::Part;
+use commands::Position;
+use programs::part_of;
+use verdicts::Form;
+
+// What reading a proposal keeps: for each point p and variable v, as `40` numbers it, the offset of the first item under its
+// head, at p * 8 + v; 0 where it has no head.
+pub struct ProposalRead {
+    pub part: Part,
+    pub heads: [usize; 256],
+}
+
+// An operand of a command that has `count` of them; 0 where it has none there.
+fn present(s: &[u8], here: Position, count: usize, i: usize) -> u64
+    ensures { λ r. ⌜ (r ≡ presentAt (now (s .entry)) (here .at) count i) × (r < 256) ⌝ }
+{
+    if count < i {
+        return 0;
+    }
+    here.operand(s, i) as u64
+}
+
+// The place of an item in the order.
+fn rank(s: &[u8], here: Position, code: u8) -> u64
+    ensures { λ r. ⌜ Ranked (now (s .entry)) (here .at) code r ⌝ }
+{
+    let count = commands::operand_bytes(code);
+    let first = present(s, here, count, 1);
+    let second = present(s, here, count, 2);
+    let third = present(s, here, count, 3);
+    (((code as u64) * 256 + first) * 256 + second) * 256 + third
+}
+
+// Whether the template that an operand names is there.
+fn is_there(s: &[u8], here: Position, i: usize, templates: usize) -> bool
+    ensures { λ r. ⌜ r ≡ leb (byte (now (s .entry)) (here .at + i)) templates ⌝ }
+{
+    (here.operand(s, i) as usize) <= templates
+}
+
+// Whether the templates that an item names are there.
+fn fact_there(s: &[u8], here: Position, code: u8, templates: usize) -> bool
+    ensures { λ r. ⌜ r ≡ factThere templates (factAt (now (s .entry)) (here .at) code) ⌝ }
+{
+    match code {
+        0x41 => is_there(s, here, 1, templates),
+        0x42 => is_there(s, here, 1, templates) && is_there(s, here, 3, templates),
+        0x43 => is_there(s, here, 1, templates),
+        0x44 => is_there(s, here, 1, templates),
+        0x45 => is_there(s, here, 2, templates),
+        0x46 => is_there(s, here, 2, templates),
+        _ => true,
+    }
+}
+
+// The item that may stand here, of a rank that is at least `least`.
+fn fact_here(s: &[u8], here: Position, context: Context, templates: usize, least: u64) -> Decoded
+    ensures { λ r. ⌜ r ≡ factHere context templates (now (s .entry)) least (here .at) ⌝ }
+{
+    let d = here.command(s, context);
+    let Decoded::Moved(code, _) = d else {
+        return d;
+    };
+    if !fact_there(s, here, code, templates) {
+        return Decoded::Refused(Form::Missing, here.at);
+    }
+    if rank(s, here, code) < least {
+        return Decoded::Refused(Form::NotRising, here.at);
+    }
+    d
+}
+
+// The items under a head, up to the first command that is none of them.
+fn read_facts(s: &[u8], here: Position, context: Context, templates: usize) -> Part
+    ensures { λ r. ⌜ FactsRead context templates (now (s .entry)) 0 (here .at) r ⌝ }
+{
+    let mut at = here;
+    let mut least = 0;
+    loop {
+        if !commands::is_allowed(context, commands::byte_at(s, at.at)) {
+            return Part::Whole(at);
+        }
+        let d = fact_here(s, at, context, templates, least);
+        let Decoded::Moved(code, next) = d else {
+            return part_of(d);
+        };
+        least = rank(s, at, code) + 1;
+        at = next;
+    }
+}
+
+// A head's place in the order.
+fn head_number(s: &[u8], here: Position) -> usize
+    ensures { λ r. ⌜ r ≡ byte (now (s .entry)) (here .at + 1) * 8 + byte (now (s .entry)) (here .at + 2) ⌝ }
+{
+    (here.operand(s, 1) as usize) * 8 + (here.operand(s, 2) as usize)
+}
+
+// The head that may stand here, at least `least` as p * 8 + v, or `4F`.
+fn head_here(s: &[u8], here: Position, points: usize, least: usize) -> Decoded
+    ensures { λ r. ⌜ r ≡ headHere points (now (s .entry)) least (here .at) ⌝ }
+{
+    let d = here.command(s, Context::Heads);
+    let Decoded::Moved(code, _) = d else {
+        return d;
+    };
+    if code == 0x4F {
+        return d;
+    }
+    if points <= (here.operand(s, 1) as usize) {
+        return Decoded::Refused(Form::Missing, here.at);
+    }
+    if head_number(s, here) < least {
+        return Decoded::Refused(Form::NotRising, here.at);
+    }
+    d
+}
+
+// The items that may stand under a head.
+fn context_of(v: u8) -> Context
+    ensures { λ r. ⌜ r ≡ factContext (variableOf v) ⌝ }
+{
+    if v < 4 {
+        return Context::TemplateFacts;
+    }
+    Context::StringFacts
+}
+
+// The proposal from here on, up to `4F`, of a job with these numbers of templates and points.
+pub fn read_proposal(s: &[u8], here: Position, templates: usize, points: usize) -> ProposalRead
+    requires { ⌜ points ≤ 32 ⌝ }
+    ensures { λ r. ⌜ ProposalReads templates points (now (s .entry)) 0 (here .at) r ⌝ }
+{
+    let mut at = here;
+    let mut least = 0;
+    let mut heads = [0usize; 256];
+    loop {
+        let d = head_here(s, at, points, least);
+        let Decoded::Moved(code, next) = d else {
+            return ProposalRead {
+                part: part_of(d),
+                heads,
+            };
+        };
+        if code == 0x4F {
+            return ProposalRead {
+                part: Part::Whole(next),
+                heads,
+            };
+        }
+        let number = head_number(s, at);
+        heads[number] = next.at;
+        let items = read_facts(s, next, context_of(at.operand(s, 2)), templates);
+        let Part::Whole(after) = items else {
+            return ProposalRead { part: items, heads };
+        };
+        least = number + 1;
+        at = after;
+    }
+}

@@ -1,6 +1,6 @@
 -- Clauses: what each makes of the reading, where they end, and what code that reads them does.
 use Prim.Native.Nat.{ℕ, zero, suc, _+_, _-_, _*_, _^_, _≤_, _<_, min}
-use mathlib.Core.Path.{_≡_, refl, sym, _∙_, ap}
+use mathlib.Core.Path.{_≡_, refl, sym, _∙_}
 use mathlib.Core.List.{List, [], _∷_}
 use mathlib.Core.Bool.{Bool, true, false}
 use native.Mathlib.Omega.{arith}
@@ -19,11 +19,11 @@ use Rattle.commands.proofs.Laws.{byte-past, andThen-whole}
 use Rattle.vocabularies.specs.declared.Facts.{Facts}
 use Rattle.vocabularies.specs.declared.Gathered.{Gathered}
 use Rattle.vocabularies.specs.Vocabulary.{Formula}
-use Rattle.vocabularies.specs.Facts.{factsOf, withFacts}
+use Rattle.vocabularies.specs.Facts.{factsOf}
 use Rattle.vocabularies.specs.VocabularyReading.{formula, mostFacts, clauses}
 use Rattle.vocabularies.specs.Promises.{FormulaReads, Represents, Gathers, ClausesRead}
-use Rattle.vocabularies.proofs.Parts.{agrees-whole, agrees-refused, last-agrees, last-whole}
-use Rattle.vocabularies.proofs.Formulas.{formula-ends, formula-fuel, formula-moved}
+use Rattle.vocabularies.proofs.Parts.{agrees-whole, agrees-refused, last-agrees, last-whole, Finished, last-finishes, andThen-finishes}
+use Rattle.vocabularies.proofs.Formulas.{formula-ends, formula-fuel, formula-finishes, formula-moved}
 
 -- What follows a clause's `04`, once its formula is read, and once that is whole.
 counted : ℕ → List ℕ → ℕ → Formula → ℕ → Read (List Formula)
@@ -56,26 +56,39 @@ module _ (f : ℕ) (s : List ℕ) (at : ℕ) where
     unfolding counted
     many l = rw (lt-leb (length (factsOf ψ)) mostFacts l)
 
+-- How clauses came to be read whole.
+pub data Clausal (f : ℕ) (s : List ℕ) (at : ℕ) (ψs : List Formula) (end : ℕ) : Type 0 where
+  no-more : (byte s at ≡ 0x04 → ⊥) → ψs ≡ [] → at ≡ end → Clausal f s at ψs end
+  one-more : byte s at ≡ 0x04 → (ψ : Formula) (next : ℕ) (rest : List Formula) → formula f s 0 (at + 1) ≡ whole ψ next → length (factsOf ψ) ≤ mostFacts
+      → clauses f s next ≡ whole rest end → ψs ≡ ψ ∷ rest → Clausal f s at ψs end
+
+pub clauses-formed : (f : ℕ) (s : List ℕ) (at : ℕ) (ψs : List Formula) (end : ℕ) → clauses (suc f) s at ≡ whole ψs end → Clausal f s at ψs end
+clauses-formed f s at ψs end e = go (eqb (byte s at) 0x04) refl
+  where
+    after : byte s at ≡ 0x04 → (ψ : Formula) (next : ℕ) → formula f s 0 (at + 1) ≡ whole ψ next → counted f s at ψ next ≡ whole ψs end
+        → (b : Bool) → leb (length (factsOf ψ)) mostFacts ≡ b → Clausal f s at ψs end
+    after k ψ next r c true h =
+        let w = last-whole (clauses f s next) (_∷_ ψ) ψs end (sym (few f s at ψ next (leb-true _ _ h)) ∙ c) in
+        one-more k ψ next (w .0) r (leb-true _ _ h) (w .1) (w .2)
+    after k ψ next r c false h = absurd (let z : _≡_ {A = ℕ} 0 1 = cc (many f s at ψ next (leb-false _ _ h)) in omega arith)
+
+    go : (b : Bool) → eqb (byte s at) 0x04 ≡ b → Clausal f s at ψs end
+    go true b =
+        let w = andThen-whole (formula f s 0 (at + 1)) (counted f s at) ψs end (sym (step f s at (eqb-true _ _ b)) ∙ e) in
+        after (eqb-true _ _ b) (w .0) (w .1) (w .2) (w .3) (leb (length (factsOf (w .0))) mostFacts) refl
+    go false b =
+        let z = step-end f s at (eqb-false _ _ b) in
+        no-more (eqb-false _ _ b) (cc) (cc)
+
 -- Clauses do not end before their start.
 pub clauses-ends : (f : ℕ) (s : List ℕ) (at : ℕ) (ψs : List Formula) (end : ℕ) → clauses f s at ≡ whole ψs end → at ≤ end
 unfolding clauses
 clauses-ends zero s at ψs end e = absurd (let z : _≡_ {A = ℕ} 0 1 = cc in omega arith)
-clauses-ends (suc f) s at ψs end e = go (λ at′ ψs′ e′. clauses-ends f s at′ ψs′ end e′) (eqb (byte s at) 0x04) refl
+clauses-ends (suc f) s at ψs end e = go (λ at′ ψs′ e′. clauses-ends f s at′ ψs′ end e′) (clauses-formed f s at ψs end e)
   where
-    after : ((at : ℕ) (ψs : List Formula) → clauses f s at ≡ whole ψs end → at ≤ end) → (ψ : Formula) (next : ℕ) → counted f s at ψ next ≡ whole ψs end
-        → (b : Bool) → leb (length (factsOf ψ)) mostFacts ≡ b → next ≤ end
-    after ends ψ next c true h =
-        let w = last-whole (clauses f s next) (_∷_ ψ) ψs end (sym (few f s at ψ next (leb-true _ _ h)) ∙ c) in
-        ends next (w .0) (w .1)
-    after ends ψ next c false h = absurd (let z : _≡_ {A = ℕ} 0 1 = cc (many f s at ψ next (leb-false _ _ h)) in omega arith)
-
-    go : ((at : ℕ) (ψs : List Formula) → clauses f s at ≡ whole ψs end → at ≤ end) → (b : Bool) → eqb (byte s at) 0x04 ≡ b → at ≤ end
-    go ends true b =
-        let w = andThen-whole (formula f s 0 (at + 1)) (counted f s at) ψs end (sym (step f s at (eqb-true _ _ b)) ∙ e) in
-        let l = formula-ends f s 0 (at + 1) (w .0) (w .1) (w .2) in
-        let r = after ends (w .0) (w .1) (w .3) (leb (length (factsOf (w .0))) mostFacts) refl in
-        omega arith
-    go ends false b = let z : at ≡ end = cc (step-end f s at (eqb-false _ _ b)) in omega arith
+    go : ((at : ℕ) (ψs : List Formula) → clauses f s at ≡ whole ψs end → at ≤ end) → Clausal f s at ψs end → at ≤ end
+    go ends (no-more n q z) = omega arith
+    go ends (one-more k ψ next rest r l c q) = let m = formula-ends f s 0 (at + 1) ψ next r in let o = ends next rest c in omega arith
 
 -- Any two fuels that are enough read the same.
 pub clauses-fuel : (f g : ℕ) (s : List ℕ) (at : ℕ) → Enough s at f → Enough s at g → clauses f s at ≡ clauses g s at
@@ -103,6 +116,24 @@ clauses-fuel (suc f) (suc g) s at h k = go (λ at′ h′ k′. clauses-fuel f g
         let w = within s at b in
         rw (step f s at b, step g s at b, formula-fuel f g s 0 (at + 1) (omega arith) (omega arith)) (read same b (formula g s 0 (at + 1)) refl)
     go same false e = step-end f s at (eqb-false _ _ e) ∙ sym (step-end g s at (eqb-false _ _ e))
+
+pub clauses-finishes : (f : ℕ) (s : List ℕ) (at : ℕ) → Enough s at f → Finished (clauses f s at)
+clauses-finishes zero s at h = absurd (omega arith)
+clauses-finishes (suc f) s at h = go (λ at′ h′. clauses-finishes f s at′ h′) (eqb (byte s at) 0x04) refl
+  where
+    after : (ψ : Formula) (next : ℕ) → Finished (clauses f s next) → (b : Bool) → leb (length (factsOf ψ)) mostFacts ≡ b → Finished (counted f s at ψ next)
+    after ψ next fin true e = rw (few f s at ψ next (leb-true _ _ e)) (last-finishes (clauses f s next) (_∷_ ψ) fin)
+    after ψ next fin false e = rw (many f s at ψ next (leb-false _ _ e)) tt
+
+    go : ((at : ℕ) → Enough s at f → Finished (clauses f s at)) → (b : Bool) → eqb (byte s at) 0x04 ≡ b → Finished (clauses (suc f) s at)
+    go fin true e =
+        let b = eqb-true (byte s at) 0x04 e in
+        let w = within s at b in
+        rw (step f s at b)
+        (andThen-finishes (formula f s 0 (at + 1)) (counted f s at) (formula-finishes f s 0 (at + 1) (omega arith)) λ ψ next q.
+        let l = formula-ends f s 0 (at + 1) ψ next q in
+        after ψ next (fin next (omega arith)) (leb (length (factsOf ψ)) mostFacts) refl)
+    go fin false e = rw (step-end f s at (eqb-false _ _ e)) tt
 
 -- What is read from here on is what is read from the start.
 pub record ClausesContinue (s : List ℕ) (start at : ℕ) : Type 0 where

@@ -1,8 +1,8 @@
 -- Lists of facts as code keeps them.
-use Prim.Native.Nat.{ℕ, zero, suc, _+_, _≤_, _<_, min}
+use Prim.Native.Nat.{ℕ, zero, suc, _+_, _≤_, _<_}
 use mathlib.Core.Path.{_≡_, refl, sym, _∙_}
 use mathlib.Core.List.{List, [], _∷_, _++_}
-use mathlib.Core.Bool.{Bool, true, false, cond, _&&_, _||_, or-true}
+use mathlib.Core.Bool.{Bool, true, false, or-true}
 use native.Mathlib.Omega.{arith}
 use lib.ListN.{length, getD, set, length-append, List·getD-append}
 use lib.Seq.{getD-append-seam, getD-set-same, getD-set-other}
@@ -139,3 +139,11 @@ module _ (t : Facts) (kind first second : ℕ) where
             let n : i < length xs = omega (arith, longer x xs) in
             rw (getD-set-other (t .kinds) (t .count) i kind 0 q, getD-set-other (t .firsts) (t .count) i first 0 q, getD-set-other (t .seconds) (t .count) i second 0 q, List·getD-append xs (x ∷ []) (present 0) i n)
             (h .stores i l n)
+
+-- Up to eight facts are kept whole.
+module _ (t : Facts) (xs : List Fact) (h : Represents t xs) (few : t .count ≤ 8) where
+  pub count-is : t .count ≡ length xs
+  count-is = omega (arith, h .counts)
+
+  pub kept : (i : ℕ) → i < t .count → Stored t i (getD xs i (present 0))
+  kept i l = h .stores i (omega arith) (omega (arith, h .counts))

@@ -6,7 +6,7 @@ use mathlib.Core.Bool.{Bool, true, false, cond}
 use native.Mathlib.Omega.{arith}
 use lib.ListN.{length}
 use lib.Dec.{ltb, eqb}
-use borrow.Author.Tests.{lt-ltb, le-ltb, eq-eqb, ne-eqb, eqb-true, eqb-false}
+use borrow.Author.Tests.{lt-ltb, le-ltb, eq-eqb, ne-eqb, eqb-false}
 use Rattle.verdicts.specs.declared.Form.{Form}
 use Rattle.verdicts.specs.declared.Form.the-variants.{TooMany}
 use Rattle.commands.specs.declared.Context.the-variants.{Formulas}
@@ -15,15 +15,15 @@ use Rattle.commands.specs.declared.Decoded.{Decoded}
 use Rattle.commands.specs.declared.Decoded.the-variants as Decodeds
 use Rattle.commands.specs.declared.Part.{Part}
 use Rattle.commands.specs.declared.Part.the-variants.{Whole, Refused}
-use Rattle.commands.specs.Commands.{byte, setAt, command}
+use Rattle.commands.specs.Commands.{byte, command}
 use Rattle.commands.specs.Reading.{Read, whole, refused, unfinished, andThen, when}
-use Rattle.commands.specs.Parts.{Agrees, Enough}
-use Rattle.commands.proofs.Laws.{moved, MovedOver, andThen-whole, onCommand-whole, when-whole}
+use Rattle.commands.specs.Parts.{Enough}
+use Rattle.commands.proofs.Laws.{moved, MovedOver}
 use Rattle.vocabularies.specs.Facts.{Fact, withFacts}
 use Rattle.vocabularies.specs.Vocabulary.{Formula, conj, disj, neg, truth, attr, content, order, value}
 use Rattle.vocabularies.specs.VocabularyReading.{Shape, binary, unary, leaf, shapeAt, formulaNesting, formula}
 use Rattle.vocabularies.specs.Promises.{partOf, FormulaReads}
-use Rattle.vocabularies.proofs.Parts.{agrees-whole, agrees-refused, whole-agrees, refused-agrees, last-agrees, last-whole, plenty, is-plenty}
+use Rattle.vocabularies.proofs.Parts.{agrees-whole, agrees-refused, last-agrees, last-whole, plenty, is-plenty, Finished, last-finishes, andThen-finishes, when-finishes}
 
 -- What a formula's first command, of a given shape, makes of the reading.
 unfoldable shaped : ℕ → List ℕ → ℕ → ℕ → ℕ → Shape → Read Formula
@@ -189,6 +189,27 @@ formula-fuel (suc f) (suc g) s depth at h k = go (λ depth′ at′ h′ k′. f
     go same (Decodeds.Moved code next) c =
         step f s depth at code next c ∙ shaped-same f g s depth at code next (moved Formulas s at code next c) same h k (shapeAt s at code) ∙ sym (step g s depth at code next c)
     go same (Decodeds.Refused i n) c = step-refused f s depth at i n c ∙ sym (step-refused g s depth at i n c)
+
+-- A fuel that is enough does not run out.
+shaped-finishes : (f : ℕ) (s : List ℕ) (depth at code : ℕ) (next : Position) → MovedOver Formulas s at code next → ((depth at : ℕ) → Enough s at f → Finished (formula f s depth at))
+    → Enough s at (suc f) → (shape : Shape) → Finished (shaped f s depth at (next .at) shape)
+unfolding shaped
+shaped-finishes f s depth at code next m fin h (binary two) =
+    when-finishes (ltb depth formulaNesting) _ _
+    (andThen-finishes (formula f s (depth + 1) (next .at)) (λ ψ₁ middle. andThen (formula f s (depth + 1) middle) λ ψ₂ end. whole (two ψ₁ ψ₂) end) (fin (depth + 1) (next .at) (omega arith))
+    (λ ψ₁ middle e. let l = formula-ends f s (depth + 1) (next .at) ψ₁ middle e in last-finishes (formula f s (depth + 1) middle) (two ψ₁) (fin (depth + 1) middle (omega arith)))) tt
+shaped-finishes f s depth at code next m fin h (unary one) =
+    when-finishes (ltb depth formulaNesting) _ _ (last-finishes (formula f s (depth + 1) (next .at)) one (fin (depth + 1) (next .at) (omega arith))) tt
+shaped-finishes f s depth at code next m fin h (leaf ψ) = tt
+
+pub formula-finishes : (f : ℕ) (s : List ℕ) (depth at : ℕ) → Enough s at f → Finished (formula f s depth at)
+formula-finishes zero s depth at h = absurd (omega arith)
+formula-finishes (suc f) s depth at h = go (λ depth′ at′ h′. formula-finishes f s depth′ at′ h′) (command Formulas s at) refl
+  where
+    go : ((depth at : ℕ) → Enough s at f → Finished (formula f s depth at)) → (d : Decoded) → command Formulas s at ≡ d → Finished (formula (suc f) s depth at)
+    go fin (Decodeds.Moved code next) c =
+        rw (step f s depth at code next c) (shaped-finishes f s depth at code next (moved Formulas s at code next c) fin h (shapeAt s at code))
+    go fin (Decodeds.Refused i n) c = rw (step-refused f s depth at i n c) tt
 
 -- What code that reads a formula does at each return.
 module _ (s : List ℕ) (depth at : ℕ) where

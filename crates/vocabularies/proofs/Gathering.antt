@@ -1,26 +1,26 @@
 -- Gathering the facts of a formula.
-use Prim.Native.Nat.{ℕ, zero, suc, _+_, _-_, _*_, _^_, _≤_, _<_}
-use mathlib.Core.Path.{_≡_, refl, sym, _∙_, ap}
+use Prim.Native.Nat.{ℕ, _+_, _-_, _≤_, _<_}
+use mathlib.Core.Path.{_≡_, refl, sym, _∙_}
 use mathlib.Core.List.{List}
 use mathlib.Core.Bool.{Bool, true, false, cond}
 use native.Mathlib.Omega.{arith}
 use lib.ListN.{length}
 use lib.Dec.{eqb}
-use borrow.Author.Tests.{eq-eqb, ne-eqb}
+use borrow.Author.Tests.{ne-eqb}
 use Rattle.verdicts.specs.declared.Form.{Form}
 use Rattle.commands.specs.declared.Context.the-variants.{Formulas}
 use Rattle.commands.specs.declared.Position.{Position}
 use Rattle.commands.specs.declared.Decoded.{Decoded}
 use Rattle.commands.specs.declared.Decoded.the-variants.{Moved, Refused}
 use Rattle.commands.specs.Commands.{byte, setAt, command}
-use Rattle.commands.specs.Reading.{Read, whole, refused, unfinished}
+use Rattle.commands.specs.Reading.{whole}
 use Rattle.commands.proofs.Laws.{moved, MovedOver}
 use Rattle.vocabularies.specs.declared.Facts.{Facts}
 use Rattle.vocabularies.specs.declared.Gathered.{Gathered}
 use Rattle.vocabularies.specs.Vocabulary.{Formula, conj, disj, neg, truth, attr, content, order, value}
-use Rattle.vocabularies.specs.Facts.{Fact, present, ordered, valued, add, withFacts}
+use Rattle.vocabularies.specs.Facts.{present, ordered, valued, withFacts}
 use Rattle.vocabularies.specs.VocabularyReading.{Shape, binary, unary, leaf, shapeAt, formula}
-use Rattle.vocabularies.specs.Promises.{Written, Represents, Adds, FactsWith, LeafAdds, Gathers}
+use Rattle.vocabularies.specs.Promises.{Written, Adds, FactsWith, LeafAdds, Gathers}
 use Rattle.vocabularies.proofs.Formulas.{Formed, not-formed, formed-by, one-shape, two-shape, leaf-shape}
 
 is-present : (c : ℕ) → Written (present c) 0 c 0

@@ -6,3 +6,4 @@ pub mod NameLists
 pub mod Clauses
 pub mod Rules
 pub mod Vocabularies
+pub mod Laws

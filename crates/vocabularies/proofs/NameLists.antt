@@ -1,11 +1,10 @@
 -- Rising lists: what each command of one makes of the reading, where a list ends, and what code that reads one does.
-use Prim.Native.Nat.{ℕ, zero, suc, _+_, _-_, _*_, _^_, _≤_, _<_}
-use mathlib.Core.Path.{_≡_, refl, sym, _∙_, ap}
+use Prim.Native.Nat.{ℕ, zero, suc, _+_, _^_, _≤_, _<_}
+use mathlib.Core.Path.{_≡_, refl, sym, _∙_}
 use mathlib.Core.List.{List, [], _∷_}
 use mathlib.Core.Logic.{_⊎_, inl, inr}
-use mathlib.Core.Bool.{Bool, true, false, not, _&&_, _||_, or-false, and-true}
+use mathlib.Core.Bool.{Bool, true, false, not, _||_, or-false, and-true}
 use native.Mathlib.Omega.{arith}
-use lib.ListN.{length}
 use lib.Dec.{leb, eqb}
 use borrow.Author.Tests.{le-leb, lt-leb, eqb-true, leb-true, leb-false, not-true, not-false}
 use Rattle.verdicts.specs.declared.Form.{Form}
@@ -20,14 +19,14 @@ use Rattle.commands.specs.declared.Decoded.the-variants as Decodeds
 use Rattle.commands.specs.declared.Part.{Part}
 use Rattle.commands.specs.declared.Part.the-variants.{Whole, Refused}
 use Rattle.commands.specs.Commands.{byte, allowed, command, operandsOf, inRange, allInRange}
-use Rattle.commands.specs.Reading.{Read, whole, refused, unfinished, andThen, when}
+use Rattle.commands.specs.Reading.{Read, whole, refused, unfinished, andThen}
 use Rattle.commands.specs.Parts.{AgreesAs, Enough}
 use Rattle.commands.proofs.Laws.{moved, MovedOver}
 use Rattle.vocabularies.specs.declared.Names.{Names}
 use Rattle.vocabularies.specs.Vocabulary.{isIn}
 use Rattle.vocabularies.specs.VocabularyReading.{rising}
 use Rattle.vocabularies.specs.Promises.{partOf, NamesRead}
-use Rattle.vocabularies.proofs.Parts.{agrees-whole, agrees-refused, last-agrees-as, last-whole}
+use Rattle.vocabularies.proofs.Parts.{last-agrees-as, last-whole, Finished, last-finishes}
 
 -- One step of the definition.
 module _ (f : ℕ) (x : Context) (s : List ℕ) (least at : ℕ) where
@@ -98,6 +97,19 @@ rising-fuel (suc f) (suc g) x s least at h k = go (λ least′ at′ h′ k′. 
     go same (rises a code next c l) =
         let m = moved x s at code next c in
         rw (step-more f x s least at a code next c l, step-more g x s least at a code next c l, same (byte s (at + 1) + 1) (next .at) (omega arith) (omega arith))
+
+pub rising-finishes : (f : ℕ) (x : Context) (s : List ℕ) (least at : ℕ) → Enough s at f → Finished (rising f x s least at)
+rising-finishes zero x s least at h = absurd (omega arith)
+rising-finishes (suc f) x s least at h = go (λ least′ at′ h′. rising-finishes f x s least′ at′ h′) (stands x s least at)
+  where
+    go : ((least at : ℕ) → Enough s at f → Finished (rising f x s least at)) → Stands x s least at → Finished (rising (suc f) x s least at)
+    go fin (ended a) = rw (step-end f x s least at a) tt
+    go fin (refuses a i n c) = rw (step-refused f x s least at a i n c) tt
+    go fin (falls a code next c l) = rw (step-falls f x s least at a code next c l) tt
+    go fin (rises a code next c l) =
+        let m = moved x s at code next c in
+        rw (step-more f x s least at a code next c l)
+        (last-finishes (rising f x s (byte s (at + 1) + 1) (next .at)) (_∷_ (byte s (at + 1))) (fin (byte s (at + 1) + 1) (next .at) (omega arith)))
 
 -- An attribute is below 32, a content below 64.
 operand-low : (x : Context) (s : List ℕ) (at code : ℕ) (next : Position) → MovedOver x s at code next → (x ≡ Attributes) ⊎ (x ≡ Contents) → byte s (at + 1) < 64

@@ -1,7 +1,8 @@
 -- What holds of a part that agrees with the definition that reads it.
-use Prim.Native.Nat.{ℕ, zero, suc, _+_, _-_, _*_, _^_, _≤_, _<_}
+use Prim.Native.Nat.{ℕ, _+_, _-_, _*_, _^_, _<_}
 use mathlib.Core.Path.{_≡_, refl, sym, _∙_}
 use mathlib.Core.List.{List}
+use mathlib.Core.Bool.{Bool, true, false}
 use native.Mathlib.Omega.{arith}
 use lib.ListN.{length}
 use Rattle.verdicts.specs.declared.Form.{Form}
@@ -12,7 +13,7 @@ use Rattle.commands.specs.declared.Decoded.the-variants as Decodeds
 use Rattle.commands.specs.declared.Part.{Part}
 use Rattle.commands.specs.declared.Part.the-variants.{Whole, Refused}
 use Rattle.commands.specs.Commands.{command}
-use Rattle.commands.specs.Reading.{Read, whole, refused, unfinished, andThen}
+use Rattle.commands.specs.Reading.{Read, whole, refused, unfinished, andThen, when}
 use Rattle.commands.specs.Parts.{Agrees, AgreesAs, Enough}
 use Rattle.commands.proofs.Laws.{moved, MovedOver}
 
@@ -26,12 +27,6 @@ module _ {A : Type 0} (P : A → ℕ → Type 0) where
   agrees-refused (whole a end) f n h = absurd h
   agrees-refused (refused g m) f n h = rw (h .0, h .1)
   agrees-refused unfinished f n h = absurd h
-
-  pub whole-agrees : (x : Read A) (a : A) (p : Position) → x ≡ whole a (p .at) → P a (p .at) → AgreesAs P x (Whole p)
-  whole-agrees x a p e h = rw e (refl, h)
-
-  pub refused-agrees : (x : Read A) (f : Form) (n : ℕ) → x ≡ refused f n → AgreesAs P x (Refused f n)
-  refused-agrees x f n e = rw e (refl, refl)
 
 module _ {A : Type 0} where
   -- What is read whole is what is read.
@@ -77,13 +72,26 @@ pub is-plenty : (s : List ℕ) (at : ℕ) → Enough s at (plenty s at)
 unfolding plenty
 is-plenty s at = omega arith
 
--- Enough is enough further on, also after a step.
-module _ (s : List ℕ) (at next f : ℕ) where
-  pub enough-on : at ≤ next → Enough s at f → Enough s next f
-  enough-on h e = omega arith
+-- A reading that did not run out of fuel.
+abbrev pub Finished : {A : Type 0} → Read A → Type 0
+Finished (whole a end) = Unit {0}
+Finished (refused f n) = Unit {0}
+Finished unfinished = ⊥
 
-  pub enough-step : at < next → next ≤ length s → Enough s at (suc f) → Enough s next f
-  enough-step h l e = omega arith
+module _ {A : Type 0} where
+  pub last-finishes : {B : Type 0} (x : Read A) (k : A → B) → Finished x → Finished (andThen x (λ a end. whole (k a) end))
+  last-finishes (whole a end) k h = tt
+  last-finishes (refused f n) k h = tt
+  last-finishes unfinished k h = h
+
+  pub andThen-finishes : {B : Type 0} (x : Read A) (k : A → ℕ → Read B) → Finished x → ((a : A) (end : ℕ) → x ≡ whole a end → Finished (k a end)) → Finished (andThen x k)
+  andThen-finishes (whole a end) k h n = n a end refl
+  andThen-finishes (refused f m) k h n = tt
+  andThen-finishes unfinished k h n = h
+
+  pub when-finishes : (b : Bool) (y n : Unit {0} → Read A) → Finished (y tt) → Finished (n tt) → Finished (when b y n)
+  when-finishes true y n h k = h
+  when-finishes false y n h k = k
 
 -- Over a command that was read the bytes that are left fall, and its offset is far below what a word holds.
 module _ (x : Context) (s : List ℕ) (d : Decoded) (at code : ℕ) (next : Position) (c : d ≡ command x s at) (e : d ≡ Decodeds.Moved code next) where

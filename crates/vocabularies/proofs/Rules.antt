@@ -1,8 +1,8 @@
 -- Rules: where one ends, that enough fuel reads it in one way, and what code that reads one, and keeps them in tables, does.
-use Prim.Native.Nat.{ℕ, zero, suc, _+_, _-_, _≤_, _<_}
-use mathlib.Core.Path.{_≡_, refl, sym, _∙_, ap}
+use Prim.Native.Nat.{ℕ, _≤_, _<_}
+use mathlib.Core.Path.{_≡_, refl, sym, _∙_}
 use mathlib.Core.List.{List, [], _∷_, _++_}
-use mathlib.Core.Option.{Option, some, none}
+use mathlib.Core.Option.{some, none}
 use mathlib.Core.Bool.{Bool, true, false, cond, _||_}
 use native.Mathlib.Omega.{arith}
 use lib.ListN.{length, getD, set}
@@ -16,18 +16,18 @@ use Rattle.commands.specs.declared.Context.the-variants.{Attributes, Contents}
 use Rattle.commands.specs.declared.Position.{Position}
 use Rattle.commands.specs.declared.Part.{Part}
 use Rattle.commands.specs.declared.Part.the-variants.{Whole, Refused}
-use Rattle.commands.specs.Reading.{Read, whole, refused, unfinished, andThen}
-use Rattle.commands.specs.Parts.{AgreesAs, Enough}
+use Rattle.commands.specs.Reading.{Read, whole, andThen}
+use Rattle.commands.specs.Parts.{Enough}
 use Rattle.commands.proofs.Laws.{andThen-whole}
 use Rattle.vocabularies.specs.declared.Names.{Names}
 use Rattle.vocabularies.specs.declared.RuleRead.{RuleRead}
 use Rattle.vocabularies.specs.declared.Tables.{Tables}
-use Rattle.vocabularies.specs.Vocabulary.{Formula, Rule, isIn, ruleOf, isSome, declared}
+use Rattle.vocabularies.specs.Vocabulary.{Rule, isIn, ruleOf, isSome, declared}
 use Rattle.vocabularies.specs.VocabularyReading.{rising, clauses, ruleBody}
 use Rattle.vocabularies.specs.Promises.{NamesRead, ClausesRead, RuleTables, RuleReads, DescribesRules, AddsRule}
-use Rattle.vocabularies.proofs.Parts.{agrees-whole, agrees-refused, agrees-itself, andThen-same, last-agrees-as, last-whole}
-use Rattle.vocabularies.proofs.NameLists.{rising-ends, rising-fuel}
-use Rattle.vocabularies.proofs.Clauses.{clauses-ends, clauses-fuel}
+use Rattle.vocabularies.proofs.Parts.{agrees-whole, agrees-refused, agrees-itself, andThen-same, last-agrees-as, last-whole, Finished, last-finishes, andThen-finishes}
+use Rattle.vocabularies.proofs.NameLists.{rising-ends, rising-fuel, rising-finishes}
+use Rattle.vocabularies.proofs.Clauses.{clauses-ends, clauses-fuel, clauses-finishes}
 
 -- What follows the attributes of a rule, and its contents.
 abbrev withClauses : ℕ → List ℕ → ℕ → List ℕ → List ℕ → ℕ → Read Rule
@@ -56,6 +56,14 @@ rule-fuel f g s e at h k =
     (rising-fuel f g Contents s 0 next (omega arith) (omega arith)) λ cs next′ y.
     let l₂ = rising-ends g Contents s 0 next cs next′ y in
     rw (clauses-fuel f g s next′ (omega arith) (omega arith))
+
+pub rule-finishes : (f : ℕ) (s : List ℕ) (e at : ℕ) → Enough s at f → Finished (ruleBody f s e at)
+rule-finishes f s e at h =
+    andThen-finishes (rising f Attributes s 0 at) (withContents f s e) (rising-finishes f Attributes s 0 at h) λ names next x.
+    let l₁ = rising-ends f Attributes s 0 at names next x in
+    andThen-finishes (rising f Contents s 0 next) (withClauses f s e names) (rising-finishes f Contents s 0 next (omega arith)) λ cs next′ y.
+    let l₂ = rising-ends f Contents s 0 next cs next′ y in
+    last-finishes (clauses f s next′) (λ ψs. record { element = e; attributes = names; contents = cs; clauses = ψs }) (clauses-finishes f s next′ (omega arith))
 
 -- What code that reads a rule does. A refusal in a list is the rule's.
 module _ (s : List ℕ) (at : ℕ) (names : Names) (read : NamesRead s Attributes at names) where
@@ -110,12 +118,12 @@ rule-other (r′ ∷ rs) r e n = rw (rule-other rs r e n)
 -- Tables: none at first, and one rule more.
 pub no-rules : (s : List ℕ) (t : Tables) → t .declared ≡ 0 → DescribesRules s [] t
 unfolding ruleOf
-no-rules s t z = record { declares = λ e. rw z (member-zero e); rule = λ e r h. absurd (let y : _≡_ {A = ℕ} 0 1 = cc in omega arith) }
+no-rules s t z = record { declares = λ e. rw z (member-zero e); names-root = refl; rule = λ e r h. absurd (let y : _≡_ {A = ℕ} 0 1 = cc in omega arith) }
 
 module _ (t : Tables) (e : ℕ) (x : RuleRead) (word : ℕ) (told : (k : ℕ) → member word k ≡ (eqb k e || member (t .declared) k)) where
   pub adds-rule : e < length (t .attributes) → e < length (t .contents) → e < length (t .clauses)
       → AddsRule t e x (record { declared = word; attributes = set (t .attributes) e (x .attributes); contents = set (t .contents) e (x .contents); clauses = set (t .clauses) e (x .clauses); root = t .root })
-  adds-rule l₁ l₂ l₃ s rs r d none′ q tables = record { declares = λ k. declares′ k (eqb k e) refl; rule = λ k r′ h. rule′ k (eqb k e) refl r′ h }
+  adds-rule l₁ l₂ l₃ s rs r d none′ q tables = record { declares = λ k. declares′ k (eqb k e) refl; names-root = refl; rule = λ k r′ h. rule′ k (eqb k e) refl r′ h }
     where
       other : (k : ℕ) → eqb k e ≡ false → ruleOf (rs ++ (r ∷ [])) k ≡ ruleOf rs k
       other k b = rule-other rs r k (λ z. eqb-false k e b (sym z ∙ q))

@@ -1,12 +1,12 @@
 -- The rules up to `05 e`: what each command makes of the reading, and what code that reads them does.
 use Prim.Native.Nat.{ℕ, zero, suc, _+_, _-_, _≤_, _<_}
-use mathlib.Core.Path.{_≡_, refl, sym, _∙_, ap}
+use mathlib.Core.Path.{_≡_, refl, sym, _∙_}
 use mathlib.Core.List.{List, [], _∷_, _++_}
-use mathlib.Core.Bool.{Bool, true, false, _&&_, _||_, and-true}
+use mathlib.Core.Bool.{Bool, true, false, not, cond, _&&_, and-true}
 use native.Mathlib.Omega.{arith}
 use lib.ListN.{length}
 use lib.Dec.{leb, eqb}
-use borrow.Author.Tests.{eq-eqb, ne-eqb, eqb-true, leb-true}
+use borrow.Author.Tests.{eq-eqb, ne-eqb, eqb-true, eqb-false, leb-true, not-true, not-false}
 use Rattle.verdicts.specs.declared.Form.{Form}
 use Rattle.verdicts.specs.declared.Form.the-variants.{NotRising, Missing}
 use Rattle.sets.specs.Sets.{member}
@@ -17,17 +17,17 @@ use Rattle.commands.specs.declared.Decoded.the-variants as Decodeds
 use Rattle.commands.specs.declared.Part.{Part}
 use Rattle.commands.specs.declared.Part.the-variants.{Whole, Refused}
 use Rattle.commands.specs.Commands.{byte, allowed, command, operandsOf, inRange, allInRange}
-use Rattle.commands.specs.Reading.{Read, whole, refused, andThen, enough}
+use Rattle.commands.specs.Reading.{whole, refused, andThen, enough}
 use Rattle.commands.specs.Parts.{AgreesAs, Enough}
-use Rattle.commands.proofs.Laws.{moved, MovedOver}
+use Rattle.commands.proofs.Laws.{moved, MovedOver, andThen-whole}
 use Rattle.vocabularies.specs.declared.RuleRead.{RuleRead}
 use Rattle.vocabularies.specs.declared.Tables.{Tables}
 use Rattle.vocabularies.specs.declared.VocabularyRead.{VocabularyRead}
 use Rattle.vocabularies.specs.Vocabulary.{Rule, Vocabulary, declared}
 use Rattle.vocabularies.specs.VocabularyReading.{ruleBody, rules, vocabulary}
-use Rattle.vocabularies.specs.Promises.{partOf, RuleTables, RuleReads, DescribesRules, AddsRule, Describes, VocabularyReads}
-use Rattle.vocabularies.proofs.Parts.{agrees-whole, agrees-refused, plenty, is-plenty}
-use Rattle.vocabularies.proofs.Rules.{rule-element, rule-fuel}
+use Rattle.vocabularies.specs.Promises.{partOf, RuleTables, RuleReads, DescribesRules, AddsRule, Describes, rooted, VocabularyReads}
+use Rattle.vocabularies.proofs.Parts.{agrees-whole, agrees-refused, plenty, is-plenty, Finished, andThen-finishes}
+use Rattle.vocabularies.proofs.Rules.{rule-element, rule-fuel, rule-finishes}
 
 -- One step of the definition.
 module _ (f : ℕ) (s : List ℕ) (given : List Rule) (at : ℕ) where
@@ -52,6 +52,69 @@ module _ (f : ℕ) (s : List ℕ) (given : List Rule) (at : ℕ) where
         → rules (suc f) s given at ≡ andThen (ruleBody f s (byte s (at + 1)) (next .at)) (λ r end. rules f s (given ++ (r ∷ [])) end)
     unfolding rules
     step-rule k d = rw (c, ne-eqb code 0x05 k, d)
+
+-- What stands at an offset of the rules.
+data Stands (s : List ℕ) (given : List Rule) (at : ℕ) : Type 0 where
+  refuses : (i : Form) (n : ℕ) → command Rules s at ≡ Decodeds.Refused i n → Stands s given at
+  root : (code : ℕ) (next : Position) → command Rules s at ≡ Decodeds.Moved code next → code ≡ 0x05 → declared given (byte s (at + 1)) ≡ true → Stands s given at
+  missing : (code : ℕ) (next : Position) → command Rules s at ≡ Decodeds.Moved code next → code ≡ 0x05 → declared given (byte s (at + 1)) ≡ false → Stands s given at
+  twice : (code : ℕ) (next : Position) → command Rules s at ≡ Decodeds.Moved code next → (code ≡ 0x05 → ⊥) → declared given (byte s (at + 1)) ≡ true → Stands s given at
+  rule : (code : ℕ) (next : Position) → command Rules s at ≡ Decodeds.Moved code next → (code ≡ 0x05 → ⊥) → declared given (byte s (at + 1)) ≡ false → Stands s given at
+
+stands : (s : List ℕ) (given : List Rule) (at : ℕ) → Stands s given at
+stands s given at = by-command (command Rules s at) refl
+  where
+    by-tests : (code : ℕ) (next : Position) → command Rules s at ≡ Decodeds.Moved code next → (b d : Bool) → eqb code 0x05 ≡ b → declared given (byte s (at + 1)) ≡ d → Stands s given at
+    by-tests code next c true true e k = root code next c (eqb-true code 0x05 e) k
+    by-tests code next c true false e k = missing code next c (eqb-true code 0x05 e) k
+    by-tests code next c false true e k = twice code next c (eqb-false code 0x05 e) k
+    by-tests code next c false false e k = rule code next c (eqb-false code 0x05 e) k
+
+    by-command : (d : Decoded) → command Rules s at ≡ d → Stands s given at
+    by-command (Decodeds.Moved code next) c = by-tests code next c (eqb code 0x05) (declared given (byte s (at + 1))) refl refl
+    by-command (Decodeds.Refused i n) c = refuses i n c
+
+-- The rules end behind their start, and within the bytes.
+pub rules-ends : (f : ℕ) (s : List ℕ) (given : List Rule) (at : ℕ) (D : Vocabulary) (end : ℕ) → rules f s given at ≡ whole D end → (at < end) × (end ≤ length s)
+unfolding rules
+rules-ends zero s given at D end e = absurd (let z : _≡_ {A = ℕ} 0 1 = cc in omega arith)
+rules-ends (suc f) s given at D end e = go (λ given′ at′ e′. rules-ends f s given′ at′ D end e′) (stands s given at)
+  where
+    go : ((given : List Rule) (at : ℕ) → rules f s given at ≡ whole D end → (at < end) × (end ≤ length s)) → Stands s given at → (at < end) × (end ≤ length s)
+    go ends (refuses i n c) = absurd (let z : _≡_ {A = ℕ} 0 1 = cc (step-refused f s given at i n c) in omega arith)
+    go ends (root code next c k d) = let z : next .at ≡ end = cc (step-root f s given at code next c k d) in omega (arith, moved Rules s at code next c)
+    go ends (missing code next c k d) = absurd (let z : _≡_ {A = ℕ} 0 1 = cc (step-missing f s given at code next c k d) in omega arith)
+    go ends (twice code next c k d) = absurd (let z : _≡_ {A = ℕ} 0 1 = cc (step-twice f s given at code next c k d) in omega arith)
+    go ends (rule code next c k d) =
+        let w = andThen-whole (ruleBody f s (byte s (at + 1)) (next .at)) (λ r end. rules f s (given ++ (r ∷ [])) end) D end (sym (step-rule f s given at code next c k d) ∙ e) in
+        let l = rule-element f s (byte s (at + 1)) (next .at) (w .0) (w .1) (w .2) in
+        let o = ends (given ++ (w .0 ∷ [])) (w .1) (w .3) in
+        omega (arith, moved Rules s at code next c)
+
+pub rules-finishes : (f : ℕ) (s : List ℕ) (given : List Rule) (at : ℕ) → Enough s at f → Finished (rules f s given at)
+rules-finishes zero s given at h = absurd (omega arith)
+rules-finishes (suc f) s given at h = go (λ given′ at′ h′. rules-finishes f s given′ at′ h′) (stands s given at)
+  where
+    go : ((given : List Rule) (at : ℕ) → Enough s at f → Finished (rules f s given at)) → Stands s given at → Finished (rules (suc f) s given at)
+    go fin (refuses i n c) = rw (step-refused f s given at i n c) tt
+    go fin (root code next c k d) = rw (step-root f s given at code next c k d) tt
+    go fin (missing code next c k d) = rw (step-missing f s given at code next c k d) tt
+    go fin (twice code next c k d) = rw (step-twice f s given at code next c k d) tt
+    go fin (rule code next c k d) =
+        let m = moved Rules s at code next c in
+        rw (step-rule f s given at code next c k d)
+        (andThen-finishes (ruleBody f s (byte s (at + 1)) (next .at)) (λ r end. rules f s (given ++ (r ∷ [])) end) (rule-finishes f s (byte s (at + 1)) (next .at) (omega arith)) λ r end e.
+        let l = rule-element f s (byte s (at + 1)) (next .at) r end e in
+        fin (given ++ (r ∷ [])) end (omega arith))
+
+pub vocabulary-ends : (s : List ℕ) (D : Vocabulary) (end : ℕ) → vocabulary s ≡ whole D end → (0 < end) × (end ≤ length s)
+unfolding vocabulary
+vocabulary-ends s D end e = rules-ends (enough s) s [] 0 D end e
+
+-- The fuel that is given does not run out.
+pub vocabulary-finishes : (s : List ℕ) → Finished (vocabulary s)
+unfolding vocabulary
+vocabulary-finishes s = rules-finishes (enough s) s [] 0 (omega arith)
 
 -- The element of `01 e` or `05 e` is below 64.
 second : (b : Bool) (y : ℕ) → (b && leb y 63 && true) ≡ true → y < 64
@@ -92,42 +155,45 @@ module _ (s : List ℕ) (place : Position) (t : Tables) (on : RulesContinue s (p
     pub element-fits : e < 64
     element-fits = rw named (element-low s (place .at) code next (moved Rules s (place .at) code next (sym c ∙ q)))
 
+    declared-as : (b : Bool) → member (t .declared) e ≡ b → declared (on .given) (byte s (place .at + 1)) ≡ b
+    declared-as b k = rw (← named) (sym (on .describes .declares e) ∙ k)
+
+    pub rules-rooted : code ≡ 0x05 → (r : VocabularyRead) → r ≡ rooted t e (place .at) next → VocabularyReads s r
+    rules-rooted k r y = rw y (by-rule (member (t .declared) e) refl)
+      where
+        whole-tables : Tables
+        whole-tables = record { declared = t .declared; attributes = t .attributes; contents = t .contents; clauses = t .clauses; root = e }
+
+        found : member (t .declared) e ≡ true → (f : ℕ) → Enough s (place .at) f → AgreesAs (λ D end. Describes s D whole-tables) (rules f s (on .given) (place .at)) (Whole next)
+        found z zero h = absurd (omega arith)
+        found z (suc f) h = rw (step-root f s (on .given) (place .at) code next (sym c ∙ q) k (declared-as true z))
+            (refl, record { declares = on .describes .declares; names-root = named; rule = on .describes .rule })
+
+        lacking : member (t .declared) e ≡ false → (f : ℕ) → Enough s (place .at) f → AgreesAs (λ D end. Describes s D t) (rules f s (on .given) (place .at)) (Refused Missing (place .at))
+        lacking z zero h = absurd (omega arith)
+        lacking z (suc f) h = rw (step-missing f s (on .given) (place .at) code next (sym c ∙ q) k (declared-as false z)) (refl, refl)
+
+        by-rule : (b : Bool) → member (t .declared) e ≡ b → VocabularyReads s (cond b (record { part = Whole next; tables = whole-tables }) (record { part = Refused Missing (place .at); tables = t }))
+        by-rule true z = on .continues (record { part = Whole next; tables = whole-tables }) (found z)
+        by-rule false z = on .continues (record { part = Refused Missing (place .at); tables = t }) (lacking z)
+
     module _ (known : Bool) (told : known ≡ member (t .declared) e) where
-      declared-as : (b : Bool) → known ≡ b → declared (on .given) (byte s (place .at + 1)) ≡ b
-      declared-as b k = rw (← named) (sym (on .describes .declares e) ∙ sym told ∙ k)
-
-      pub rules-root : code ≡ 0x05 → known ≡ true
-          → VocabularyReads s (record { part = Whole next; tables = record { declared = t .declared; attributes = t .attributes; contents = t .contents; clauses = t .clauses; root = e } })
-      rules-root k z = on .continues (record { part = Whole next; tables = rooted }) λ f h. agrees f h
-        where
-          rooted : Tables
-          rooted = record { declared = t .declared; attributes = t .attributes; contents = t .contents; clauses = t .clauses; root = e }
-
-          agrees : (f : ℕ) → Enough s (place .at) f → AgreesAs (λ D end. Describes s D rooted) (rules f s (on .given) (place .at)) (Whole next)
-          agrees zero h = absurd (omega arith)
-          agrees (suc f) h = rw (step-root f s (on .given) (place .at) code next (sym c ∙ q) k (declared-as true z))
-              (refl, record { declares = on .describes .declares; names-root = named; rule = on .describes .rule })
-
-      pub rules-missing : code ≡ 0x05 → known ≡ false → VocabularyReads s (record { part = Refused Missing (place .at); tables = t })
-      rules-missing k z = on .continues (record { part = Refused Missing (place .at); tables = t }) λ f h. agrees f h
-        where
-          agrees : (f : ℕ) → Enough s (place .at) f → AgreesAs (λ D end. Describes s D t) (rules f s (on .given) (place .at)) (Refused Missing (place .at))
-          agrees zero h = absurd (omega arith)
-          agrees (suc f) h = rw (step-missing f s (on .given) (place .at) code next (sym c ∙ q) k (declared-as false z)) (refl, refl)
+      is-declared : (b : Bool) → known ≡ b → declared (on .given) (byte s (place .at + 1)) ≡ b
+      is-declared b k = declared-as b (sym told ∙ k)
 
       pub rules-twice : (code ≡ 0x05 → ⊥) → known ≡ true → VocabularyReads s (record { part = Refused NotRising (place .at); tables = t })
       rules-twice k z = on .continues (record { part = Refused NotRising (place .at); tables = t }) λ f h. agrees f h
         where
           agrees : (f : ℕ) → Enough s (place .at) f → AgreesAs (λ D end. Describes s D t) (rules f s (on .given) (place .at)) (Refused NotRising (place .at))
           agrees zero h = absurd (omega arith)
-          agrees (suc f) h = rw (step-twice f s (on .given) (place .at) code next (sym c ∙ q) k (declared-as true z)) (refl, refl)
+          agrees (suc f) h = rw (step-twice f s (on .given) (place .at) code next (sym c ∙ q) k (is-declared true z)) (refl, refl)
 
       module _ (k : code ≡ 0x05 → ⊥) (z : known ≡ false) (x : RuleRead) (read : RuleReads s (next .at) x) where
         m : MovedOver Rules s (place .at) code next
         m = moved Rules s (place .at) code next (sym c ∙ q)
 
         stepped : (f : ℕ) → rules (suc f) s (on .given) (place .at) ≡ andThen (ruleBody f s e (next .at)) (λ r end. rules f s (on .given ++ (r ∷ [])) end)
-        stepped f = rw (step-rule f s (on .given) (place .at) code next (sym c ∙ q) k (declared-as false z), named)
+        stepped f = rw (step-rule f s (on .given) (place .at) code next (sym c ∙ q) k (is-declared false z), named)
 
         pub rules-broken : (i : Form) (n : ℕ) → x .part ≡ Refused i n → VocabularyReads s (record { part = x .part; tables = t })
         rules-broken i n y = on .continues (record { part = x .part; tables = t }) λ f h. agrees f h
@@ -149,7 +215,7 @@ module _ (s : List ℕ) (place : Position) (t : Tables) (on : RulesContinue s (p
               let w = rule-element (plenty s (next .at)) s e (next .at) (r .0) (end .at) (r .1) in
               record {
                 given = on .given ++ (r .0 ∷ []);
-                describes = adds s (on .given) (r .0) (on .describes) (rw named (declared-as false z)) (w .0) (r .2);
+                describes = adds s (on .given) (r .0) (on .describes) (rw named (is-declared false z)) (w .0) (r .2);
                 continues = λ v h. on .continues v λ f n. agrees (r .0) (r .1) (w .1) v h f n;
               }
             where
@@ -162,3 +228,12 @@ module _ (s : List ℕ) (place : Position) (t : Tables) (on : RulesContinue s (p
 
           pub rules-fall : length s - end .at < length s - place .at
           rules-fall = let r = the-rule in let w = rule-element (plenty s (next .at)) s e (next .at) (r .0) (end .at) (r .1) in omega (arith, m)
+
+-- The two answers to `05 e`.
+module _ (t : Tables) (e at : ℕ) (next : Position) (known : Bool) (told : known ≡ member (t .declared) e) where
+  pub root-missing : not known ≡ true → record { part = Refused Missing at; tables = t } ≡ rooted t e at next
+  root-missing k = rw (sym told ∙ not-true known k)
+
+  pub root-found : not known ≡ false
+      → record { part = Whole next; tables = record { declared = t .declared; attributes = t .attributes; contents = t .contents; clauses = t .clauses; root = e } } ≡ rooted t e at next
+  root-found k = rw (sym told ∙ not-false known k)

@@ -3,10 +3,12 @@ use Prim.Native.Nat.{ℕ, _≤_, _<_, min}
 use mathlib.Core.Path.{_≡_}
 use mathlib.Core.List.{List, [], _∷_, _++_}
 use mathlib.Core.Option.{some}
-use mathlib.Core.Bool.{Bool, false}
+use mathlib.Core.Bool.{Bool, false, cond}
 use lib.ListN.{length, getD}
+use Rattle.verdicts.specs.declared.Form.the-variants.{Missing}
 use Rattle.sets.specs.Sets.{member}
 use Rattle.commands.specs.declared.Context.{Context}
+use Rattle.commands.specs.declared.Position.{Position}
 use Rattle.commands.specs.declared.Part.{Part}
 use Rattle.commands.specs.declared.Part.the-variants.{Whole, Refused}
 use Rattle.commands.specs.declared.Decoded.{Decoded}
@@ -20,7 +22,7 @@ use Rattle.vocabularies.specs.declared.Gathered.{Gathered}
 use Rattle.vocabularies.specs.declared.Names.{Names}
 use Rattle.vocabularies.specs.declared.RuleRead.{RuleRead}
 use Rattle.vocabularies.specs.Facts.{Fact, present, ordered, valued, sameFact, isAmong, add, withFacts}
-use Rattle.vocabularies.specs.Vocabulary.{Formula, order, Rule, Vocabulary, ruleOf, declared, isIn}
+use Rattle.vocabularies.specs.Vocabulary.{Formula, Rule, Vocabulary, ruleOf, declared, isIn}
 use Rattle.vocabularies.specs.VocabularyReading.{leaf, shapeAt, formula, rising, clauses, ruleBody, vocabulary}
 
 -- A command alone as a part.
@@ -103,21 +105,29 @@ pub record RuleTables (s : List ℕ) (r : Rule) (attributes contents at : ℕ) :
 abbrev pub RuleReads : List ℕ → ℕ → RuleRead → Type 0
 RuleReads s at t = (e f : ℕ) → Enough s at f → AgreesAs (λ r end. RuleTables s r (t .attributes) (t .contents) (t .clauses)) (ruleBody f s e at) (t .part)
 
-pub record DescribesRules (s : List ℕ) (rs : List Rule) (t : Tables) : Type 0 where
-  pub declares : (e : ℕ) → member (t .declared) e ≡ declared rs e
-  pub rule : (e : ℕ) (r : Rule) → ruleOf rs e ≡ some r
+pub record Describes (s : List ℕ) (D : Vocabulary) (t : Tables) : Type 0 where
+  pub declares : (e : ℕ) → member (t .declared) e ≡ declared (D .rules) e
+  pub names-root : t .root ≡ D .root
+  pub rule : (e : ℕ) (r : Rule) → ruleOf (D .rules) e ≡ some r
       → RuleTables s r (getD (t .attributes) e 0) (getD (t .contents) e 0) (getD (t .clauses) e 0)
+
+-- The same before the root is known: the tables of the rules so far.
+abbrev pub DescribesRules : List ℕ → List Rule → Tables → Type 0
+DescribesRules s rs t = Describes s (record { rules = rs; root = t .root }) t
 
 -- The tables with the rule of one element more.
 abbrev pub AddsRule : Tables → ℕ → RuleRead → Tables → Type 0
 AddsRule t e x r = (s : List ℕ) (rs : List Rule) (rule : Rule) → DescribesRules s rs t → declared rs e ≡ false → rule .element ≡ e
     → RuleTables s rule (x .attributes) (x .contents) (x .clauses) → DescribesRules s (rs ++ (rule ∷ [])) r
 
-pub record Describes (s : List ℕ) (D : Vocabulary) (t : Tables) : Type 0 where
-  pub declares : (e : ℕ) → member (t .declared) e ≡ declared (D .rules) e
-  pub names-root : t .root ≡ D .root
-  pub rule : (e : ℕ) (r : Rule) → ruleOf (D .rules) e ≡ some r
-      → RuleTables s r (getD (t .attributes) e 0) (getD (t .contents) e 0) (getD (t .clauses) e 0)
+-- What `05 e` at an offset makes of the tables.
+abbrev pub rooted : Tables → ℕ → ℕ → Position → VocabularyRead
+rooted t e at next = cond (member (t .declared) e)
+    (record {
+      part = Whole next;
+      tables = record { declared = t .declared; attributes = t .attributes; contents = t .contents; clauses = t .clauses; root = e };
+    })
+    (record { part = Refused Missing at; tables = t })
 
 abbrev pub VocabularyReads : List ℕ → VocabularyRead → Type 0
 VocabularyReads s r = AgreesAs (λ D end. Describes s D (r .tables)) (vocabulary s) (r .part)

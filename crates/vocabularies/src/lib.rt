@@ -4,7 +4,7 @@ ghost use mathlib.Core.Path.{_≡_};
 ghost use mathlib.Core.List.{List, []};
 ghost use mathlib.Core.Logic.{_⊎_};
 ghost use Rattle.vocabularies.specs.Vocabulary.{order};
-ghost use Rattle.vocabularies.specs.Promises.{partOf, FormulaReads, Represents, TellsSame, TellsAmong, Adds, FactsWith, LeafAdds, Gathers, NamesRead, ClausesRead, RuleReads, DescribesRules, AddsRule, VocabularyReads};
+ghost use Rattle.vocabularies.specs.Promises.{partOf, FormulaReads, Represents, TellsSame, TellsAmong, Adds, FactsWith, LeafAdds, Gathers, NamesRead, ClausesRead, RuleReads, DescribesRules, AddsRule, rooted, VocabularyReads};
 use commands::Context;
 use commands::Decoded;
 use commands::Part;
@@ -29,8 +29,8 @@ pub struct VocabularyRead {
     pub tables: Tables,
 }
 
-// The facts of a clause so far, in the order of their definition. `count` is 9 where there are more than 8, and then only the first
-// 8 are kept.
+// The facts of a clause so far, in the order of their definition: of each its kind and its operands. `count` is 9 where there are
+// more than 8, of which only the first 8 are kept.
 pub struct Facts {
     pub kinds: [u8; 8],
     pub firsts: [u8; 8],
@@ -60,13 +60,14 @@ pub struct RuleRead {
 
 const FORMULA_NESTING: usize = 16;
 
-const MOST_FACTS: usize = 8;
+pub const MOST_FACTS: usize = 8;
 
-const PRESENT: u8 = 0;
+// The kinds of facts: a content of `15` and `16`, a pair of `16`, an attribute and a set of `17`.
+pub const PRESENT: u8 = 0;
 
-const ORDERED: u8 = 1;
+pub const ORDERED: u8 = 1;
 
-const VALUED: u8 = 2;
+pub const VALUED: u8 = 2;
 
 // A command alone as a part.
 pub fn part_of(d: Decoded) -> Part
@@ -333,6 +334,25 @@ fn with_rule(tables: Tables, e: u8, rule: RuleRead) -> Tables
     more
 }
 
+// What `05 e` makes of the rules that were read: `e` is the root, if it has a rule.
+fn with_root(tables: Tables, e: u8, at: usize, next: Position) -> VocabularyRead
+    requires { ⌜ e < 64 ⌝ }
+    ensures { λ r. ⌜ r ≡ rooted tables e at next ⌝ }
+{
+    if !sets::has(tables.declared, e) {
+        return VocabularyRead {
+            part: Part::Refused(Form::Missing, at),
+            tables,
+        };
+    }
+    let mut whole = tables;
+    whole.root = e;
+    VocabularyRead {
+        part: Part::Whole(next),
+        tables: whole,
+    }
+}
+
 // The vocabulary that bytes begin with.
 pub fn read_vocabulary(s: &[u8]) -> VocabularyRead
     ensures { λ r. ⌜ VocabularyReads (now (s .entry)) r ⌝ }
@@ -349,21 +369,10 @@ pub fn read_vocabulary(s: &[u8]) -> VocabularyRead
             };
         };
         let e = byte_at(s, at + 1);
-        let known = sets::has(tables.declared, e);
         if code == 0x05 {
-            if known {
-                tables.root = e;
-                return VocabularyRead {
-                    part: Part::Whole(next),
-                    tables,
-                };
-            }
-            return VocabularyRead {
-                part: Part::Refused(Form::Missing, at),
-                tables,
-            };
+            return with_root(tables, e, at, next);
         }
-        if known {
+        if sets::has(tables.declared, e) {
             return VocabularyRead {
                 part: Part::Refused(Form::NotRising, at),
                 tables,

@@ -2,7 +2,6 @@
 -- further on. What is read from the loop's position on goes on what was read before it.
 use Prim.Native.Nat.{ℕ, _+_, _-_, _<_, _≤_}
 use mathlib.Core.Path.{_≡_, refl, sym, ap, _∙_}
-use mathlib.Core.Bool.{true, false}
 use native.Mathlib.Omega.{arith}
 use lib.ListN.{length}
 use borrow.Author.Needs.{needs}
@@ -17,7 +16,8 @@ use Rattle.commands.proofs.Laws.{moved}
 use Rattle.pages.specs.ItemReading.{endOf}
 use Rattle.pages.specs.Promises.{partOf, ItemsRead}
 use Rattle.pages.proofs.Laws.{Onward, element-range, ended-inside}
-use Rattle.pages.proofs.Agreement.{items-end, items-refused, items-next, item-refused, item-leaf, item-missing, item-deep, item-attributes-refused, item-element, attributes-onward, item-onward}
+use Rattle.pages.proofs.Agreement.{items-end, items-refused, items-next, item-refused, item-leaf, item-missing, item-deep, item-attributes-refused, item-element}
+use Rattle.pages.proofs.Trees.{attributes-onward, item-onward}
 use Rattle.pages.proofs.read_item.Reads as read-item
 use Rattle.pages.proofs.read_item.Kinds as read-item-kinds
 use Rattle.pages.proofs.+read_item+read_items.Lts-read_item as read-item-lts
@@ -102,7 +102,7 @@ module _ (t : ℕ) where
   -- Where its attributes end.
   inside : (c : read-item-lts.After-known-told2 (item-claims t) (read-item-at t) read-item.Post)
       → (c .before .before .before .before .before .before .before .before .before .before .before .before .d .given .0 .1 .0 .at ≤ c .before .attributes .given .0 .0 .at) × (c .before .attributes .given .0 .0 .at ≤ length (c .before .before .before .before .before .before .before .before .before .before .before .before .before .before .before .before .before .args .s .now))
-  inside c = attributes-onward _ _ _ _ _ _ (reads-on (c .before .before .before .before .before .before .before .before .before .before .before) .1) (c .before .attributes .given .1) (c .before .before .before .read-attributes .ensures)
+  inside c = attributes-onward _ _ _ _ _ _ (c .before .attributes .given .1) (c .before .before .before .read-attributes .ensures) (reads-on (c .before .before .before .before .before .before .before .before .before .before .before) .1)
 
   item-item-context-requires : read-item-lts.Need-item-context-requires (item-claims t) (read-item-at t) read-item.Post
   item-item-context-requires c κs = search needs

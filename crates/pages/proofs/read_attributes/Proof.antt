@@ -2,7 +2,7 @@
 use Prim.Native.Nat.{ℕ, _+_, _-_, _<_, _≤_}
 use mathlib.Core.Path.{_≡_, refl, sym, ap, _∙_}
 use mathlib.Core.List.{List, [], _∷_}
-use mathlib.Core.Bool.{true, false}
+use mathlib.Core.Bool.{true}
 use native.Mathlib.Omega.{arith}
 use lib.ListN.{length}
 use borrow.Author.Needs.{needs}
@@ -11,7 +11,7 @@ use Rattle.sets.proofs.Laws.{member-zero}
 use Rattle.commands.specs.declared.Decoded.the-variants.{Moved}
 use Rattle.commands.specs.declared.Part.{Part}
 use Rattle.commands.specs.Commands.{byte, allowed, command}
-use Rattle.commands.proofs.Laws.{MovedOver, moved}
+use Rattle.commands.proofs.Laws.{moved}
 use Rattle.vocabularies.specs.Vocabulary.{isIn}
 use Rattle.pages.specs.declared.Kind.{Kind}
 use Rattle.pages.specs.ItemReading.{attributeContext}
@@ -20,15 +20,6 @@ use Rattle.pages.proofs.Laws.{attribute-range}
 use Rattle.pages.proofs.Agreement.{attributes-end, attributes-refused, attributes-twice, attributes-next}
 use Rattle.pages.proofs.read_attributes.Statement.{statement}
 use Rattle.pages.proofs.read_attributes.Tie as tie
-use Rattle.pages.proofs.read_attributes.Reads as reads
-use Rattle.pages.proofs.read_attributes.Lts as lts
-use Rattle.commands.proofs.Position.command.Reads as command-reads
-use Rattle.commands.proofs.byte_at.Reads as byte-at-reads
-use Rattle.commands.proofs.is_allowed.Reads as is-allowed-reads
-use Rattle.pages.proofs.attribute_context.Reads as attribute-context-reads
-use Rattle.pages.proofs.part_of.Reads as part-of-reads
-use Rattle.sets.proofs.has.Reads as has-reads
-use Rattle.sets.proofs.with.Reads as with-reads
 
 abbrev Inv-loop : tie.InvT-loop
 Inv-loop s context seen₀ p₀ seen p =
@@ -67,40 +58,31 @@ found : (c : tie.After-has Inv-loop μ-loop)
     → isIn (byte (c .before .before .before .before .before .before .before .before .before .before .before .before .before .args .s .now) (c .before .before .before .before .before .before .before .before .before .before .loop .p .at + 1)) (c .before .before .before .before .before .before .before .before .before .before .loop .inv .0) ≡ c .has .result
 found c = rw (← c .before .byte-at2 .ensures) (sym (c .before .before .before .before .before .before .before .before .before .before .loop .inv .1 (c .before .byte-at2 .result)) ∙ sym (c .has .ensures))
 
--- src/lib.rt:115:9
 attribute-context-requires : tie.Need-attribute-context-requires Inv-loop μ-loop
 attribute-context-requires c κs = search needs
 
--- src/lib.rt:118:5
 loop-holds : tie.Need-loop-holds Inv-loop μ-loop
 unfolding isIn
 loop-holds c = ([], member-zero, λ k e r h. h)
 
--- src/lib.rt:118:41
 byte-at-requires : tie.Need-byte-at-requires Inv-loop μ-loop
 byte-at-requires c κs = search needs
 
--- src/lib.rt:118:11
 is-allowed-requires : tie.Need-is-allowed-requires Inv-loop μ-loop
 is-allowed-requires c κs = search needs
 
--- src/lib.rt:119:13
 command-requires : tie.Need-command-requires Inv-loop μ-loop
 command-requires c κs = search needs
 
--- src/lib.rt:120:31
 enum-known-d : tie.Need-enum-known-d Inv-loop μ-loop
 enum-known-d c = search needs
 
--- src/lib.rt:121:13
 enum-told : tie.Need-enum-told Inv-loop μ-loop
 enum-told c = search needs
 
--- src/lib.rt:121:13
 part-of-requires : tie.Need-part-of-requires Inv-loop μ-loop
 part-of-requires c κs = search needs
 
--- src/lib.rt:121:13
 returns : tie.Need-returns Inv-loop μ-loop
 returns c =
     let told = c .before .enum-told .given in
@@ -108,34 +90,27 @@ returns c =
     c .before .before .before .before .before .before .before .loop .inv .2 _ (context .ensures) _
     (attributes-refused _ (context .result) (context .ensures) _ _ _ (permitted (c .before .before .before .before)) (told .0 .0) (told .0 .1 .0) _ (sym (c .before .before .before .command .ensures) ∙ told .1) (c .part-of .ensures ∙ ap partOf (told .1)))
 
--- src/lib.rt:123:41
 add-byte-at : tie.Need-add-byte-at Inv-loop μ-loop
 add-byte-at c = omega (arith, reads-on (c .before))
 
--- src/lib.rt:123:13
 byte-at-requires-2 : tie.Need-byte-at-requires-2 Inv-loop μ-loop
 byte-at-requires-2 c κs = search needs
 
--- src/lib.rt:124:12
 has-requires : tie.Need-has-requires Inv-loop μ-loop
 has-requires c κs = in-range c
 
--- src/lib.rt:125:13
 returns-2 : tie.Need-returns-2 Inv-loop μ-loop
 returns-2 c =
     let context = c .before .before .before .before .before .before .before .before .before .before .before .before .attribute-context in
     c .before .before .before .before .before .before .before .before .before .before .before .loop .inv .2 _ (context .ensures) _
     (attributes-twice _ (context .result) (context .ensures) _ _ _ (permitted (c .before .before .before .before .before .before .before .before)) _ _ (stands (c .before .before .before .before)) (found (c .before) ∙ c .if2 .taken))
 
--- src/lib.rt:127:9
 with-requires : tie.Need-with-requires Inv-loop μ-loop
 with-requires c κs = in-range (c .before .before)
 
--- src/lib.rt:118:5
 loop-less : tie.Need-loop-less Inv-loop μ-loop
 loop-less c = omega (arith, reads-on (c .before .before .before .before .before))
 
--- src/lib.rt:118:5
 loop-again : tie.Need-loop-again Inv-loop μ-loop
 unfolding isIn
 loop-again c =
@@ -147,7 +122,6 @@ loop-again c =
           (attributes-next k (c .before .before .before .before .before .before .before .before .before .before .before .before .before .attribute-context .result) is _ _ _ (permitted (c .before .before .before .before .before .before .before .before .before)) _ _ (stands (c .before .before .before .before .before)) r (found (c .before .before) ∙ c .before .if2 .left) h),
     )
 
--- src/lib.rt:112:1
 returns-3 : tie.Need-returns-3 Inv-loop μ-loop
 returns-3 c =
     let context = c .before .before .before .before .attribute-context in

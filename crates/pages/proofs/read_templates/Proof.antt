@@ -1,22 +1,18 @@
 -- The templates that are done are located, and what is read from the position on goes on them.
-use Prim.Native.Nat.{ℕ, _+_, _-_, _<_, _≤_}
+use Prim.Native.Nat.{_-_, _<_, _≤_}
 use mathlib.Core.Path.{_≡_, refl, sym, ap, _∙_}
 use native.Mathlib.Omega.{arith}
-use lib.ListN.{length, set}
+use lib.ListN.{length}
 use borrow.Author.Needs.{needs}
 use Rattle.sets.specs.Sets.{member}
-use Rattle.verdicts.specs.declared.Form.the-variants.{TooMany}
-use Rattle.commands.specs.declared.Part.the-variants.{Refused}
 use Rattle.commands.specs.declared.Context.the-variants.{Templates}
 use Rattle.commands.specs.declared.Decoded.the-variants.{Moved}
 use Rattle.commands.specs.Commands.{command}
 use Rattle.commands.proofs.Laws.{moved}
 use Rattle.pages.specs.declared.Kind.the-variants.{Template}
-use Rattle.pages.specs.declared.TemplatesRead.{TemplatesRead}
 use Rattle.pages.specs.Promises.{partOf}
-use Rattle.pages.proofs.Laws.{Onward}
-use Rattle.pages.proofs.Agreement.{items-onward}
-use Rattle.pages.proofs.TemplateAgreement.{TreeRead, tree-read, templates-refused, templates-end, templates-many, template-refused, TemplatesDone, done-none, done-more}
+use Rattle.pages.proofs.Trees.{TreeRead, tree-read}
+use Rattle.pages.proofs.TemplateAgreement.{templates-refused, templates-end, templates-many, template-refused, TemplatesDone, done-none, done-more}
 use Rattle.pages.proofs.read_templates.Statement.{statement}
 use Rattle.pages.proofs.read_templates.Tie as tie
 
@@ -38,8 +34,8 @@ onward : (c : tie.After-known-told2 Inv-loop μ-loop)
     → (c .before .before .before .before .before .before .before .before .before .before .loop .p .at < c .before .template .given .0 .0 .at) × (c .before .template .given .0 .0 .at ≤ length (c .before .before .before .before .before .before .before .before .before .before .before .before .args .s .now))
 onward c =
     let m = moved _ _ _ _ _ (stands (c .before .before .before .before .before .before)) in
-    let o = items-onward _ _ _ _ _ _ _ (c .before .template .given .1) (c .before .before .before .read-items .ensures) in
-    (omega arith, o .within)
+    let read = tree c in
+    (omega (arith, read .onward), read .onward .within)
 
 loop-holds : tie.Need-loop-holds Inv-loop μ-loop
 loop-holds c = done-none _ _ _ _ refl
@@ -56,21 +52,32 @@ enum-told c = search needs
 part-of-requires : tie.Need-part-of-requires Inv-loop μ-loop
 part-of-requires c κs = search needs
 
+new-requires : tie.Need-new-requires Inv-loop μ-loop
+new-requires c κs = search needs
+
 returns : tie.Need-returns Inv-loop μ-loop
 returns c =
-    let told = c .before .enum-told .given in
-    let at-head = c .before .before .before .before .loop in
-    let r : TemplatesRead = record { part = c .part-of .result; count = at-head .count; starts = at-head .starts } in
-    at-head .inv .goes r (templates-refused _ _ (at-head .inv .done) _ _ r (told .0 .0) (told .0 .1 .0) (sym (c .before .before .before .command .ensures) ∙ told .1) (c .part-of .ensures ∙ ap partOf (told .1)))
+    let told = c .before .before .enum-told .given in
+    let inv = c .before .before .before .before .before .loop .inv in
+    inv .goes _ (templates-refused _ _ (inv .done) _ _ (c .new .result) (told .0 .0) (told .0 .1 .0) (sym (c .before .before .before .before .command .ensures) ∙ told .1)
+    (c .new .ensures .0 ∙ c .before .part-of .ensures ∙ ap partOf (told .1)))
+
+new-requires-2 : tie.Need-new-requires-2 Inv-loop μ-loop
+new-requires-2 c κs = search needs
 
 returns-2 : tie.Need-returns-2 Inv-loop μ-loop
-returns-2 c = c .before .before .before .before .before .loop .inv .goes _ (templates-end _ _ _ _ _ _ _ _ (stands (c .before)) (c .if1 .taken) refl (c .before .before .before .before .before .loop .inv .located))
+returns-2 c =
+    let inv = c .before .before .before .before .before .before .loop .inv in
+    inv .goes _ (templates-end _ _ (inv .done) _ _ (c .new2 .result) _ _ (stands (c .before .before)) (c .before .if1 .taken) (c .new2 .ensures .0)
+    (rw (c .new2 .ensures .1, c .new2 .ensures .2) (inv .located)))
+
+new-requires-3 : tie.Need-new-requires-3 Inv-loop μ-loop
+new-requires-3 c κs = search needs
 
 returns-3 : tie.Need-returns-3 Inv-loop μ-loop
 returns-3 c =
-    let at-head = c .before .before .before .before .before .before .loop in
-    let r : TemplatesRead = record { part = Refused TooMany (at-head .p .at); count = at-head .count; starts = at-head .starts } in
-    at-head .inv .goes r (templates-many _ _ (at-head .inv .done) _ _ r _ _ (stands (c .before .before)) (c .before .if1 .left) (c .if2 .taken) refl)
+    let inv = c .before .before .before .before .before .before .before .loop .inv in
+    inv .goes _ (templates-many _ _ (inv .done) _ _ (c .new3 .result) _ _ (stands (c .before .before .before)) (c .before .before .if1 .left) (c .before .if2 .taken) (c .new3 .ensures .0))
 
 add-count : tie.Need-add-count Inv-loop μ-loop
 add-count c = omega arith
@@ -90,11 +97,13 @@ enum-known-template c = search needs
 enum-told-2 : tie.Need-enum-told-2 Inv-loop μ-loop
 enum-told-2 c = search needs
 
+new-requires-4 : tie.Need-new-requires-4 Inv-loop μ-loop
+new-requires-4 c κs = search needs
+
 returns-4 : tie.Need-returns-4 Inv-loop μ-loop
 returns-4 c =
-    let at-head = c .before .before .before .before .before .before .before .before .before .loop in
-    let r : TemplatesRead = record { part = c .before .before .read-items .result; count = at-head .count + 1; starts = set (at-head .starts) (at-head .count + 1) (c .before .before .before .before .before .before .d .given .0 .1 .0 .at) } in
-    at-head .inv .goes r (template-refused _ _ (at-head .inv .done) _ _ r _ _ (stands (c .before .before .before .before .before)) (c .before .before .before .before .if1 .left) (c .before .before .before .if2 .left) _ _ _ (c .before .before .read-items .ensures) (c .enum-told2 .given .1) refl)
+    let inv = c .before .before .before .before .before .before .before .before .before .before .loop .inv in
+    inv .goes _ (template-refused _ _ (inv .done) _ _ (c .new4 .result) _ _ (stands (c .before .before .before .before .before .before)) (c .before .before .before .before .before .if1 .left) (c .before .before .before .before .if2 .left) _ _ _ (c .before .before .before .read-items .ensures) (c .before .enum-told2 .given .1) (c .new4 .ensures .0))
 
 loop-less : tie.Need-loop-less Inv-loop μ-loop
 loop-less c = omega (arith, onward c)
@@ -113,8 +122,11 @@ read-templates-spec =
     enum-known-d
     enum-told
     part-of-requires
+    new-requires
     returns
+    new-requires-2
     returns-2
+    new-requires-3
     returns-3
     add-count
     mul-starts
@@ -122,6 +134,7 @@ read-templates-spec =
     read-items-requires
     enum-known-template
     enum-told-2
+    new-requires-4
     returns-4
     loop-less
     loop-again)

@@ -7,7 +7,8 @@ use borrow.Author.Needs.{needs}
 use Rattle.programs.specs.declared.ProgramRead.{ProgramRead}
 use Rattle.programs.specs.ProgramReading.{mostPoints}
 use Rattle.programs.specs.Promises.{StatementsRead}
-use Rattle.programs.proofs.Reading.{Stay, MayStand, may-stand, stay-below, in-range, falls, refused-here, ends-here, goes-on}
+use Rattle.programs.proofs.Agreement.{fewer-left, Stay, stay-below}
+use Rattle.programs.proofs.Reading.{MayStand, may-stand, in-range, refused-here, ends-here, goes-on}
 use Rattle.programs.proofs.read_statements.Statement.{statement}
 use Rattle.programs.proofs.read_statements.Tie as tie
 
@@ -62,13 +63,13 @@ add-count : tie.Need-add-count Inv-loop μ-loop
 add-count c = search needs
 
 loop-less : tie.Need-loop-less Inv-loop μ-loop
-loop-less c = falls _ _ _ _ _ _ (stands (c .before .before))
+loop-less c = fewer-left _ _ _ _ _ (stands (c .before .before) .read)
 
 loop-again : tie.Need-loop-again Inv-loop μ-loop
 loop-again c = (
   let l = stands (c .before .before) .few in omega arith,
   simp length-set (c .before .before .before .before .before .before .before .loop .inv .1),
-  λ r k h. c .before .before .before .before .before .before .before .loop .inv .2 r (stay-below _ _ (c .before .before .before .before .before .before .before .loop .places) _ k)
+  λ r k h. c .before .before .before .before .before .before .before .loop .inv .2 r (stay-below _ _ _ (c .before .before .before .before .before .before .before .loop .places) _ (omega arith) k)
       (goes-on _ _ _ _ _ _ (stands (c .before .before)) _ _ _ _ (c .before .before .before .before .before .before .before .loop .places) (c .before .before .before .before .before .before .statement-here .ensures) (c .before .before .before .before .d .given .1) (c .before .before .if1 .left)
       (c .before .named-by .ensures) (c .union .ensures) (c .before .before .before .before .before .before .before .loop .inv .1) r k h),
 )

@@ -1,3 +1,4 @@
+-- The value is the case of the definition that its variant has.
 use mathlib.Core.Path.{sym, ap}
 use borrow.Author.Needs.{needs}
 use Rattle.vocabularies.specs.Promises.{partOf}

@@ -3,7 +3,7 @@ use borrow.Author.Needs.{needs}
 use Prim.Native.Nat.{_-_}
 use lib.ListN.{length}
 use Rattle.vocabularies.proofs.Parts.{command-fits}
-use Rattle.vocabularies.proofs.Vocabularies.{RulesContinue, rules-start, rules-refused, element-fits, rules-root, rules-missing, rules-twice, rules-broken, rules-more, rules-fall}
+use Rattle.vocabularies.proofs.Vocabularies.{RulesContinue, rules-start, rules-refused, element-fits, rules-rooted, rules-twice, rules-broken, rules-more, rules-fall}
 use Rattle.vocabularies.proofs.read_vocabulary.Statement.{statement}
 use Rattle.vocabularies.proofs.read_vocabulary.Tie as tie
 
@@ -40,17 +40,17 @@ add-byte-at c = record { fits = search command-fits }
 byte-at-requires : tie.Need-byte-at-requires Inv-loop μ-loop
 byte-at-requires c κs = search needs
 
+with-root-requires : tie.Need-with-root-requires Inv-loop μ-loop
+with-root-requires c κs = search element-fits
+
+returns-2 : tie.Need-returns-2 Inv-loop μ-loop
+returns-2 c = search rules-rooted
+
 has-requires : tie.Need-has-requires Inv-loop μ-loop
 has-requires c κs = search element-fits
 
-returns-2 : tie.Need-returns-2 Inv-loop μ-loop
-returns-2 c = search rules-root
-
 returns-3 : tie.Need-returns-3 Inv-loop μ-loop
-returns-3 c = search rules-missing
-
-returns-4 : tie.Need-returns-4 Inv-loop μ-loop
-returns-4 c = search rules-twice
+returns-3 c = search rules-twice
 
 read-rule-requires : tie.Need-read-rule-requires Inv-loop μ-loop
 read-rule-requires c κs = search needs
@@ -61,8 +61,8 @@ enum-known-part c = search needs
 enum-told-2 : tie.Need-enum-told-2 Inv-loop μ-loop
 enum-told-2 c = search needs
 
-returns-5 : tie.Need-returns-5 Inv-loop μ-loop
-returns-5 c = search rules-broken
+returns-4 : tie.Need-returns-4 Inv-loop μ-loop
+returns-4 c = search rules-broken
 
 with-rule-requires : tie.Need-with-rule-requires Inv-loop μ-loop
 with-rule-requires c κs = search element-fits
@@ -88,14 +88,14 @@ read-vocabulary-spec =
     returns
     add-byte-at
     byte-at-requires
-    has-requires
+    with-root-requires
     returns-2
+    has-requires
     returns-3
-    returns-4
     read-rule-requires
     enum-known-part
     enum-told-2
-    returns-5
+    returns-4
     with-rule-requires
     loop-less
     loop-again)

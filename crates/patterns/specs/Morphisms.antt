@@ -1,5 +1,5 @@
--- Readings of words: a pattern for each word, a number below `size`, such that the pattern of two words, one after the other, is
--- `op` of their patterns. Pattern sets are worked out for any such reading; the check uses the three that stand here.
+-- Morphisms of words into a finite monoid: each word has a pattern, a number below `size`, and the pattern of two words, one after the
+-- other, is `op` of theirs. Pattern sets are worked out for any such morphism; the check uses the two that stand here.
 use Prim.Native.Nat.{ℕ, _^_}
 use mathlib.Core.List.{List, [], _∷_}
 use mathlib.Core.Bool.{cond}
@@ -8,14 +8,14 @@ use lib.Dec.{eqb}
 use Rattle.vocabularies.specs.Facts.{Fact}
 use Rattle.patterns.specs.Patterns.{patternOf, join}
 
-pub record Reading : Type 0 where
+pub record Morphism : Type 0 where
   pub size : ℕ
   pub of : List ℕ → ℕ
   pub op : ℕ → ℕ → ℕ
 
 -- The facts of a clause. Contents have no attributes of their own.
-abbrev pub factReading : List Fact → Reading
-factReading fs = record { size = 2 ^ length fs; of = patternOf fs []; op = join fs }
+abbrev pub factMorphism : List Fact → Morphism
+factMorphism fs = record { size = 2 ^ length fs; of = patternOf fs []; op = join fs }
 
 -- Verdict 11: a word is empty, the root alone, or other.
 abbrev pub empty : ℕ
@@ -35,9 +35,5 @@ kindOf root (c ∷ d ∷ w) = other
 abbrev pub joinKinds : ℕ → ℕ → ℕ
 joinKinds x y = cond (eqb x empty) y (cond (eqb y empty) x other)
 
-abbrev pub rootReading : ℕ → Reading
-rootReading root = record { size = 3; of = kindOf root; op = joinKinds }
-
--- One pattern for every word: its sets tell from which templates pages come.
-abbrev pub pageReading : Reading
-pageReading = record { size = 1; of = λ w. 0; op = λ x y. 0 }
+abbrev pub rootMorphism : ℕ → Morphism
+rootMorphism root = record { size = 3; of = kindOf root; op = joinKinds }

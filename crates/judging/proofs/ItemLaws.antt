@@ -1,0 +1,264 @@
+-- Items and lists of items: what the judgement of the parts says of the whole.
+use Prim.Native.Nat.{ℕ, zero, suc, _+_, _%_, _≤_, _<_}
+use mathlib.Core.Path.{_≡_, refl, sym, ap, subst, subst₂, _∙_}
+use mathlib.Core.List.{List, [], _∷_, _++_, append-assoc, append-nil}
+use mathlib.Core.Bool.{Bool, true, false, cond, _&&_, _||_, false≢true}
+use mathlib.Core.Option.{Option, some, none}
+use native.Mathlib.Omega.{arith}
+use lib.ListN.{length, getD}
+use lib.Dec.{eqb, ltb, leb}
+use borrow.Author.Tests.{eq-eqb, ne-eqb, eqb-true, leb-true}
+use Rattle.verdicts.specs.declared.Form.the-variants.{TooMany, Missing}
+use Rattle.commands.specs.declared.Context.the-variants.{PageItems}
+use Rattle.commands.specs.Commands.{byte, operandBytes, operandsOf, allInRange, allowed}
+use Rattle.commands.specs.Reading.{Read, whole, refused, andThen, onCommand, when}
+use Rattle.commands.proofs.Laws.{byte-past, moved, MovedOver, andThen-whole, onCommand-whole, when-whole, when-true, when-false}
+use Rattle.vocabularies.specs.Vocabulary.{Rule, Vocabulary, ruleOf, declared, isSome}
+use Rattle.pages.specs.declared.Kind.the-variants.{Page}
+use Rattle.pages.specs.Items.{Attribute, Item, text, gap, element, Items, more}
+use Rattle.pages.specs.Items as Items
+use Rattle.pages.specs.ItemReading.{attributes, item, items, leafAt, nesting, endOf}
+use Rattle.pages.specs.RightPages.{word, wordItem}
+use Rattle.judging.specs.declared.Judged.{Judged}
+use Rattle.judging.specs.declared.Listed.{Listed}
+use Rattle.judging.specs.declared.Named.{Named}
+use Rattle.judging.specs.declared.Wrong.{Wrong}
+use Rattle.judging.specs.declared.Wrong.the-variants.{Nothing, At}
+use Rattle.judging.specs.Judgement.{rightUnder, rightBy, orElse, firstWrong, firstWrongItem}
+use Rattle.judging.specs.Promises.{Names, Containing, IsRight, Tabled, wrongOf, ItemJudged, JudgesItem, ItemsJudged, JudgesItems}
+use Rattle.judging.proofs.Booleans.{and-left, and-right, or-left}
+
+or-none : (o : Option ℕ) → orElse o none ≡ o
+or-none none = refl
+or-none (some n) = refl
+
+or-or : (a b c : Option ℕ) → orElse (orElse a b) c ≡ orElse a (orElse b c)
+or-or none b c = refl
+or-or (some n) b c = refl
+
+module _ (D : Vocabulary) (p : List ℕ) where
+  abbrev ruled : ℕ → Bool
+  ruled = declared (D .rules)
+
+  -- ---- an item
+
+  module _ (depth at : ℕ) where
+    abbrev insides : ℕ → List Attribute → ℕ → Read Item
+    insides f δ inside = andThen (items f Page ruled p (depth + 1) inside) λ φ end. whole (element (byte p (at + 1)) at δ φ) end
+
+    abbrev opened : ℕ → ℕ → Read Item
+    opened f next = andThen (attributes f Page p [] next) λ δ inside. insides f δ inside
+
+    abbrev nested : ℕ → ℕ → Read Item
+    nested f next = when (ltb depth (nesting Page)) (λ _. opened f next) (λ _. refused TooMany at)
+
+    abbrev bound : ℕ → ℕ → Read Item
+    bound f next = when (ruled (byte p (at + 1))) (λ _. nested f next) (λ _. refused Missing at)
+
+    abbrev begun : ℕ → ℕ → ℕ → Read Item
+    begun f code next = when (eqb code 0x23) (λ _. bound f next) (λ _. whole (leafAt p at code) next)
+
+    record Begun (i : Item) (end : ℕ) : Type 0 where
+      fuel : ℕ
+      here : at < length p
+      permitted : allowed PageItems (byte p at) ≡ true
+      ranges : allInRange (operandsOf (byte p at)) p (at + 1) ≡ true
+      goes : begun fuel (byte p at) (at + 1 + operandBytes (byte p at)) ≡ whole i end
+
+    begins : (f end : ℕ) (i : Item) → item f Page ruled p depth at ≡ whole i end → Begun i end
+    unfolding item
+    begins zero end i e = absurd (let z : _≡_ {A = ℕ} 0 1 = cc in omega arith)
+    begins (suc f) end i e =
+        let q = onCommand-whole PageItems p at (begun f) i end e in
+        let m : MovedOver PageItems p at (q .0) (q .1) = moved PageItems p at (q .0) (q .1) (q .2) in
+        record {
+          fuel = f;
+          here = omega arith;
+          permitted = m .permitted;
+          ranges = m .ranges;
+          goes = subst₂ (λ (c n : ℕ). begun f c n ≡ whole i end) (m .first) (m .after) (q .3);
+        }
+
+  -- Past the end no item stands.
+  pub past-item : (at : ℕ) (r : Judged) → length p ≤ at → JudgesItem D p at r
+  past-item at r past f depth end i e =
+      let h : at < length p = begins depth at f end i e .here in
+      absurd (omega arith)
+
+  -- What is no element is text.
+  pub text-item : (at : ℕ) → (byte p at ≡ 0x23 → ⊥) → JudgesItem D p at (record { content = 0; next = record { at = at + 1 }; wrong = Nothing })
+  unfolding allowed operandBytes wordItem firstWrongItem
+  text-item at other f depth end i e =
+      let B = begins depth at f end i e in
+      let c : byte p at ≡ 0x21 = eqb-true (byte p at) 0x21 (or-left (eqb (byte p at) 0x21) (eqb (byte p at) 0x23) (ne-eqb (byte p at) 0x23 other) (B .permitted)) in
+      let g : whole text (at + 1 + operandBytes 0x21) ≡ whole i end = subst (λ (x : ℕ). begun depth at (B .fuel) x (at + 1 + operandBytes x) ≡ whole i end) c (B .goes) in
+      let s : i ≡ text = cc in
+      let t : at + 1 + operandBytes 0x21 ≡ end = cc in
+      rw s (record { is = λ w. refl; ends = omega arith; finds = refl })
+
+  found-rule : (o : Option Rule) → isSome o ≡ true → (R : Rule) × (o ≡ some R)
+  found-rule none h = absurd (false≢true h)
+  found-rule (some R) h = (R, refl)
+
+  -- An element's parts, as they were read.
+  record Parts (depth at : ℕ) (i : Item) (end : ℕ) : Type 0 where
+    fuel : ℕ
+    δ : List Attribute
+    inside : ℕ
+    φ : Items
+    rule : Rule
+    short : byte p (at + 1) ≤ 63
+    declares : ruleOf (D .rules) (byte p (at + 1)) ≡ some rule
+    reads : attributes fuel Page p [] (at + 2) ≡ whole δ inside
+    reads-inside : items fuel Page ruled p (depth + 1) inside ≡ whole φ end
+    is : i ≡ element (byte p (at + 1)) at δ φ
+
+  parts : (depth at f end : ℕ) (i : Item) → byte p at ≡ 0x23 → item f Page ruled p depth at ≡ whole i end → Parts depth at i end
+  unfolding operandBytes allInRange
+  parts depth at f end i code e =
+      let B = begins depth at f end i e in
+      let n : at + 1 + operandBytes 0x23 ≡ at + 2 = omega arith in
+      let g : bound depth at (B .fuel) (at + 2) ≡ whole i end = subst (λ (x : ℕ). bound depth at (B .fuel) x ≡ whole i end) n
+      (subst (λ (x : ℕ). begun depth at (B .fuel) x (at + 1 + operandBytes x) ≡ whole i end) code (B .goes)) in
+      let u = when-whole (ruled (byte p (at + 1))) (λ _. nested depth at (B .fuel) (at + 2)) Missing at i end g in
+      let w = when-whole (ltb depth (nesting Page)) (λ _. opened depth at (B .fuel) (at + 2)) TooMany at i end (u .1) in
+      let a = andThen-whole (attributes (B .fuel) Page p [] (at + 2)) (insides depth at (B .fuel)) i end (w .1) in
+      let l = andThen-whole (items (B .fuel) Page ruled p (depth + 1) (a .1)) (λ φ m. whole (element (byte p (at + 1)) at (a .0) φ) m) i end (a .3) in
+      let R = found-rule (ruleOf (D .rules) (byte p (at + 1))) (u .0) in
+      let range = rw code at (B .ranges) in
+      let t : l .1 ≡ end = cc in
+      record {
+        fuel = B .fuel;
+        δ = a .0;
+        inside = a .1;
+        φ = l .0;
+        rule = R .0;
+        short = leb-true (byte p (at + 1)) 63 (and-right (leb 1 (byte p (at + 1))) (leb (byte p (at + 1)) 63) (and-left _ true range));
+        declares = R .1;
+        reads = a .2;
+        reads-inside = subst (λ (m : ℕ). items (B .fuel) Page ruled p (depth + 1) (a .1) ≡ whole (l .0) m) t (l .2);
+        is = cc;
+      }
+
+  -- An element: itself, by the tests of its rule, before those inside it.
+  module _ (v allowed held from : List ℕ) (T : Tabled v D allowed held from) (at b : ℕ) (is-name : b ≡ byte p (at + 1))
+      (code : byte p at ≡ 0x23) (named : Named) (strings : List ℕ) (N : Names p (at + 2) named strings)
+      (list : Listed) (before : List ℕ) (L : JudgesItems D p (named .next .at) list before) (right : Bool)
+      (R : IsRight v (getD allowed (b % 64) 0) (getD held (b % 64) 0) (getD from (b % 64) 0) (named .names) strings (list .inside) before right) where
+    pub element-item : (wrong : Wrong) → wrongOf wrong ≡ cond right (wrongOf (list .wrong)) (some at)
+        → JudgesItem D p at (record { content = b % 64; next = list .next; wrong = wrong })
+    unfolding wordItem firstWrongItem
+    element-item wrong is-wrong f depth end i e =
+        let P = parts depth at f end i code e in
+        let h : byte p (at + 1) ≤ 63 = P .short in
+        let q : b % 64 ≡ byte p (at + 1) = omega arith in
+        let n = N (P .fuel) (P .inside) (P .δ) (P .reads) in
+        let l = L (P .fuel) depth end (P .φ) (subst (λ (m : ℕ). items (P .fuel) Page ruled p (depth + 1) m ≡ whole (P .φ) end) (sym (n .0)) (P .reads-inside)) in
+        let r : right ≡ rightUnder (P .rule) (P .δ) (word (P .φ)) = R (P .rule) (P .δ) (word (P .φ)) (T (b % 64) (P .rule) (rw q (P .declares))) (n .1) (l .contains) in
+        rw (P .is) (record {
+          is = λ w. ap (λ (m : ℕ). m ∷ w) (sym q);
+          ends = l .ends;
+          finds = is-wrong ∙ rw (P .declares, ← r, l .finds);
+        })
+
+  -- ---- a list of items inside an element
+
+  -- What the items from an offset on add to a word and to what was found before.
+  pub record Added (w : List ℕ) (found : Option ℕ) (φ : Items) (end : ℕ) (r : Listed) (last : List ℕ) : Type 0 where
+    pub contains : Containing (w ++ word φ) (r .inside) last
+    pub ends : r .next .at ≡ end
+    pub finds : wrongOf (r .wrong) ≡ orElse found (firstWrong D φ)
+
+  abbrev pub Adds : List ℕ → Option ℕ → ℕ → Listed → List ℕ → Type 0
+  Adds w found at r last = (f depth end : ℕ) (φ : Items) → items f Page ruled p (depth + 1) at ≡ whole φ end → Added w found φ end r last
+
+  pub adds-all : (at : ℕ) (r : Listed) (last : List ℕ) → Adds [] none at r last → JudgesItems D p at r last
+  adds-all at r last A f depth end φ e =
+      let a = A f depth end φ e in
+      record { contains = a .contains; ends = a .ends; finds = a .finds }
+
+  module _ (depth at : ℕ) where
+    abbrev others : ℕ → Item → ℕ → Read Items
+    others f i next = andThen (items f Page ruled p (depth + 1) next) λ φ end. whole (more i φ) end
+
+    record ListBegun (φ : Items) (end : ℕ) : Type 0 where
+      fuel : ℕ
+      goes : when (eqb (byte p at) 0x26) (λ _. whole Items.none (at + 1)) (λ _. andThen (item fuel Page ruled p (depth + 1) at) λ i next. others fuel i next) ≡ whole φ end
+
+    list-begins : (f end : ℕ) (φ : Items) → items f Page ruled p (depth + 1) at ≡ whole φ end → ListBegun φ end
+    unfolding items
+    list-begins zero end φ e = absurd (let z : _≡_ {A = ℕ} 0 1 = cc in omega arith)
+    list-begins (suc f) end φ e =
+        record { fuel = f; goes = rw (ne-eqb (depth + 1) 0 (λ q. omega arith)) at e }
+
+  -- `26` ends the list.
+  pub list-ends : (w : List ℕ) (at contents : ℕ) (before : List ℕ) (wrong : Wrong) → byte p at ≡ 0x26 → Containing w contents before
+      → Adds w (wrongOf wrong) at (record { inside = contents; next = record { at = at + 1 }; wrong = wrong }) before
+  unfolding word firstWrong
+  list-ends w at contents before wrong code C f depth end φ e =
+      let B = list-begins depth at f end φ e in
+      let g : whole Items.none (at + 1) ≡ whole φ end = rw (eq-eqb (byte p at) 0x26 code) at (B .goes) in
+      let s : φ ≡ Items.none = cc in
+      let t : at + 1 ≡ end = cc in
+      rw s (record { contains = rw (append-nil w) C; ends = t; finds = sym (or-none (wrongOf wrong)) })
+
+  record ListParts (depth at : ℕ) (φ : Items) (end : ℕ) : Type 0 where
+    fuel : ℕ
+    first : Item
+    next : ℕ
+    others-read : Items
+    reads : item fuel Page ruled p (depth + 1) at ≡ whole first next
+    reads-others : items fuel Page ruled p (depth + 1) next ≡ whole others-read end
+    is : φ ≡ more first others-read
+
+  list-parts : (depth at f end : ℕ) (φ : Items) → (byte p at ≡ 0x26 → ⊥) → items f Page ruled p (depth + 1) at ≡ whole φ end → ListParts depth at φ end
+  list-parts depth at f end φ other e =
+      let B = list-begins depth at f end φ e in
+      let g = subst (λ (t : Bool). when t (λ _. whole Items.none (at + 1)) (λ _. andThen (item (B .fuel) Page ruled p (depth + 1) at) λ i next. others depth at (B .fuel) i next) ≡ whole φ end) (ne-eqb (byte p at) 0x26 other) (B .goes) in
+      let q = andThen-whole (item (B .fuel) Page ruled p (depth + 1) at) (others depth at (B .fuel)) φ end g in
+      let o = andThen-whole (items (B .fuel) Page ruled p (depth + 1) (q .1)) (λ φ′ m. whole (more (q .0) φ′) m) φ end (q .3) in
+      let t : o .1 ≡ end = cc in
+      record {
+        fuel = B .fuel;
+        first = q .0;
+        next = q .1;
+        others-read = o .0;
+        reads = q .2;
+        reads-others = subst (λ (k : ℕ). items (B .fuel) Page ruled p (depth + 1) (q .1) ≡ whole (o .0) k) t (o .2);
+        is = cc;
+      }
+
+  module _ (w : List ℕ) (found : Option ℕ) (at : ℕ) (r : Listed) (last : List ℕ) where
+    -- An item, and then the others.
+    pub one-more : (i : Judged) → (byte p at ≡ 0x26 → ⊥) → JudgesItem D p at i
+        → Adds (w ++ (i .content ∷ [])) (orElse found (wrongOf (i .wrong))) (i .next .at) r last → Adds w found at r last
+    unfolding word firstWrong
+    one-more i other J A f depth end φ e =
+        let P = list-parts depth at f end φ other e in
+        let j : ItemJudged D (P .first) (P .next) i = J (P .fuel) (depth + 1) (P .next) (P .first) (P .reads) in
+        let a : Added (w ++ (i .content ∷ [])) (orElse found (wrongOf (i .wrong))) (P .others-read) end r last =
+        A (P .fuel) depth end (P .others-read) (subst (λ (m : ℕ). items (P .fuel) Page ruled p (depth + 1) m ≡ whole (P .others-read) end) (sym (j .ends)) (P .reads-others)) in
+        rw (P .is) (record {
+          contains = rw (j .is (word (P .others-read)), ← append-assoc w (i .content ∷ []) (word (P .others-read))) (a .contains);
+          ends = a .ends;
+          finds = a .finds ∙ or-or found (wrongOf (i .wrong)) (firstWrong D (P .others-read)) ∙ rw (j .finds);
+        })
+
+    -- Past the end no list stands.
+    pub past-list : length p ≤ at → Adds w found at r last
+    past-list past f depth end φ e =
+        let P = list-parts depth at f end φ (λ q. let z : byte p at ≡ 0 = byte-past p at past in omega arith) e in
+        let h : at < length p = begins (depth + 1) at (P .fuel) (P .next) (P .first) (P .reads) .here in
+        absurd (omega arith)
+
+  -- Where judging has come: what the items from here on add is what all of them add to nothing.
+  pub record Judging (at₀ : ℕ) (preceding : List ℕ) (at inside : ℕ) (wrong : Wrong) : Type 0 where
+    pub word : List ℕ
+    pub contains : Containing word inside preceding
+    pub goes : (r : Listed) (last : List ℕ) → Adds word (wrongOf wrong) at r last → Adds [] none at₀ r last
+
+pub record Going (v attributes contents clauses p preceding₀ : List ℕ) (at₀ : ℕ) (preceding : List ℕ) (at inside : ℕ) (wrong : Wrong) : Type 0 where
+  pub forward : at₀ ≤ at
+  pub room : 64 ≤ length preceding
+  pub long : length preceding ≡ length preceding₀
+  pub judging : (D : Vocabulary) → Tabled v D attributes contents clauses → Containing [] 0 preceding₀ → Judging D p at₀ preceding at inside wrong

@@ -1,0 +1,6 @@
+pub mod Booleans
+pub mod Formulas
+pub mod Rules
+pub mod AttributeLaws
+pub mod WordLaws
+pub mod ItemLaws

@@ -1,0 +1,123 @@
+-- An element's tables and its rule's: when the element is right.
+use Prim.Native.Nat.{ℕ, _+_, _-_, _<_}
+use mathlib.Core.Path.{_≡_, refl, sym, ap, ap₂, subst, _∙_}
+use mathlib.Core.List.{List, [], _∷_}
+use mathlib.Core.Bool.{Bool, true, false, not, _&&_, _||_, or-true, false≢true}
+use native.Mathlib.Omega.{arith}
+use lib.ListN.{length, getD}
+use lib.Dec.{eqb}
+use borrow.Author.Tests.{eq-eqb, eqb-true}
+use Rattle.sets.specs.Sets.{member, Within}
+use Rattle.vocabularies.specs.Vocabulary.{Formula, conj, disj, neg, truth, attr, content, order, value, Rule, isIn}
+use Rattle.vocabularies.specs.Promises.{RuleTables}
+use Rattle.pages.specs.Items.{Attribute}
+use Rattle.pages.specs.RightPages.{names}
+use Rattle.judging.specs.Judgement.{Atoms, truthOf, allTrue, atomsOf, allIn, rightUnder, precedes, holdsValue}
+use Rattle.judging.specs.Promises.{tableAtoms, AllHold, Naming, Containing, IsRight}
+use Rattle.judging.proofs.Booleans.{by-test, and-false-left, and-false-right, or-right}
+
+-- ---- lists within lists
+
+module _ (allowed : List ℕ) where
+  all-in : (ns : List ℕ) → ((k : ℕ) → isIn k ns ≡ true → isIn k allowed ≡ true) → allIn ns allowed ≡ true
+  unfolding allIn isIn
+  all-in [] h = refl
+  all-in (n ∷ ns) h =
+      let e : isIn n allowed ≡ true = h n (rw (eq-eqb n n refl)) in
+      rw e (all-in ns (λ k i. h k (rw i (or-true (eqb k n)))))
+
+  module _ (k : ℕ) (out : isIn k allowed ≡ false) where
+    not-all-in : (ns : List ℕ) → isIn k ns ≡ true → allIn ns allowed ≡ false
+    unfolding allIn isIn
+    not-all-in [] i = absurd (false≢true i)
+    not-all-in (n ∷ ns) i = by-test (eqb k n)
+        (λ e. and-false-left (isIn n allowed) (allIn ns allowed) (rw (eqb-true k n e) at out))
+        (λ e. and-false-right (isIn n allowed) (allIn ns allowed) (not-all-in ns (or-right (eqb k n) (isIn k ns) e i)))
+
+-- A set within another, as lists.
+within-lists : (a b : ℕ) (ns allowed : List ℕ) → ((k : ℕ) → member a k ≡ isIn k ns) → ((k : ℕ) → member b k ≡ isIn k allowed)
+    → (t : Bool) → Within a b t → allIn ns allowed ≡ t
+within-lists a b ns allowed is is′ true w = all-in allowed ns (λ k i. sym (is′ k) ∙ w k (is k ∙ i))
+within-lists a b ns allowed is is′ false w = not-all-in allowed (w .0) (sym (is′ (w .0)) ∙ w .3) ns (sym (is (w .0)) ∙ w .2)
+
+-- ---- atoms that agree
+
+record Same (A B : Atoms) : Type 0 where
+  attrs : (a : ℕ) → A .attr a ≡ B .attr a
+  contents : (c : ℕ) → A .content c ≡ B .content c
+  orders : (c d : ℕ) → A .order c d ≡ B .order c d
+  values : (a m : ℕ) → A .value a m ≡ B .value a m
+
+module _ (A B : Atoms) (s : Same A B) where
+  same-truth : (ψ : Formula) → truthOf A ψ ≡ truthOf B ψ
+  unfolding truthOf
+  same-truth (conj ψ₁ ψ₂) = ap₂ _&&_ (same-truth ψ₁) (same-truth ψ₂)
+  same-truth (disj ψ₁ ψ₂) = ap₂ _||_ (same-truth ψ₁) (same-truth ψ₂)
+  same-truth (neg ψ) = ap not (same-truth ψ)
+  same-truth truth = refl
+  same-truth (attr a) = s .attrs a
+  same-truth (content c) = s .contents c
+  same-truth (order c d) = s .orders c d
+  same-truth (value a m) = s .values a m
+
+  same-all : (ψs : List Formula) → allTrue A ψs ≡ allTrue B ψs
+  unfolding allTrue
+  same-all [] = refl
+  same-all (ψ ∷ ψs) = ap₂ _&&_ (same-truth ψ) (same-all ψs)
+
+module _ (δ : List Attribute) (w : List ℕ) (named : ℕ) (strings : List ℕ) (contents : ℕ) (before : List ℕ)
+    (N : Naming δ named strings) (C : Containing w contents before) where
+  value-same : (a m : ℕ) → (not (member named a) || member m (getD strings a 0)) ≡ (not (isIn a (names δ)) || holdsValue δ a m)
+  value-same a m = by-test (isIn a (names δ)) (λ e. rw (N .has a, e) (N .holds a m e)) (λ e. rw (N .has a, e))
+
+  table-same : Same (tableAtoms named strings contents before) (atomsOf δ w)
+  unfolding atomsOf
+  table-same = record {
+    attrs = N .has;
+    contents = C .has;
+    orders = λ c d. ap not (C .ordered c d);
+    values = value-same;
+  }
+
+  module _ (v : List ℕ) (R : Rule) (allowed held from : ℕ) (T : RuleTables v R allowed held from) where
+    abbrev Right : Bool → Type 0
+    Right b = b ≡ rightUnder R δ w
+
+    names-wrong : Within named allowed false → Right false
+    unfolding rightUnder
+    names-wrong h = rw (within-lists named allowed (names δ) (R .attributes) (N .has) (T .allows) false h)
+
+    module _ (names-right : Within named allowed true) where
+      contents-wrong : Within contents held false → Right false
+      unfolding rightUnder
+      contents-wrong h =
+          rw (
+            within-lists named allowed (names δ) (R .attributes) (N .has) (T .allows) true names-right,
+            within-lists contents held w (R .contents) (C .has) (T .holds) false h,
+          )
+
+      clauses-tell : Within contents held true → (b : Bool) → AllHold (tableAtoms named strings contents before) v from b → Right b
+      unfolding rightUnder
+      clauses-tell h b H =
+          let f = length v + length v + 2 in
+          let q = T .stands f (omega arith) in
+          let e : b ≡ allTrue (atomsOf δ w) (R .clauses) = H f (q .0) (R .clauses) (q .1) ∙ same-all _ _ table-same (R .clauses) in
+          rw (
+            within-lists named allowed (names δ) (R .attributes) (N .has) (T .allows) true names-right,
+            within-lists contents held w (R .contents) (C .has) (T .holds) true h,
+          ) e
+
+-- What the three tests tell, in the code's order.
+module _ (v : List ℕ) (allowed held from named : ℕ) (strings : List ℕ) (contents : ℕ) (before : List ℕ) where
+  pub names-fail : (t : Bool) → Within named allowed t → t ≡ false → IsRight v allowed held from named strings contents before false
+  names-fail t h e R δ w T N C = names-wrong δ w named strings contents before N C v R allowed held from T (subst (Within named allowed) e h)
+
+  pub contents-fail : (t u : Bool) → Within named allowed t → t ≡ true → Within contents held u → u ≡ false
+      → IsRight v allowed held from named strings contents before false
+  contents-fail t u h e h′ e′ R δ w T N C =
+      contents-wrong δ w named strings contents before N C v R allowed held from T (subst (Within named allowed) e h) (subst (Within contents held) e′ h′)
+
+  pub clauses-decide : (t u b : Bool) → Within named allowed t → t ≡ true → Within contents held u → u ≡ true
+      → AllHold (tableAtoms named strings contents before) v from b → IsRight v allowed held from named strings contents before b
+  clauses-decide t u b h e h′ e′ H R δ w T N C =
+      clauses-tell δ w named strings contents before N C v R allowed held from T (subst (Within named allowed) e h) (subst (Within contents held) e′ h′) b H

@@ -1,0 +1,68 @@
+-- Words of contents, one content at a time.
+use Prim.Native.Nat.{ℕ, zero, suc, _<_}
+use mathlib.Core.Path.{_≡_, refl, sym, ap, _∙_}
+use mathlib.Core.List.{List, [], _∷_, _++_}
+use mathlib.Core.Bool.{Bool, true, false, _&&_, _||_, and-false, or-false, or-comm}
+use lib.ListN.{length, getD, set, replicate}
+use lib.Seq.{getD-set-same, getD-set-other}
+use lib.Dec.{eqb}
+use borrow.Author.Tests.{eq-eqb, ne-eqb, eqb-true, eqb-false}
+use Rattle.sets.specs.Sets.{member}
+use Rattle.sets.proofs.Laws.{member-zero}
+use Rattle.vocabularies.specs.Vocabulary.{isIn}
+use Rattle.judging.specs.Judgement.{precedes}
+use Rattle.judging.specs.Promises.{Containing}
+use Rattle.judging.proofs.Booleans.{by-test}
+
+is-in-more : (k c : ℕ) (w : List ℕ) → isIn k (w ++ (c ∷ [])) ≡ (isIn k w || eqb k c)
+unfolding isIn
+is-in-more k c [] = or-false (eqb k c)
+is-in-more k c (x ∷ w) = by-test (eqb k x) (λ e. rw e) (λ e. rw e (is-in-more k c w))
+
+eqb-sym : (a b : ℕ) → eqb a b ≡ eqb b a
+eqb-sym a b = by-test (eqb b a) (λ e. rw e (eq-eqb a b (sym (eqb-true b a e)))) (λ e. rw e (ne-eqb a b (λ q. eqb-false b a e (sym q))))
+
+regrouped : (x i k p d : Bool) → ((x && (i || k)) || (p || (k && d))) ≡ (((x && i) || p) || (k && (x || d)))
+regrouped false i false p d = refl
+regrouped false i true p d = refl
+regrouped true true false p d = refl
+regrouped true false false p d = refl
+regrouped true true true p d = refl
+regrouped true false true true d = refl
+regrouped true false true false d = refl
+
+-- What the content c, set at the end, follows.
+precedes-more : (d k c : ℕ) (w : List ℕ) → precedes (w ++ (c ∷ [])) d k ≡ (precedes w d k || (eqb k c && isIn d w))
+unfolding precedes isIn
+precedes-more d k c [] = rw (and-false (eqb c d), and-false (eqb k c))
+precedes-more d k c (x ∷ w) =
+    rw (is-in-more k c w, precedes-more d k c w, eqb-sym d x)
+    (regrouped (eqb x d) (isIn k w) (eqb k c) (precedes w d k) (isIn d w))
+
+module _ (w : List ℕ) (contents : ℕ) (before : List ℕ) (C : Containing w contents before) (c : ℕ) (room : c < length before)
+    (r joined : ℕ) (with-content : (k : ℕ) → member r k ≡ (eqb k c || member contents k))
+    (joins : (k : ℕ) → member joined k ≡ (member (getD before c 0) k || member contents k)) where
+  ordered-more : (k d : ℕ) → member (getD (set before c joined) k 0) d ≡ precedes (w ++ (c ∷ [])) d k
+  ordered-more k d = rw (precedes-more d k c w) (by-test (eqb k c)
+      (λ e. rw (eqb-true k c e, eq-eqb c c refl, getD-set-same before c joined 0 room, joins d, C .ordered c d, C .has d))
+      (λ e. rw (getD-set-other before c k joined 0 (eqb-false k c e), C .ordered k d, e) (sym (or-false (precedes w d k)))))
+
+  -- One content more: the set, and what stands before the content, as the tables have them.
+  pub one-content : Containing (w ++ (c ∷ [])) r (set before c joined)
+  one-content = record {
+    has = λ k. with-content k ∙ rw (is-in-more k c w, C .has k) (or-comm (eqb k c) (isIn k w));
+    ordered = ordered-more;
+  }
+
+zeros : (n c : ℕ) → _≡_ {A = ℕ} (getD (replicate n 0) c 0) 0
+zeros zero c = refl
+zeros (suc n) zero = refl
+zeros (suc n) (suc c) = zeros n c
+
+-- The tables of no content.
+pub no-content : (n : ℕ) → Containing [] 0 (replicate n 0)
+unfolding isIn precedes
+no-content n = record {
+  has = λ k. member-zero k;
+  ordered = λ c d. rw (zeros n c) (member-zero d);
+}

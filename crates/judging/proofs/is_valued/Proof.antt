@@ -1,0 +1,23 @@
+-- Absence settles it; otherwise the string does.
+use borrow.Author.Needs.{needs}
+use Rattle.judging.proofs.is_valued.Statement.{statement}
+use Rattle.judging.proofs.is_valued.Tie as tie
+
+is-member-requires : tie.Need-is-member-requires
+is-member-requires c κs = search needs
+
+returns : tie.Need-returns
+returns c = rw (← c .before .is-member .ensures, c .if1 .taken)
+
+byte-at-requires : tie.Need-byte-at-requires
+byte-at-requires c κs = search needs
+
+is-member-requires-2 : tie.Need-is-member-requires-2
+is-member-requires-2 c κs = search needs
+
+returns-2 : tie.Need-returns-2
+returns-2 c = rw (← c .before .before .before .is-member .ensures, c .before .before .if1 .left) (rw (c .is-member2 .ensures, c .before .byte-at .ensures))
+
+pub is-valued-spec : {M : Type 1} → statement M
+is-valued-spec =
+    tie.close (tie.spec is-member-requires returns byte-at-requires is-member-requires-2 returns-2)

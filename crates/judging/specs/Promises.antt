@@ -1,0 +1,95 @@
+-- What the code that judges promises, in terms of the definitions that read and judge. Each promise is about bytes that read; what
+-- the code answers on others is free, and no public call hands it others.
+use Prim.Native.Nat.{ℕ, _+_}
+use mathlib.Core.Path.{_≡_}
+use mathlib.Core.List.{List, [], _∷_}
+use mathlib.Core.Bool.{Bool, true, cond, not, _||_}
+use mathlib.Core.Option.{Option, some, none}
+use lib.ListN.{getD}
+use Rattle.sets.specs.Sets.{member}
+use Rattle.commands.specs.Commands.{byte}
+use Rattle.commands.specs.Reading.{whole}
+use Rattle.vocabularies.specs.Vocabulary.{Formula, Rule, Vocabulary, ruleOf, declared, isIn}
+use Rattle.vocabularies.specs.VocabularyReading.{formula, clauses}
+use Rattle.vocabularies.specs.Promises.{RuleTables}
+use Rattle.pages.specs.declared.Kind.the-variants.{Page}
+use Rattle.pages.specs.Items.{Attribute, Item, Items}
+use Rattle.pages.specs.ItemReading.{attributes, item, items}
+use Rattle.pages.specs.RightPages.{names, word, wordItem}
+use Rattle.judging.specs.declared.Held.{Held}
+use Rattle.judging.specs.declared.Named.{Named}
+use Rattle.judging.specs.declared.Wrong.{Wrong}
+use Rattle.judging.specs.declared.Wrong.the-variants.{Nothing, At}
+use Rattle.judging.specs.declared.Judged.{Judged}
+use Rattle.judging.specs.declared.Listed.{Listed}
+use Rattle.judging.specs.Judgement.{Atoms, truthOf, allTrue, precedes, holdsValue, rightUnder, firstWrong, firstWrongItem}
+
+-- What the tables of an element stand for: the set of its attributes' names, the string of each name, the set of its contents, and
+-- for each content c the set of those that stand before a c.
+abbrev pub tableAtoms : ℕ → List ℕ → ℕ → List ℕ → Atoms
+tableAtoms named strings contents before = record {
+  attr = λ a. member named a;
+  content = λ c. member contents c;
+  order = λ c d. not (member (getD before c 0) d);
+  value = λ a m. not (member named a) || member m (getD strings a 0);
+}
+
+-- The value and the end of the formula that stands at an offset.
+abbrev pub Holds : Atoms → List ℕ → ℕ → Held → Type 0
+Holds A v at r = (f depth end : ℕ) (ψ : Formula) → formula f v depth at ≡ whole ψ end → (r .next .at ≡ end) × (r .value ≡ truthOf A ψ)
+
+-- No formula of formulas stands at an offset.
+abbrev pub NoConnective : List ℕ → ℕ → Type 0
+NoConnective v at = (byte v at ≡ 0x10 → ⊥) × (byte v at ≡ 0x11 → ⊥) × (byte v at ≡ 0x12 → ⊥)
+
+-- Whether all clauses that stand from an offset on are met.
+abbrev pub AllHold : Atoms → List ℕ → ℕ → Bool → Type 0
+AllHold A v at b = (f end : ℕ) (ψs : List Formula) → clauses f v at ≡ whole ψs end → b ≡ allTrue A ψs
+
+-- The tables of attributes.
+pub record Naming (δ : List Attribute) (named : ℕ) (strings : List ℕ) : Type 0 where
+  pub has : (a : ℕ) → member named a ≡ isIn a (names δ)
+  pub holds : (a m : ℕ) → isIn a (names δ) ≡ true → member m (getD strings a 0) ≡ holdsValue δ a m
+
+-- The tables of a word of contents.
+pub record Containing (w : List ℕ) (contents : ℕ) (before : List ℕ) : Type 0 where
+  pub has : (c : ℕ) → member contents c ≡ isIn c w
+  pub ordered : (c d : ℕ) → member (getD before c 0) d ≡ precedes w d c
+
+-- The attributes that stand at an offset.
+abbrev pub Names : List ℕ → ℕ → Named → List ℕ → Type 0
+Names p at r strings = (f end : ℕ) (δ : List Attribute) → attributes f Page p [] at ≡ whole δ end
+    → (r .next .at ≡ end) × Naming δ (r .names) strings
+
+-- Whether an element is right under a rule whose tables are given.
+abbrev pub IsRight : List ℕ → ℕ → ℕ → ℕ → ℕ → List ℕ → ℕ → List ℕ → Bool → Type 0
+IsRight v allowed held from named strings contents before b = (R : Rule) (δ : List Attribute) (w : List ℕ)
+    → RuleTables v R allowed held from → Naming δ named strings → Containing w contents before → b ≡ rightUnder R δ w
+
+-- The tables of a vocabulary's rules.
+abbrev pub Tabled : List ℕ → Vocabulary → List ℕ → List ℕ → List ℕ → Type 0
+Tabled v D allowed held from = (e : ℕ) (R : Rule) → ruleOf (D .rules) e ≡ some R
+    → RuleTables v R (getD allowed e 0) (getD held e 0) (getD from e 0)
+
+abbrev pub wrongOf : Wrong → Option ℕ
+wrongOf Nothing = none
+wrongOf (At at) = some at
+
+-- What content an item is, its end, and its first wrong element.
+pub record ItemJudged (D : Vocabulary) (i : Item) (end : ℕ) (r : Judged) : Type 0 where
+  pub is : (w : List ℕ) → wordItem i w ≡ r .content ∷ w
+  pub ends : r .next .at ≡ end
+  pub finds : wrongOf (r .wrong) ≡ firstWrongItem D i
+
+abbrev pub JudgesItem : Vocabulary → List ℕ → ℕ → Judged → Type 0
+JudgesItem D p at r = (f depth end : ℕ) (i : Item) → item f Page (declared (D .rules)) p depth at ≡ whole i end → ItemJudged D i end r
+
+-- The contents of a list inside an element, its end, and its first wrong element.
+pub record ItemsJudged (D : Vocabulary) (φ : Items) (end : ℕ) (r : Listed) (before : List ℕ) : Type 0 where
+  pub contains : Containing (word φ) (r .inside) before
+  pub ends : r .next .at ≡ end
+  pub finds : wrongOf (r .wrong) ≡ firstWrong D φ
+
+abbrev pub JudgesItems : Vocabulary → List ℕ → ℕ → Listed → List ℕ → Type 0
+JudgesItems D p at r before = (f depth end : ℕ) (φ : Items) → items f Page (declared (D .rules)) p (depth + 1) at ≡ whole φ end
+    → ItemsJudged D φ end r before

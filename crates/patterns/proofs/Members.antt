@@ -1,0 +1,125 @@
+-- How many members sets have: sets that grow stay the same or have a member more, and there is at most one for each template and
+-- pattern. This is the measure of a loop over rounds.
+use Prim.Native.Nat.{ℕ, zero, suc, _+_, _*_, _≤_, _<_}
+use native.Mathlib.Omega.{arith}
+use mathlib.Core.Path.{_≡_, refl, sym, ap, _∙_}
+use mathlib.Core.Bool.{Bool, true, false, cond, not, _&&_, false≢true, true≢false}
+use mathlib.Core.Logic.{_⊎_, inl, inr, ⊎-elim}
+use lib.Dec.{eqb}
+use borrow.Author.Tests.{eqb-true, eqb-false, not-true}
+use Rattle.patterns.specs.Rounds.{Set, Sets, anyBelow}
+use Rattle.patterns.proofs.Tests.{and-both, and-left, and-right, either, same-test, any-below, below-any}
+
+-- Y holds what X holds, of the first N templates and the numbers below M.
+abbrev pub Within : ℕ → ℕ → Sets → Sets → Type 0
+Within N M X Y = (n x : ℕ) → n < N → x < M → X n x ≡ true → Y n x ≡ true
+
+abbrev pub Same : ℕ → ℕ → Sets → Sets → Type 0
+Same N M X Y = (n x : ℕ) → n < N → x < M → X n x ≡ Y n x
+
+-- How many numbers below n a set holds, and how many members the sets of the first N templates have below M.
+unfoldable pub countBelow : ℕ → Set → ℕ
+countBelow zero A = 0
+countBelow (suc n) A = countBelow n A + cond (A n) 1 0
+
+unfoldable pub members : ℕ → ℕ → Sets → ℕ
+unfolding countBelow
+members zero M X = 0
+members (suc N) M X = members N M X + countBelow M (X N)
+
+one-grows : (a b : Bool) → (a ≡ true → b ≡ true) → cond a 1 0 ≤ cond b 1 0
+one-grows true true h = omega arith
+one-grows true false h = absurd (false≢true (h refl))
+one-grows false true h = omega arith
+one-grows false false h = omega arith
+
+pub count-grows : (n : ℕ) (A B : Set) → ((x : ℕ) → x < n → A x ≡ true → B x ≡ true) → countBelow n A ≤ countBelow n B
+unfolding countBelow
+count-grows zero A B h = omega arith
+count-grows (suc n) A B h =
+    let below : countBelow n A ≤ countBelow n B = count-grows n A B (λ x k. h x (omega arith)) in
+    let last = one-grows (A n) (B n) (h n (omega arith)) in
+    omega arith
+
+-- A number that only the larger set holds.
+pub count-more : (n : ℕ) (A B : Set) → ((x : ℕ) → x < n → A x ≡ true → B x ≡ true) → (y : ℕ) → y < n → A y ≡ false → B y ≡ true
+    → countBelow n A < countBelow n B
+unfolding countBelow
+count-more zero A B h y k no-a yes-b = absurd (omega arith)
+count-more (suc n) A B h y k no-a yes-b = ⊎-elim
+    (λ (e : eqb y n ≡ true). here (eqb-true y n e))
+    (λ (e : eqb y n ≡ false).
+    let ne : y ≡ n → ⊥ = eqb-false y n e in
+    let below : countBelow n A < countBelow n B = count-more n A B (λ x i. h x (omega arith)) y (omega arith) no-a yes-b in
+    let last = one-grows (A n) (B n) (h n (omega arith)) in
+    omega arith)
+    (either (eqb y n))
+  where
+    here : y ≡ n → countBelow n A + cond (A n) 1 0 < countBelow n B + cond (B n) 1 0
+    here e =
+        let a : A n ≡ false = rw (← e) no-a in
+        let b : B n ≡ true = rw (← e) yes-b in
+        let below : countBelow n A ≤ countBelow n B = count-grows n A B (λ x i. h x (omega arith)) in
+        rw (a, b) (omega arith)
+
+pub count-most : (n : ℕ) (A : Set) → countBelow n A ≤ n
+unfolding countBelow
+count-most zero A = omega arith
+count-most (suc n) A = go (A n) (count-most n A)
+  where
+    go : (b : Bool) → countBelow n A ≤ n → countBelow n A + cond b 1 0 ≤ suc n
+    go true h = omega arith
+    go false h = omega arith
+
+pub members-grow : (N M : ℕ) (X Y : Sets) → Within N M X Y → members N M X ≤ members N M Y
+unfolding members
+members-grow zero M X Y h = omega arith
+members-grow (suc N) M X Y h =
+    let before : members N M X ≤ members N M Y = members-grow N M X Y (λ n x i k. h n x (omega arith) k) in
+    let last : countBelow M (X N) ≤ countBelow M (Y N) = count-grows M (X N) (Y N) (λ x k. h N x (omega arith) k) in
+    omega arith
+
+pub members-more : (N M : ℕ) (X Y : Sets) → Within N M X Y → (n x : ℕ) → n < N → x < M → X n x ≡ false → Y n x ≡ true
+    → members N M X < members N M Y
+unfolding members
+members-more zero M X Y h n x i k no-x yes-y = absurd (omega arith)
+members-more (suc N) M X Y h n x i k no-x yes-y = ⊎-elim
+    (λ (e : eqb n N ≡ true). here (eqb-true n N e))
+    (λ (e : eqb n N ≡ false).
+    let ne : n ≡ N → ⊥ = eqb-false n N e in
+    let before : members N M X < members N M Y = members-more N M X Y (λ m y a b. h m y (omega arith) b) n x (omega arith) k no-x yes-y in
+    let last : countBelow M (X N) ≤ countBelow M (Y N) = count-grows M (X N) (Y N) (λ y b. h N y (omega arith) b) in
+    omega arith)
+    (either (eqb n N))
+  where
+    here : n ≡ N → members N M X + countBelow M (X N) < members N M Y + countBelow M (Y N)
+    here e =
+        let before : members N M X ≤ members N M Y = members-grow N M X Y (λ m y a b. h m y (omega arith) b) in
+        let last : countBelow M (X N) < countBelow M (Y N) = count-more M (X N) (Y N) (λ y b. h N y (omega arith) b) x k (rw (← e) no-x) (rw (← e) yes-y) in
+        omega arith
+
+pub members-most : (N M : ℕ) (X : Sets) → members N M X ≤ N * M
+unfolding members
+members-most zero M X = omega arith
+members-most (suc N) M X =
+    let before : members N M X ≤ N * M = members-most N M X in
+    let last : countBelow M (X N) ≤ M = count-most M (X N) in
+    omega arith
+
+-- Sets that grow stay the same, or have a member more.
+pub same-or-more : (N M : ℕ) (X Y : Sets) → Within N M X Y → Same N M X Y ⊎ (members N M X < members N M Y)
+same-or-more N M X Y within = go (anyBelow N (λ n. anyBelow M (added n))) refl
+  where
+    added : ℕ → Set
+    added n x = Y n x && not (X n x)
+
+    go : (b : Bool) → anyBelow N (λ n. anyBelow M (added n)) ≡ b → Same N M X Y ⊎ (members N M X < members N M Y)
+    go true e =
+        let (n, hn, p) = below-any N (λ k. anyBelow M (added k)) e in
+        let (x, hx, q) = below-any M (added n) p in
+        inr (members-more N M X Y within n x hn hx (not-true (X n x) (and-right (Y n x) (not (X n x)) q)) (and-left (Y n x) (not (X n x)) q))
+    go false e = inl (λ n x hn hx. same-test (X n x) (Y n x) (within n x hn hx)
+        (λ y. ⊎-elim
+        (λ k. k)
+        (λ k. absurd (true≢false (sym (any-below N (λ i. anyBelow M (added i)) n hn (any-below M (added n) x hx (and-both y (ap not k)))) ∙ e)))
+        (either (X n x))))

@@ -1,0 +1,208 @@
+-- The graphs of a proposal that was read are bounded: their roots and edges name templates that are there, and no string outside the
+-- named ones is held by itself.
+use Prim.Native.Nat.{ℕ, zero, suc, _+_, _*_, _≤_, _<_}
+use native.Mathlib.Omega.{arith}
+use mathlib.Core.Path.{_≡_, refl, sym, ap₂, subst}
+use mathlib.Core.List.{List, [], _∷_, List·Memᴰ·head, List·Memᴰ·tail, List·Memᴰ·cases-cons, List·Memᴰ·not-nil}
+use mathlib.Core.Bool.{Bool, true, false, cond, _&&_, _||_, false≢true}
+use mathlib.Core.Option.{Option, some, none}
+use mathlib.Core.Logic.{⊎-elim}
+use lib.ListN.{length}
+use lib.Dec.{eqb, leb, ltb}
+use borrow.Author.Tests.{eqb-true, ne-eqb, leb-true, ltb-true}
+use Rattle.commands.specs.declared.Context.{Context}
+use Rattle.commands.specs.declared.Context.the-variants.{Heads}
+use Rattle.commands.specs.Commands.{byte, strings, allowed, operandsOf, inRange, allInRange}
+use Rattle.commands.specs.Commands as Commands
+use Rattle.pages.specs.Items.{Items}
+use Rattle.pages.specs.RightPages.{_∈_}
+use Rattle.programs.specs.Program.{Variable, templates, Statement, statementAt}
+use Rattle.summaries.specs.Proposal.{root, edge, string, gapFrom, attributeGapFrom, Fact, claim, anyAt, oneString, anyString, Head}
+use Rattle.summaries.specs.ProposalReading.{factAt, factThere, rank, facts, variableOf, factContext, proposal}
+use Rattle.summaries.specs.Summaries.{Summary, sameNumbers, saysClaim, held, sameVariable, under, entries}
+use Rattle.summaries.specs.Languages.{closedSummary, statementShows, graphOf, graphShown}
+use Rattle.agreement.proofs.Readings.{Gives, gives, refuses, runs-out, gives-when, gives-then}
+use Rattle.patterns.specs.Given.{Bounded}
+use Rattle.patterns.proofs.Tests.{or-cases, and-left, and-right}
+use Rattle.patterns.proofs.Ranges.{Ranged, ranges-of, gives-ranged}
+
+-- An item names templates that are there, and no string outside the named ones.
+abbrev pub NamedFact : Fact → Type 0
+NamedFact (claim (root n)) = Unit {0}
+NamedFact (claim (edge n g m)) = Unit {0}
+NamedFact (claim (string n h s)) = s < strings
+NamedFact (claim (gapFrom g n)) = Unit {0}
+NamedFact (claim (attributeGapFrom h n)) = Unit {0}
+NamedFact (anyAt n h) = Unit {0}
+NamedFact (oneString s) = Unit {0}
+NamedFact anyString = Unit {0}
+
+pub record InRange (count : ℕ) (f : Fact) : Type 0 where
+  pub there : factThere count f ≡ true
+  pub named : NamedFact f
+
+fact-cond : (b : Bool) (f g : Fact) → (b ≡ true → NamedFact f) → NamedFact g → NamedFact (cond b f g)
+fact-cond true f g h k = h refl
+fact-cond false f g h k = k
+
+-- `43 n h s` has a named string.
+string-ranged : (x : Context) (s : List ℕ) (at code : ℕ) → Ranged x s at code → eqb code 0x43 ≡ true → byte s (at + 3) < strings
+unfolding operandsOf allInRange inRange
+string-ranged x s at code t e =
+    let r : allInRange (Commands.gap ∷ Commands.string ∷ []) s (at + 1 + 1) ≡ true = ranges-of t 0x43 (eqb-true code 0x43 e) in
+    let q : allInRange (Commands.string ∷ []) s (at + 1 + 1 + 1) ≡ true =
+    and-right (inRange Commands.gap s (at + 1 + 1)) (allInRange (Commands.string ∷ []) s (at + 1 + 1 + 1)) r in
+    let l : ltb (byte s (at + 1 + 1 + 1)) strings ≡ true = and-left (inRange Commands.string s (at + 1 + 1 + 1)) true q in
+    let same : at + 1 + 1 + 1 ≡ at + 3 = omega arith in
+    ltb-true (byte s (at + 3)) strings (rw (← same) l)
+
+fact-named : (x : Context) (s : List ℕ) (at code : ℕ) → Ranged x s at code → NamedFact (factAt s at code)
+fact-named x s at code t =
+    fact-cond (eqb code 0x41) _ _ (λ _. tt)
+    (fact-cond (eqb code 0x42) _ _ (λ _. tt)
+    (fact-cond (eqb code 0x43) _ _ (string-ranged x s at code t)
+    (fact-cond (eqb code 0x44) _ _ (λ _. tt)
+    (fact-cond (eqb code 0x45) _ _ (λ _. tt)
+    (fact-cond (eqb code 0x46) _ _ (λ _. tt)
+    (fact-cond (eqb code 0x47) _ _ (λ _. tt) tt))))))
+
+-- All items of a list, and of the heads of a list.
+abbrev pub FactsInRange : ℕ → List Fact → Type 0
+FactsInRange count fs = (f : Fact) → f ∈ fs → InRange count f
+
+abbrev pub HeadsInRange : ℕ → List Head → Type 0
+HeadsInRange count hs = (h : Head) → h ∈ hs → FactsInRange count (h .facts)
+
+module _ (count : ℕ) (s : List ℕ) where
+  facts-in-range : (f : ℕ) (x : Context) (least at : ℕ) → Gives (Unit {0}) (λ fs end. FactsInRange count fs) (facts f x count s least at)
+  unfolding facts
+  facts-in-range zero x least at = runs-out tt
+  facts-in-range (suc f) x least at = gives-when (allowed x (byte s at))
+      (λ _ _. gives-ranged x s at λ code next t. gives-when (factThere count (factAt s at code))
+      (λ _ e. gives-when (leb least (rank s at code))
+      (λ _ _. gives-then (facts-in-range f x (rank s at code + 1) next) λ fs end n.
+      gives (λ g i. ⊎-elim
+      (λ q. subst (InRange count) (sym q) (record { there = e; named = fact-named x s at code t }))
+      (n g)
+      (List·Memᴰ·cases-cons i)))
+      (λ _ _. refuses))
+      (λ _ _. refuses))
+      (λ _ _. gives (λ g i. absurd (List·Memᴰ·not-nil i)))
+
+  pub proposal-in-range : (points f least at : ℕ) → Gives (Unit {0}) (λ hs end. HeadsInRange count hs) (proposal f count points s least at)
+  unfolding proposal
+  proposal-in-range points zero least at = runs-out tt
+  proposal-in-range points (suc f) least at = gives-ranged Heads s at λ code next t. gives-when (eqb code 0x4F)
+      (λ _ _. gives (λ h i. absurd (List·Memᴰ·not-nil i)))
+      (λ _ _. gives-when (ltb (byte s (at + 1)) points)
+      (λ _ _. gives-when (leb least (byte s (at + 1) * 8 + byte s (at + 2)))
+      (λ _ _. gives-then (facts-in-range f (factContext (variableOf (byte s (at + 2)))) 0 next) λ fs after m.
+      gives-then (proposal-in-range points f (byte s (at + 1) * 8 + byte s (at + 2) + 1) after) λ hs end n.
+      gives (λ h i. ⊎-elim (λ q. subst (λ (k : Head). FactsInRange count (k .facts)) (sym q) m) (n h) (List·Memᴰ·cases-cons i)))
+      (λ _ _. refuses))
+      (λ _ _. refuses))
+
+-- What some item of a list says.
+held-by : {A : Type 0} (says : Fact → A → Bool) (fs : List Fact) (a : A) → held says fs a ≡ true → (f : Fact) × (f ∈ fs) × (says f a ≡ true)
+unfolding held
+held-by says [] a e = absurd (false≢true e)
+held-by says (f ∷ fs) a e = ⊎-elim
+    (λ p. (f, List·Memᴰ·head refl, p))
+    (λ p. let (g, i, q) = held-by says fs a p in (g, List·Memᴰ·tail i, q))
+    (or-cases (says f a) (held says fs a) e)
+
+held-same : {A : Type 0} (says : Fact → A → Bool) (fs : List Fact) (a b : A) → ((f : Fact) → f ∈ fs → says f a ≡ says f b)
+    → held says fs a ≡ held says fs b
+unfolding held
+held-same says [] a b h = refl
+held-same says (f ∷ fs) a b h = ap₂ _||_ (h f (List·Memᴰ·head refl)) (held-same says fs a b (λ g i. h g (List·Memᴰ·tail i)))
+
+under-in-range : (count : ℕ) (hs : List Head) (p : ℕ) (v : Variable) → HeadsInRange count hs → FactsInRange count (under hs p v)
+unfolding under
+under-in-range count [] p v h = λ f i. absurd (List·Memᴰ·not-nil i)
+under-in-range count (k ∷ hs) p v h =
+    go (eqb (k .point) p && sameVariable (k .variable) v) (under-in-range count hs p v (λ l i. h l (List·Memᴰ·tail i)))
+  where
+    go : (b : Bool) → FactsInRange count (under hs p v) → FactsInRange count (cond b (k .facts) (under hs p v))
+    go true rest = h k (List·Memᴰ·head refl)
+    go false rest = rest
+
+module _ (count : ℕ) where
+  root-there : (f : Fact) (r : ℕ) → InRange count f → saysClaim f (root r) ≡ true → r ≤ count
+  unfolding sameNumbers
+  root-there (claim (root n)) r k e =
+      let le = leb-true n count (k .there) in
+      let same = eqb-true n r (and-left (eqb n r) true e) in
+      omega arith
+  root-there (claim (edge n g m)) r k e = absurd (false≢true e)
+  root-there (claim (string n h s)) r k e = absurd (false≢true e)
+  root-there (claim (gapFrom g n)) r k e = absurd (false≢true e)
+  root-there (claim (attributeGapFrom h n)) r k e = absurd (false≢true e)
+  root-there (anyAt n h) r k e = absurd (false≢true e)
+  root-there (oneString s) r k e = absurd (false≢true e)
+  root-there anyString r k e = absurd (false≢true e)
+
+  edge-there : (f : Fact) (n g m : ℕ) → InRange count f → saysClaim f (edge n g m) ≡ true → m ≤ count
+  unfolding sameNumbers
+  edge-there (claim (root n′)) n g m k e = absurd (false≢true e)
+  edge-there (claim (edge n′ g′ m′)) n g m k e =
+      let le = leb-true m′ count (and-right (leb n′ count) (leb m′ count) (k .there)) in
+      let q = and-right (eqb n′ n) (eqb g′ g && (eqb m′ m && true)) e in
+      let q′ = and-right (eqb g′ g) (eqb m′ m && true) q in
+      let same = eqb-true m′ m (and-left (eqb m′ m) true q′) in
+      omega arith
+  edge-there (claim (string n′ h s)) n g m k e = absurd (false≢true e)
+  edge-there (claim (gapFrom g′ n′)) n g m k e = absurd (false≢true e)
+  edge-there (claim (attributeGapFrom h n′)) n g m k e = absurd (false≢true e)
+  edge-there (anyAt n′ h) n g m k e = absurd (false≢true e)
+  edge-there (oneString s) n g m k e = absurd (false≢true e)
+  edge-there anyString n g m k e = absurd (false≢true e)
+
+  strings-alike : (f : Fact) (n h s : ℕ) → InRange count f → strings ≤ s → saysClaim f (string n h s) ≡ saysClaim f (string n h strings)
+  unfolding sameNumbers
+  strings-alike (claim (root n′)) n h s k l = refl
+  strings-alike (claim (edge n′ g m)) n h s k l = refl
+  strings-alike (claim (string n′ h′ s′)) n h s k l =
+      let small = k .named in
+      rw (ne-eqb s′ s (λ e. omega arith), ne-eqb s′ strings (λ e. omega arith))
+  strings-alike (claim (gapFrom g n′)) n h s k l = refl
+  strings-alike (claim (attributeGapFrom h′ n′)) n h s k l = refl
+  strings-alike (anyAt n′ h′) n h s k l = refl
+  strings-alike (oneString t) n h s k l = refl
+  strings-alike anyString n h s k l = refl
+
+-- The closed graph of items in range is bounded.
+closed-bounded : (φs : List Items) (fs : List Fact) → FactsInRange (length φs) fs → Bounded φs (closedSummary (held saysClaim fs))
+closed-bounded φs fs h = record { roots = roots; edges = edges; others-alike = alike }
+  where
+    S : Summary
+    S = held saysClaim fs
+
+    roots : (r : ℕ) → S (root r) ≡ true → r ≤ length φs
+    roots r e = let (f, i, p) = held-by saysClaim fs (root r) e in root-there (length φs) f r (h f i) p
+
+    edges : (n g m : ℕ) → (S (edge n g m) || (eqb m 0 && S (gapFrom g n))) ≡ true → m ≤ length φs
+    edges n g m e = ⊎-elim
+        (λ p. let (f, i, q) = held-by saysClaim fs (edge n g m) p in edge-there (length φs) f n g m (h f i) q)
+        (λ p. let z = eqb-true m 0 (and-left (eqb m 0) (S (gapFrom g n)) p) in omega arith)
+        (or-cases (S (edge n g m)) (eqb m 0 && S (gapFrom g n)) e)
+
+    alike : (n k s : ℕ) → strings ≤ s
+        → (S (string n k s) || (eqb s 0 && S (attributeGapFrom k n))) ≡ (S (string n k strings) || (eqb strings 0 && S (attributeGapFrom k n)))
+    alike n k s l = rw (
+      held-same saysClaim fs (string n k s) (string n k strings) (λ f i. strings-alike (length φs) f n k s (h f i) l),
+      ne-eqb s 0 (λ e. omega arith),
+    )
+
+-- The graph that a point shows.
+pub shown-bounded : (φs : List Items) (program : List Statement) (hs : List Head) → HeadsInRange (length φs) hs
+    → (p : ℕ) (G : Summary) → graphShown program hs p ≡ some G → Bounded φs G
+unfolding graphShown entries
+shown-bounded φs program hs h p G e = go (statementShows (statementAt program p)) e
+  where
+    go : (o : Option ℕ) → graphOf hs p o ≡ some G → Bounded φs G
+    go none q = let z : _≡_ {A = ℕ} 0 1 = cc in absurd (omega arith)
+    go (some x) q =
+        let shown : Summary = closedSummary (entries hs p .template x) in
+        let same : shown ≡ G = cc in
+        subst (Bounded φs) same (closed-bounded φs (under hs p (templates x)) (under-in-range (length φs) hs p (templates x) h))

@@ -1,0 +1,4 @@
+pub mod Items
+pub mod Here
+pub mod Reading
+pub mod Heads

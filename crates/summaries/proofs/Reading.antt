@@ -1,0 +1,96 @@
+-- What reading the items from an offset on gives, from what is read there.
+use Prim.Native.Nat.{ℕ, zero, suc, _+_, _≤_}
+use mathlib.Core.Path.{_≡_, refl, sym, ap, _∙_}
+use mathlib.Core.List.{List, [], _∷_}
+use mathlib.Core.Bool.{Bool, true, false, cond, not}
+use native.Mathlib.Omega.{arith}
+use native.Mathlib.Nat.{le-refl}
+use lib.Dec.{leb}
+use borrow.Author.Tests.{not-true, not-false}
+use Rattle.verdicts.specs.declared.Form.{Form}
+use Rattle.verdicts.specs.declared.Form.the-variants.{NotRising, Missing}
+use Rattle.commands.specs.declared.Context.{Context}
+use Rattle.commands.specs.declared.Position.{Position}
+use Rattle.commands.specs.declared.Decoded.{Decoded}
+use Rattle.commands.specs.declared.Decoded.the-variants.{Moved, Refused}
+use Rattle.commands.specs.declared.Part.{Part}
+use Rattle.commands.specs.declared.Part.the-variants as Parts
+use Rattle.commands.specs.Commands.{byte, allowed, command}
+use Rattle.commands.specs.Reading.{Read, whole, refused, andThen, onDecoded, when}
+use Rattle.commands.specs.Parts.{Enough}
+use Rattle.programs.specs.Promises.{partOf}
+use Rattle.programs.proofs.Agreement.{agrees-map, enough-after, fewer-left}
+use Rattle.summaries.specs.Proposal.{Fact}
+use Rattle.summaries.specs.ProposalReading.{factAt, factThere, rank, facts}
+use Rattle.summaries.specs.Promises.{Ranked, testedFact, factHere, FactsRead}
+use Rattle.summaries.proofs.Here.{FactStands, fact-stands}
+
+module _ (x : Context) (count : ℕ) (s : List ℕ) (least at : ℕ) where
+  -- The reading goes by what is read here.
+  abbrev onFact : ℕ → Decoded → Read (List Fact)
+  onFact f d = onDecoded d λ code next. andThen (facts f x count s (rank s at code + 1) next) λ φs end. whole (factAt s at code ∷ φs) end
+
+  by-tests : (f code : ℕ) (next : Position) (b₁ b₂ : Bool)
+      → when b₁
+      (λ _. when b₂
+      (λ _. andThen (facts f x count s (rank s at code + 1) (next .at)) λ φs end. whole (factAt s at code ∷ φs) end)
+      (λ _. refused NotRising at))
+      (λ _. refused Missing at)
+      ≡ onFact f (cond b₁ (cond b₂ (Moved code next) (Refused NotRising at)) (Refused Missing at))
+  by-tests f code next true true = refl
+  by-tests f code next true false = refl
+  by-tests f code next false b₂ = refl
+
+  reads-here : (f : ℕ) → facts (suc f) x count s least at ≡ when (allowed x (byte s at)) (λ _. onFact f (factHere x count s least at)) (λ _. whole [] at)
+  unfolding facts
+  reads-here f = ap (λ (r : Read (List Fact)). when (allowed x (byte s at)) (λ _. r) (λ _. whole [] at)) (by-decoded (command x s at))
+    where
+      by-decoded : (d : Decoded) → onDecoded d (λ code next. when (factThere count (factAt s at code))
+          (λ _. when (leb least (rank s at code))
+          (λ _. andThen (facts f x count s (rank s at code + 1) next) λ φs end. whole (factAt s at code ∷ φs) end)
+          (λ _. refused NotRising at))
+          (λ _. refused Missing at)) ≡ onFact f (testedFact count s least at d)
+      by-decoded (Moved code next) = by-tests f code next (factThere count (factAt s at code)) (leb least (rank s at code))
+      by-decoded (Refused form n) = refl
+
+  -- A command that is no item ends them.
+  pub facts-end : (b : Bool) (code : ℕ) (here : Position) → here .at ≡ at → code ≡ byte s at → b ≡ allowed x code → not b ≡ true → FactsRead x count s least at (Parts.Whole here)
+  facts-end b code here h c-is b-is n zero e = absurd (omega arith)
+  facts-end b code here h c-is b-is n (suc f) e =
+      let no-item : allowed x (byte s at) ≡ false = rw c-is at (sym b-is ∙ not-true b n) in
+      rw (reads-here f, no-item) (h, le-refl at)
+
+  module _ (b : Bool) (code₀ : ℕ) (c-is : code₀ ≡ byte s at) (b-is : b ≡ allowed x code₀) (item : not b ≡ false) (d : Decoded) (d-is : d ≡ factHere x count s least at) where
+    an-item : allowed x (byte s at) ≡ true
+    an-item = rw c-is at (sym b-is ∙ not-false b item)
+
+    pub facts-refused : (form : Form) (n : ℕ) (part : Part) → d ≡ Refused form n → part ≡ partOf d → FactsRead x count s least at part
+    facts-refused form n part e p zero h = absurd (omega arith)
+    facts-refused form n part e p (suc f) h = rw (reads-here f, an-item, ← d-is, p, e) (refl, refl)
+
+    pub facts-go-on : (code : ℕ) (next : Position) (part : Part) (r : ℕ) → d ≡ Moved code next → FactStands x count s least at code next → Ranked s at code r
+        → FactsRead x count s (r + 1) (next .at) part → FactsRead x count s least at part
+    facts-go-on code next part r e m ranks later zero h = absurd (omega arith)
+    facts-go-on code next part r e m ranks later (suc f) h =
+        rw (reads-here f, an-item, ← d-is, e, ← (ranks .is))
+        (agrees-map (λ φs end. next .at ≤ end) (λ φs end. at ≤ end) (λ φs. factAt s at code ∷ φs) (facts f x count s (r + 1) (next .at)) part
+        (λ φs end l. let w = fewer-left x s at code next (m .read) in omega arith)
+        (later f (enough-after x s at code next (m .read) f h)))
+
+-- Two fuels that are enough read the same.
+module _ (x : Context) (count : ℕ) (s : List ℕ) (least at f g : ℕ) where
+  same-here : (d : Decoded) → d ≡ factHere x count s least at
+      → ((code : ℕ) (next : Position) → FactStands x count s least at code next → facts f x count s (rank s at code + 1) (next .at) ≡ facts g x count s (rank s at code + 1) (next .at))
+      → onFact x count s least at f d ≡ onFact x count s least at g d
+  same-here (Moved code next) e same = rw (same code next (fact-stands x count s least at (Moved code next) code next e refl))
+  same-here (Refused form n) e same = refl
+
+pub facts-same : (x : Context) (count : ℕ) (s : List ℕ) (least at f g : ℕ) → Enough s at f → Enough s at g → facts f x count s least at ≡ facts g x count s least at
+facts-same x count s least at zero g h h′ = absurd (omega arith)
+facts-same x count s least at (suc f) zero h h′ = absurd (omega arith)
+facts-same x count s least at (suc f) (suc g) h h′ =
+    (reads-here x count s least at f
+    ∙ ap (λ (r : Read (List Fact)). when (allowed x (byte s at)) (λ _. r) (λ _. whole [] at))
+    (same-here x count s least at f g (factHere x count s least at) refl λ code next m.
+    facts-same x count s (rank s at code + 1) (next .at) f g (enough-after x s at code next (m .read) f h) (enough-after x s at code next (m .read) g h′)))
+    ∙ sym (reads-here x count s least at g)
