@@ -1,3 +1,4 @@
 pub mod Job
 pub mod JobVerdict
 pub mod Guarantee
+pub mod Promises

@@ -13,9 +13,9 @@ use Rattle.sets.specs.Sets.{member}
 use Rattle.sets.proofs.Laws.{member-zero}
 use Rattle.pattern_sets.specs.PatternSets.{holds, First, FirstMember, IsEmpty, SameMembers, Same}
 
-pub or-false : (a : Bool) {b : Bool} → b ≡ false → (a || b) ≡ a
-or-false true e = refl
-or-false false e = e
+pub or-absent : (a : Bool) {b : Bool} → b ≡ false → (a || b) ≡ a
+or-absent true e = refl
+or-absent false e = e
 
 -- A number is told by its quotient and its remainder.
 same-rest : (x y : ℕ) → y / 64 ≡ x / 64 → eqb (y % 64) (x % 64) ≡ eqb y x

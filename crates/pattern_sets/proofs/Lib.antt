@@ -1,2 +1,8 @@
 pub mod Members
 pub mod Laws
+pub mod Numbers
+pub mod FactPlaces
+pub mod Placing
+pub mod Spreading
+pub mod Joining
+pub mod Rows

@@ -1,1 +1,3 @@
 pub mod PatternSets
+pub mod Readings
+pub mod Promises

@@ -1,6 +1,6 @@
 -- Code that agrees with a reading: what follows of the reading, and of readings made from it.
 use Prim.Native.Nat.{ℕ, suc, _+_, _-_, _≤_, _<_}
-use mathlib.Core.Path.{_≡_, refl, sym, subst, _∙_}
+use mathlib.Core.Path.{_≡_, refl, sym, ap, subst, _∙_}
 use mathlib.Core.List.{List}
 use native.Mathlib.Omega.{arith}
 use lib.ListN.{length, getD, set}
@@ -42,7 +42,18 @@ module _ {A : Type 0} (P : A → ℕ → Type 0) where
   pub agrees-whole : (r : Read A) (part : Part) (p : Position) → part ≡ Whole p → AgreesAs P r part → WholeAs r p
   agrees-whole r part p e w = by-whole r p (subst (AgreesAs P r) e w)
 
-  -- Where it is refused, whatever is read next is refused alike.
+  pub whole-then : {B : Type 0} (r : Read A) (p : Position) (w : WholeAs r p) (k : A → ℕ → Read B) → andThen r k ≡ k (w .tree) (p .at)
+  whole-then r p w k = ap (λ (x : Read A). andThen x k) (w .reads) ∙ ap (k (w .tree)) (sym (w .ends))
+
+  -- Where it is refused, so is the reading, and whatever is read next.
+  refuses : (r : Read A) (f : Form) (n : ℕ) → AgreesAs P r (Refused f n) → r ≡ refused f n
+  refuses (whole a end) f n w = absurd w
+  refuses (refused f′ n′) f n w = rw (w .0, w .1)
+  refuses unfinished f n w = absurd w
+
+  pub agrees-refuses : (r : Read A) (part : Part) (f : Form) (n : ℕ) → part ≡ Refused f n → AgreesAs P r part → r ≡ refused f n
+  agrees-refuses r part f n e w = refuses r f n (subst (AgreesAs P r) e w)
+
   by-refused : {B : Type 0} (Q : B → ℕ → Type 0) (r : Read A) (k : A → ℕ → Read B) (f : Form) (n : ℕ) → AgreesAs P r (Refused f n) → AgreesAs Q (andThen r k) (Refused f n)
   by-refused Q (whole a end) k f n w = absurd w
   by-refused Q (refused f′ n′) k f n w = w

@@ -18,12 +18,13 @@ use Rattle.commands.specs.declared.Part.the-variants as Parts
 use Rattle.commands.specs.Commands.{operandsOf, allInRange, command}
 use Rattle.commands.specs.Reading.{Read, whole, refused, andThen, onDecoded, when}
 use Rattle.commands.proofs.Laws.{MovedOver, moved}
+use Rattle.vocabularies.specs.Promises.{partOf}
 use Rattle.programs.specs.declared.ProgramRead.{ProgramRead}
 use Rattle.programs.specs.Program.{statementNames, named}
 use Rattle.programs.specs.ProgramReading.{Placed, statementRead, templatesThere, mostPoints, statementContext, statements}
 use Rattle.programs.proofs.Agreement.{agrees-map, enough-after, Stay}
 use Rattle.programs.proofs.Statements.{next-place}
-use Rattle.programs.specs.Promises.{partOf, testedHere, statementHere, numberOf, Names, placedAt, placed, Stands, Kept, StatementsRead}
+use Rattle.programs.specs.Promises.{testedHere, statementHere, numberOf, Names, placedAt, placed, Stands, Kept, StatementsRead}
 
 never-ends : {A : Type 0} (f : Form) (n code : ℕ) (next : Position) → Refused f n ≡ Moved code next → A
 never-ends f n code next e = absurd (let z : _≡_ {A = ℕ} 0 1 = cc in omega arith)

@@ -10,9 +10,7 @@ use lib.Dec.{eqb, ltb}
 use Rattle.verdicts.specs.declared.Form.the-variants.{TooMany, Missing}
 use Rattle.sets.specs.Sets.{member}
 use Rattle.commands.specs.declared.Decoded.{Decoded}
-use Rattle.commands.specs.declared.Decoded.the-variants as Decodeds
-use Rattle.commands.specs.declared.Part.{Part}
-use Rattle.commands.specs.declared.Part.the-variants.{Whole, Refused}
+use Rattle.commands.specs.declared.Decoded.the-variants.{Moved, Refused}
 use Rattle.commands.specs.Commands.{byte, operandsOf, operandBytes, allInRange, command}
 use Rattle.commands.specs.Parts.{AgreesAs, Enough}
 use Rattle.programs.specs.declared.ProgramRead.{ProgramRead}
@@ -53,20 +51,15 @@ pub record Tabled (s : List ℕ) (count : ℕ) (r : ProgramRead) (ts : List Stat
 abbrev pub ProgramReads : List ℕ → ℕ → ℕ → ProgramRead → Type 0
 ProgramReads s count at r = (f : ℕ) → Enough s at f → AgreesAs (λ ts end. Tabled s count r ts) (program f count s at) (r .part)
 
--- The steps on the way. A command alone as a part:
-abbrev pub partOf : Decoded → Part
-partOf (Decodeds.Moved code next) = Whole next
-partOf (Decodeds.Refused form at) = Refused form at
-
--- The command of a statement with what is tested on it alone, in document 01's order: 8 before 6.
+-- The steps on the way. The command of a statement with what is tested on it alone, in document 01's order: 8 before 6.
 abbrev pub testedHere : ℕ → List ℕ → ℕ → ℕ → Decoded → Decoded
-testedHere count s before at (Decodeds.Moved code next) =
+testedHere count s before at (Moved code next) =
     cond (eqb code 0x3F)
-    (Decodeds.Moved code next)
+    (Moved code next)
     (cond (templatesThere count (statementRead s at code))
-    (cond (ltb before mostPoints) (Decodeds.Moved code next) (Decodeds.Refused TooMany at))
-    (Decodeds.Refused Missing at))
-testedHere count s before at (Decodeds.Refused form n) = Decodeds.Refused form n
+    (cond (ltb before mostPoints) (Moved code next) (Refused TooMany at))
+    (Refused Missing at))
+testedHere count s before at (Refused form n) = Refused form n
 
 abbrev pub statementHere : ℕ → List ℕ → ℕ → ℕ → Decoded
 statementHere count s before at = testedHere count s before at (command (statementContext before) s at)

@@ -6,12 +6,13 @@ ghost use lib.Seq.{slice};
 ghost use Rattle.commands.specs.Commands.{byte, operandsOf, allInRange};
 ghost use Rattle.programs.specs.Program.{statementNames};
 ghost use Rattle.programs.specs.ProgramReading.{statementContext, statementRead, templatesThere, pointsThere, strayed};
-ghost use Rattle.programs.specs.Promises.{partOf, statementHere, isTemplate, isString, Adds, Names, StatementsRead, PointsAt, placed, strayOf, ProgramReads};
+ghost use Rattle.programs.specs.Promises.{statementHere, isTemplate, isString, Adds, Names, StatementsRead, PointsAt, placed, strayOf, ProgramReads};
 use commands::Context;
 use commands::Decoded;
 use commands::Part;
 use commands::Position;
 use verdicts::Form;
+use vocabularies::part_of;
 
 // What reading a program keeps: how many points it has, the offset of each point's statement, and as a set the variables that
 // some statement names: x for template variable x, 4 + y for string variable y.
@@ -23,16 +24,6 @@ pub struct ProgramRead {
 }
 
 const MOST_POINTS: usize = 32;
-
-// A command alone as a part.
-pub fn part_of(d: Decoded) -> Part
-    ensures { λ r. ⌜ r ≡ partOf d ⌝ }
-{
-    match d {
-        Decoded::Moved(_, next) => Part::Whole(next),
-        Decoded::Refused(form, at) => Part::Refused(form, at),
-    }
-}
 
 fn statement_context(before: usize) -> Context
     ensures { λ r. ⌜ r ≡ statementContext before ⌝ }

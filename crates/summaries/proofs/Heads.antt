@@ -21,7 +21,7 @@ use Rattle.commands.specs.Commands.{byte, allowed, command, operandsOf, inRange
 use Rattle.commands.specs.Reading.{Read, whole, refused, andThen, onDecoded, when, enough}
 use Rattle.commands.specs.Parts.{AgreesAs, Enough}
 use Rattle.commands.proofs.Laws.{MovedOver, moved}
-use Rattle.programs.specs.Promises.{partOf}
+use Rattle.vocabularies.specs.Promises.{partOf}
 use Rattle.programs.specs.Program.{templates, strings}
 use Rattle.programs.proofs.Agreement.{WholeAs, agrees-map, agrees-whole, agrees-refused, enough-enough, enough-after, fewer-left, Stay}
 use Rattle.summaries.specs.declared.ProposalRead.{ProposalRead}

@@ -18,7 +18,7 @@ use Rattle.commands.specs.declared.Part.the-variants as Parts
 use Rattle.commands.specs.Commands.{byte, allowed, command}
 use Rattle.commands.specs.Reading.{Read, whole, refused, andThen, onDecoded, when}
 use Rattle.commands.specs.Parts.{Enough}
-use Rattle.programs.specs.Promises.{partOf}
+use Rattle.vocabularies.specs.Promises.{partOf}
 use Rattle.programs.proofs.Agreement.{agrees-map, enough-after, fewer-left}
 use Rattle.summaries.specs.Proposal.{Fact}
 use Rattle.summaries.specs.ProposalReading.{factAt, factThere, rank, facts}

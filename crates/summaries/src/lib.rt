@@ -9,8 +9,8 @@ use commands::Context;
 use commands::Decoded;
 use commands::Part;
 use commands::Position;
-use programs::part_of;
 use verdicts::Form;
+use vocabularies::part_of;
 
 // What reading a proposal keeps: for each point p and variable v, as `40` numbers it, the offset of the first item under its
 // head, at p * 8 + v; 0 where it has no head.

@@ -3,7 +3,7 @@ use mathlib.Core.Path.{_∙_, ap}
 use mathlib.Core.Bool.{Bool, _||_}
 use lib.Dec.{eqb}
 use borrow.Author.Needs.{needs}
-use Rattle.pattern_sets.proofs.Laws.{or-false}
+use Rattle.pattern_sets.proofs.Laws.{or-absent}
 use Rattle.pattern_sets.proofs.only.Statement.{statement}
 use Rattle.pattern_sets.proofs.only.Tie as tie
 
@@ -14,7 +14,7 @@ with-requires : tie.Need-with-requires
 with-requires c κs = search needs
 
 returns : tie.Need-returns
-returns c = λ y. c .with .ensures y ∙ or-false (eqb y (c .before .before .args .x)) (c .before .empty .ensures y)
+returns c = λ y. c .with .ensures y ∙ or-absent (eqb y (c .before .before .args .x)) (c .before .empty .ensures y)
 
 pub only-spec : {M : Type 1} → statement M
 only-spec = tie.close (tie.spec empty-requires with-requires returns)

@@ -1,0 +1,191 @@
+-- A job, part by part: what each part's reading tells of the whole.
+use Prim.Native.Nat.{ℕ, _≤_, _<_}
+use mathlib.Core.Path.{_≡_, refl, _∙_, subst, fun-ext}
+use mathlib.Core.List.{List}
+use mathlib.Core.Bool.{Bool}
+use lib.ListN.{length}
+use borrow.Author.Tests.{le-leb, lt-leb, lt-ltb, le-ltb}
+use Rattle.verdicts.specs.declared.Form.{Form}
+use Rattle.verdicts.specs.declared.Form.the-variants.{TooLong, NotAllowed}
+use Rattle.sets.specs.Sets.{member}
+use Rattle.commands.specs.declared.Position.{Position}
+use Rattle.commands.specs.declared.Part.the-variants.{Whole, Refused}
+use Rattle.commands.specs.Reading.{Read, whole, refused, andThen, enough}
+use Rattle.commands.specs.Parts.{AgreesAs}
+use Rattle.vocabularies.specs.declared.VocabularyRead.{VocabularyRead}
+use Rattle.vocabularies.specs.Vocabulary.{Vocabulary, declared}
+use Rattle.vocabularies.specs.VocabularyReading.{vocabulary, mostBytes}
+use Rattle.vocabularies.specs.Promises.{Describes, VocabularyReads}
+use Rattle.pages.specs.declared.TemplatesRead.{TemplatesRead}
+use Rattle.pages.specs.Items.{Items}
+use Rattle.pages.specs.ItemReading.{templates}
+use Rattle.pages.specs.Promises.{Located, TemplatesFrom}
+use Rattle.programs.specs.declared.ProgramRead.{ProgramRead}
+use Rattle.programs.specs.Program.{Statement}
+use Rattle.programs.specs.ProgramReading.{program}
+use Rattle.programs.specs.Promises.{Tabled, ProgramReads}
+use Rattle.programs.proofs.Agreement.{WholeAs, agrees-whole, agrees-refuses, whole-agrees, refused-agrees, whole-then, enough-enough}
+use Rattle.summaries.specs.declared.ProposalRead.{ProposalRead}
+use Rattle.summaries.specs.ProposalReading.{proposal}
+use Rattle.summaries.specs.Promises.{Kept, ProposalReads}
+use Rattle.jobs.specs.declared.JobRead.{JobRead}
+use Rattle.jobs.specs.Job.{Job, job}
+use Rattle.jobs.specs.Promises.{JobKept, JobReads}
+
+-- What is read after each part.
+module _ (s : List ℕ) where
+  abbrev afterProgram : Vocabulary → List Items → List Statement → ℕ → Read Job
+  afterProgram D φs ts next = andThen (proposal (enough s) (length φs) (length ts) s 0 next) λ hs end.
+      whole (record { vocabulary = D; templates = φs; program = ts; proposal = hs }) end
+
+  abbrev afterTemplates : Vocabulary → List Items → ℕ → Read Job
+  afterTemplates D φs next = andThen (program (enough s) (length φs) s next) λ ts after. afterProgram D φs ts after
+
+  abbrev afterVocabulary : Vocabulary → ℕ → Read Job
+  afterVocabulary D next = andThen (templates (enough s) (declared (D .rules)) s 0 next) λ φs after. afterTemplates D φs after
+
+  abbrev parts : Read Job
+  parts = andThen (vocabulary s) afterVocabulary
+
+  -- Refused where the parts are, and where something follows them.
+  module _ (r : JobRead) where
+    pub too-long : mostBytes < length s → r .part ≡ Refused TooLong 0 → JobReads s r
+    unfolding job
+    too-long l e = refused-agrees (λ j end. JobKept s j r) (job s) (r .part) TooLong 0 (rw (lt-leb (length s) mostBytes l)) e
+
+    module _ (short : length s ≤ mostBytes) where
+      parts-refuse : (f : Form) (n : ℕ) → parts ≡ refused f n → r .part ≡ Refused f n → JobReads s r
+      unfolding job
+      parts-refuse f n q e = refused-agrees (λ j end. JobKept s j r) (job s) (r .part) f n (rw (le-leb (length s) mostBytes short, q)) e
+
+      parts-go-on : (j : Job) (end : ℕ) → parts ≡ whole j end → end < length s → r .part ≡ Refused NotAllowed end → JobReads s r
+      unfolding job
+      parts-go-on j end q l e =
+          refused-agrees (λ j end. JobKept s j r) (job s) (r .part) NotAllowed end (rw (le-leb (length s) mostBytes short, q, lt-ltb end (length s) l)) e
+
+      parts-are-all : (j : Job) (end : Position) → parts ≡ whole j (end .at) → length s ≤ end .at → r .part ≡ Whole end → JobKept s j r → JobReads s r
+      unfolding job
+      parts-are-all j end q l e K =
+          whole-agrees (λ j end. JobKept s j r) (job s) (r .part) end j (end .at) (rw (le-leb (length s) mostBytes short, q, le-ltb (end .at) (length s) l)) e refl K
+
+-- The vocabulary is refused, or is there.
+pub vocabulary-refuses : (s : List ℕ) (v : VocabularyRead) (r : JobRead) (f : Form) (n : ℕ) → length s ≤ mostBytes → VocabularyReads s v → v .part ≡ Refused f n → r .part ≡ v .part
+    → JobReads s r
+vocabulary-refuses s v r f n short reads q e =
+    let refuses = agrees-refuses (λ D end. Describes s D (v .tables)) (vocabulary s) (v .part) f n q reads in
+    parts-refuse s r short f n (rw refuses) (e ∙ q)
+
+pub record VocabularyThere (s : List ℕ) (v : VocabularyRead) (next : Position) : Type 0 where
+  pub short : length s ≤ mostBytes
+  pub reads : VocabularyReads s v
+  pub is-whole : v .part ≡ Whole next
+
+module _ {s : List ℕ} {v : VocabularyRead} {next : Position} (there : VocabularyThere s v next) where
+  v-tree : WholeAs (λ D end. Describes s D (v .tables)) (vocabulary s) next
+  v-tree = agrees-whole (λ D end. Describes s D (v .tables)) (vocabulary s) (v .part) next (there .is-whole) (there .reads)
+
+  abbrev D : Vocabulary
+  D = v-tree .tree
+
+  after-v : parts s ≡ afterVocabulary s D (next .at)
+  after-v = whole-then (λ D end. Describes s D (v .tables)) (vocabulary s) next v-tree (afterVocabulary s)
+
+  -- The templates are refused, or are there.
+  module _ (t : TemplatesRead) (reads : TemplatesFrom (member (v .tables .declared)) s (next .at) t) where
+    t-agree : AgreesAs (λ φs end. Located (declared (D .rules)) s φs (t .count) (t .starts)) (templates (enough s) (declared (D .rules)) s 0 (next .at)) (t .part)
+    t-agree =
+        subst (λ (ruled : ℕ → Bool). TemplatesFrom ruled s (next .at) t) (fun-ext (v-tree .holds .declares)) reads
+        (enough s) (enough-enough s (next .at))
+
+    pub templates-refuse : (r : JobRead) (f : Form) (n : ℕ) → t .part ≡ Refused f n → r .part ≡ t .part → JobReads s r
+    templates-refuse r f n q e =
+        let refuses = agrees-refuses (λ φs end. Located (declared (D .rules)) s φs (t .count) (t .starts)) (templates (enough s) (declared (D .rules)) s 0 (next .at)) (t .part) f n q t-agree in
+        parts-refuse s r (there .short) f n (after-v ∙ rw refuses) (e ∙ q)
+
+pub record TemplatesThere (s : List ℕ) (v : VocabularyRead) (next : Position) (t : TemplatesRead) (next′ : Position) : Type 0 where
+  pub before : VocabularyThere s v next
+  pub reads : TemplatesFrom (member (v .tables .declared)) s (next .at) t
+  pub is-whole : t .part ≡ Whole next′
+
+module _ {s : List ℕ} {v : VocabularyRead} {next : Position} {t : TemplatesRead} {next′ : Position} (there : TemplatesThere s v next t next′) where
+  t-tree : WholeAs (λ φs end. Located (declared (D (there .before) .rules)) s φs (t .count) (t .starts)) (templates (enough s) (declared (D (there .before) .rules)) s 0 (next .at)) next′
+  t-tree =
+      agrees-whole (λ φs end. Located (declared (D (there .before) .rules)) s φs (t .count) (t .starts)) (templates (enough s) (declared (D (there .before) .rules)) s 0 (next .at)) (t .part) next′
+      (there .is-whole) (t-agree (there .before) t (there .reads))
+
+  abbrev φs : List Items
+  φs = t-tree .tree
+
+  after-t : parts s ≡ afterTemplates s (D (there .before)) φs (next′ .at)
+  after-t =
+      after-v (there .before)
+      ∙ whole-then (λ φs end. Located (declared (D (there .before) .rules)) s φs (t .count) (t .starts)) (templates (enough s) (declared (D (there .before) .rules)) s 0 (next .at)) next′ t-tree
+      (afterTemplates s (D (there .before)))
+
+  -- The program is refused, or is there.
+  module _ (p : ProgramRead) (reads : ProgramReads s (t .count) (next′ .at) p) where
+    p-agrees : AgreesAs (λ ts end. Tabled s (length φs) p ts) (program (enough s) (length φs) s (next′ .at)) (p .part)
+    p-agrees = subst (λ (n : ℕ). ProgramReads s n (next′ .at) p) (t-tree .holds .counted) reads (enough s) (enough-enough s (next′ .at))
+
+    pub program-refuses : (r : JobRead) (f : Form) (n : ℕ) → p .part ≡ Refused f n → r .part ≡ p .part → JobReads s r
+    program-refuses r f n q e =
+        let refuses = agrees-refuses (λ ts end. Tabled s (length φs) p ts) (program (enough s) (length φs) s (next′ .at)) (p .part) f n q p-agrees in
+        parts-refuse s r (there .before .short) f n (after-t ∙ rw refuses) (e ∙ q)
+
+pub record ProgramThere (s : List ℕ) (v : VocabularyRead) (next : Position) (t : TemplatesRead) (next′ : Position) (p : ProgramRead) (next″ : Position) : Type 0 where
+  pub before : TemplatesThere s v next t next′
+  pub reads : ProgramReads s (t .count) (next′ .at) p
+  pub is-whole : p .part ≡ Whole next″
+
+module _ {s : List ℕ} {v : VocabularyRead} {next : Position} {t : TemplatesRead} {next′ : Position} {p : ProgramRead} {next″ : Position} (there : ProgramThere s v next t next′ p next″) where
+  p-tree : WholeAs (λ ts end. Tabled s (length (φs (there .before))) p ts) (program (enough s) (length (φs (there .before))) s (next′ .at)) next″
+  p-tree =
+      agrees-whole (λ ts end. Tabled s (length (φs (there .before))) p ts) (program (enough s) (length (φs (there .before))) s (next′ .at)) (p .part) next″ (there .is-whole)
+      (p-agrees (there .before) p (there .reads))
+
+  abbrev ts : List Statement
+  ts = p-tree .tree
+
+  after-p : parts s ≡ afterProgram s (D (there .before .before)) (φs (there .before)) ts (next″ .at)
+  after-p =
+      after-t (there .before)
+      ∙ whole-then (λ ts end. Tabled s (length (φs (there .before))) p ts) (program (enough s) (length (φs (there .before))) s (next′ .at)) next″ p-tree
+      (afterProgram s (D (there .before .before)) (φs (there .before)))
+
+  pub points-low : p .count ≤ 32
+  points-low = p-tree .holds .most
+
+  -- The proposal is refused, or is there.
+  module _ (h : ProposalRead) (reads : ProposalReads (t .count) (p .count) s 0 (next″ .at) h) where
+    h-agrees : AgreesAs (λ hs end. Kept (length (φs (there .before))) s 0 (h .heads) hs) (proposal (enough s) (length (φs (there .before))) (length ts) s 0 (next″ .at)) (h .part)
+    h-agrees =
+        subst (λ (n : ℕ). ProposalReads (length (φs (there .before))) n s 0 (next″ .at) h) (p-tree .holds .points)
+        (subst (λ (n : ℕ). ProposalReads n (p .count) s 0 (next″ .at) h) (t-tree (there .before) .holds .counted) reads)
+        (enough s) (enough-enough s (next″ .at))
+
+    pub proposal-refuses : (r : JobRead) (f : Form) (n : ℕ) → h .part ≡ Refused f n → r .part ≡ h .part → JobReads s r
+    proposal-refuses r f n q e =
+        let refuses = agrees-refuses (λ hs end. Kept (length (φs (there .before))) s 0 (h .heads) hs) (proposal (enough s) (length (φs (there .before))) (length ts) s 0 (next″ .at)) (h .part) f n q h-agrees in
+        parts-refuse s r (there .before .before .short) f n (after-p ∙ rw refuses) (e ∙ q)
+
+    module _ (end : Position) (is-whole : h .part ≡ Whole end) where
+      h-tree : WholeAs (λ hs end. Kept (length (φs (there .before))) s 0 (h .heads) hs) (proposal (enough s) (length (φs (there .before))) (length ts) s 0 (next″ .at)) end
+      h-tree =
+          agrees-whole (λ hs end. Kept (length (φs (there .before))) s 0 (h .heads) hs) (proposal (enough s) (length (φs (there .before))) (length ts) s 0 (next″ .at)) (h .part) end is-whole h-agrees
+
+      abbrev all : Job
+      all = record { vocabulary = D (there .before .before); templates = φs (there .before); program = ts; proposal = h-tree .tree }
+
+      after-h : parts s ≡ whole all (end .at)
+      after-h =
+          after-p
+          ∙ whole-then (λ hs end. Kept (length (φs (there .before))) s 0 (h .heads) hs) (proposal (enough s) (length (φs (there .before))) (length ts) s 0 (next″ .at)) end h-tree
+          (λ hs end. whole (record { vocabulary = D (there .before .before); templates = φs (there .before); program = ts; proposal = hs }) end)
+
+      pub more-follows : (r : JobRead) → end .at < length s → r .part ≡ Refused NotAllowed (end .at) → JobReads s r
+      more-follows r l e = parts-go-on s r (there .before .before .short) all (end .at) after-h l e
+
+      pub nothing-follows : length s ≤ end .at → JobReads s (record { part = Whole end; tables = v .tables; templates = t; program = p; proposal = h })
+      nothing-follows l =
+          parts-are-all s (record { part = Whole end; tables = v .tables; templates = t; program = p; proposal = h }) (there .before .before .short) all end after-h l refl
+          (record { vocabulary = v-tree (there .before .before) .holds; templates = t-tree (there .before) .holds; program = p-tree .holds; proposal = h-tree .holds })

@@ -1,0 +1,22 @@
+-- What the code that reads jobs promises, in terms of the definitions that read them.
+use Prim.Native.Nat.{ℕ}
+use mathlib.Core.List.{List}
+use lib.ListN.{length}
+use Rattle.commands.specs.Parts.{AgreesAs}
+use Rattle.vocabularies.specs.Vocabulary.{declared}
+use Rattle.vocabularies.specs.Promises.{Describes}
+use Rattle.pages.specs.Promises.{Located}
+use Rattle.programs.specs.Promises.{Tabled}
+use Rattle.summaries.specs.Promises.{Kept}
+use Rattle.jobs.specs.declared.JobRead.{JobRead}
+use Rattle.jobs.specs.Job.{Job, job}
+
+-- What is kept of each part of a job.
+pub record JobKept (s : List ℕ) (j : Job) (r : JobRead) : Type 0 where
+  pub vocabulary : Describes s (j .vocabulary) (r .tables)
+  pub templates : Located (declared (j .vocabulary .rules)) s (j .templates) (r .templates .count) (r .templates .starts)
+  pub program : Tabled s (length (j .templates)) (r .program) (j .program)
+  pub proposal : Kept (length (j .templates)) s 0 (r .proposal .heads) (j .proposal)
+
+abbrev pub JobReads : List ℕ → JobRead → Type 0
+JobReads s r = AgreesAs (λ j end. JobKept s j r) (job s) (r .part)
