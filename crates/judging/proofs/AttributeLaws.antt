@@ -28,6 +28,7 @@ use Rattle.judging.proofs.Booleans.{by-test, and-left, or-right}
 -- What the attributes δ add to the names and the strings before them. None of the names read before is among theirs.
 pub record Added (earlier : List ℕ) (named : ℕ) (held : List ℕ) (δ : List Attribute) (end : ℕ) (r : Named) (last : List ℕ) : Type 0 where
   pub ends : r .next .at ≡ end
+  pub small : (a : ℕ) → isIn a (names δ) ≡ true → a < 32
   pub fresh : (a : ℕ) → isIn a earlier ≡ true → isIn a (names δ) ≡ false
   pub has : (a : ℕ) → member (r .names) a ≡ (member named a || isIn a (names δ))
   pub holds : (a m : ℕ) → member m (getD last a 0) ≡ cond (isIn a (names δ)) (holdsValue δ a m) (member m (getD held a 0))
@@ -43,7 +44,9 @@ adds-all p held at r last A f end δ e =
       a .ends,
       record {
         has = λ n. a .has n ∙ rw (member-zero n);
-        holds = λ n m i. a .holds n m ∙ rw i;
+        holds = λ n m i.
+            let q : n % 32 ≡ n = omega (arith, a .small n i) in
+            rw q (a .holds n m ∙ rw i);
       },
     )
 
@@ -68,6 +71,7 @@ module _ (p : List ℕ) (named : ℕ) (held earlier : List ℕ) (at : ℕ) where
       let t : at ≡ end = cc in
       rw s (record {
         ends = t;
+        small = λ a i. unfold isIn in absurd (false≢true i);
         fresh = λ a i. unfold isIn in refl;
         has = λ a. unfold isIn in sym (or-false (member named a));
         holds = λ a m. unfold isIn in refl;
@@ -129,10 +133,13 @@ swapped false false i = refl
 
 -- One attribute before the others: a table of its name and its string, and then theirs.
 module _ (earlier : List ℕ) (n s named named′ : ℕ) (held : List ℕ) (value′ : Value) (is-string : value′ ≡ string s)
-    (with-name : (k : ℕ) → member named′ k ≡ (eqb k n || member named k)) (room : n < length held) (new : isIn n earlier ≡ false)
+    (with-name : (k : ℕ) → member named′ k ≡ (eqb k n || member named k)) (low : n < 32) (room : n < length held) (new : isIn n earlier ≡ false)
     (δ : List Attribute) (end : ℕ) (r : Named) (last : List ℕ) (A : Added (n ∷ earlier) named′ (set held n s) δ end r last) where
   n-apart : isIn n (names δ) ≡ false
   n-apart = A .fresh n (unfold isIn in rw (eq-eqb n n refl))
+
+  small-more : (a : ℕ) → (eqb a n || isIn a (names δ)) ≡ true → a < 32
+  small-more a i = by-test (eqb a n) (λ e. omega (arith, eqb-true a n e)) (λ e. A .small a (or-right (eqb a n) (isIn a (names δ)) e i))
 
   fresh-more : (a : ℕ) → isIn a earlier ≡ true → (eqb a n || isIn a (names δ)) ≡ false
   fresh-more a i = by-test (eqb a n)
@@ -158,9 +165,9 @@ module _ (earlier : List ℕ) (n s named named′ : ℕ) (held : List ℕ) (valu
 
   one-more : Added earlier named held (record { name = n; value = value′ } ∷ δ) end r last
   unfolding isIn holdsValue
-  one-more = record { ends = A .ends; fresh = fresh-more; has = has-more; holds = holds-more }
+  one-more = record { ends = A .ends; small = small-more; fresh = fresh-more; has = has-more; holds = holds-more }
 
-module _ (p : List ℕ) (named named′ : ℕ) (held earlier : List ℕ) (at b : ℕ) (is-name : b ≡ byte p (at + 1)) (room : 32 ≤ length held)
+module _ (p : List ℕ) (named named′ : ℕ) (held earlier : List ℕ) (at b : ℕ) (is-name : b ≡ byte p (at + 1)) (room : length held ≡ 32)
     (with-name : (k : ℕ) → member named′ k ≡ (eqb k (b % 32) || member named k)) (r : Named) (last : List ℕ) where
   more-added : (s next : ℕ) → allowed PageAttributes (byte p at) ≡ true
       → (allInRange (operandsOf (byte p at)) p (at + 1) ≡ true → byte p (at + 1) ≤ 31)
@@ -173,7 +180,7 @@ module _ (p : List ℕ) (named named′ : ℕ) (held earlier : List ℕ) (at b :
       let q : b % 32 ≡ n = omega arith in
       let a : Added (n ∷ earlier) named′ (set held (b % 32) s) (B .others) end r last = A (B .fuel) end (B .others) (subst (λ (k : ℕ). attributes (B .fuel) Page p (n ∷ earlier) k ≡ whole (B .others) end) after (B .reads)) in
       rw (B .is) (one-more earlier n s named named′ held (valueAt p at (byte p at)) is-string
-      (subst (λ (x : ℕ). (k : ℕ) → member named′ k ≡ (eqb k x || member named k)) q with-name) (omega arith) (B .new) (B .others) end r last
+      (subst (λ (x : ℕ). (k : ℕ) → member named′ k ≡ (eqb k x || member named k)) q with-name) (omega arith) (omega arith) (B .new) (B .others) end r last
       (subst (λ (x : ℕ). Added (n ∷ earlier) named′ (set held x s) (B .others) end r last) q a))
 
   -- `24 a s`, and `28 a`.
@@ -194,7 +201,6 @@ module _ (p : List ℕ) (named named′ : ℕ) (held earlier : List ℕ) (at b :
 -- Where reading has come: what the attributes from here on add to these tables is what all of them add to empty ones.
 pub record Going (p held₀ : List ℕ) (at₀ : ℕ) (held : List ℕ) (at named : ℕ) : Type 0 where
   pub forward : at₀ ≤ at
-  pub room : 32 ≤ length held
-  pub long : length held ≡ length held₀
+  pub room : length held ≡ 32
   pub earlier : List ℕ
   pub goes : (r : Named) (last : List ℕ) → Adds p named held earlier at r last → Adds p 0 held₀ [] at₀ r last

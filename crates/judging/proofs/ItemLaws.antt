@@ -4,6 +4,7 @@ use mathlib.Core.Path.{_≡_, refl, sym, ap, subst, subst₂, _∙_}
 use mathlib.Core.List.{List, [], _∷_, _++_, append-assoc, append-nil}
 use mathlib.Core.Bool.{Bool, true, false, cond, _&&_, _||_, false≢true}
 use mathlib.Core.Option.{Option, some, none}
+use native.Mathlib.Numerals.{add-one}
 use native.Mathlib.Omega.{arith}
 use lib.ListN.{length, getD}
 use lib.Dec.{eqb, ltb, leb}
@@ -22,19 +23,28 @@ use Rattle.pages.specs.RightPages.{word, wordItem}
 use Rattle.judging.specs.declared.Judged.{Judged}
 use Rattle.judging.specs.declared.Listed.{Listed}
 use Rattle.judging.specs.declared.Named.{Named}
-use Rattle.judging.specs.declared.Wrong.{Wrong}
-use Rattle.judging.specs.declared.Wrong.the-variants.{Nothing, At}
 use Rattle.judging.specs.Judgement.{rightUnder, rightBy, orElse, firstWrong, firstWrongItem}
 use Rattle.judging.specs.Promises.{Names, Containing, IsRight, Tabled, wrongOf, ItemJudged, JudgesItem, ItemsJudged, JudgesItems}
 use Rattle.judging.proofs.Booleans.{and-left, and-right, or-left}
 
-or-none : (o : Option ℕ) → orElse o none ≡ o
+pub or-none : (o : Option ℕ) → orElse o none ≡ o
 or-none none = refl
 or-none (some n) = refl
 
 or-or : (a b c : Option ℕ) → orElse (orElse a b) c ≡ orElse a (orElse b c)
 or-or none b c = refl
 or-or (some n) b c = refl
+
+-- A wrong element that was found stays the first.
+pub stays-first : (a b : ℕ) → (a ≡ 0 → ⊥) → wrongOf a ≡ orElse (wrongOf a) (wrongOf b)
+stays-first zero b n = absurd (n refl)
+stays-first (suc a) b n = refl
+
+pub found-at : (at : ℕ) → wrongOf (at + 1) ≡ some at
+found-at at = rw (add-one at)
+
+inner-end : (depth : ℕ) → endOf (depth + 1) ≡ 0x26
+inner-end depth = rw (ne-eqb (depth + 1) 0 (λ q. omega arith))
 
 module _ (D : Vocabulary) (p : List ℕ) where
   abbrev ruled : ℕ → Bool
@@ -86,34 +96,39 @@ module _ (D : Vocabulary) (p : List ℕ) where
       absurd (omega arith)
 
   -- What is no element is text.
-  pub text-item : (at : ℕ) → (byte p at ≡ 0x23 → ⊥) → JudgesItem D p at (record { content = 0; next = record { at = at + 1 }; wrong = Nothing })
-  unfolding allowed operandBytes wordItem firstWrongItem
-  text-item at other f depth end i e =
+  pub text-is : (depth at f end : ℕ) (i : Item) → (byte p at ≡ 0x23 → ⊥) → item f Page ruled p depth at ≡ whole i end → (i ≡ text) × (at + 1 ≡ end)
+  unfolding allowed operandBytes
+  text-is depth at f end i other e =
       let B = begins depth at f end i e in
       let c : byte p at ≡ 0x21 = eqb-true (byte p at) 0x21 (or-left (eqb (byte p at) 0x21) (eqb (byte p at) 0x23) (ne-eqb (byte p at) 0x23 other) (B .permitted)) in
       let g : whole text (at + 1 + operandBytes 0x21) ≡ whole i end = subst (λ (x : ℕ). begun depth at (B .fuel) x (at + 1 + operandBytes x) ≡ whole i end) c (B .goes) in
-      let s : i ≡ text = cc in
       let t : at + 1 + operandBytes 0x21 ≡ end = cc in
-      rw s (record { is = λ w. refl; ends = omega arith; finds = refl })
+      (cc, omega arith)
+
+  pub text-item : (at : ℕ) → (byte p at ≡ 0x23 → ⊥) → JudgesItem D p at (record { content = 0; next = record { at = at + 1 }; wrong = 0 })
+  unfolding wordItem firstWrongItem
+  text-item at other f depth end i e =
+      let t = text-is depth at f end i other e in
+      rw (t .0) (record { is = λ w. refl; ends = t .1; finds = refl })
 
   found-rule : (o : Option Rule) → isSome o ≡ true → (R : Rule) × (o ≡ some R)
   found-rule none h = absurd (false≢true h)
   found-rule (some R) h = (R, refl)
 
   -- An element's parts, as they were read.
-  record Parts (depth at : ℕ) (i : Item) (end : ℕ) : Type 0 where
-    fuel : ℕ
-    δ : List Attribute
-    inside : ℕ
-    φ : Items
-    rule : Rule
-    short : byte p (at + 1) ≤ 63
-    declares : ruleOf (D .rules) (byte p (at + 1)) ≡ some rule
-    reads : attributes fuel Page p [] (at + 2) ≡ whole δ inside
-    reads-inside : items fuel Page ruled p (depth + 1) inside ≡ whole φ end
-    is : i ≡ element (byte p (at + 1)) at δ φ
+  pub record Parts (depth at : ℕ) (i : Item) (end : ℕ) : Type 0 where
+    pub fuel : ℕ
+    pub δ : List Attribute
+    pub inside : ℕ
+    pub φ : Items
+    pub rule : Rule
+    pub short : byte p (at + 1) ≤ 63
+    pub declares : ruleOf (D .rules) (byte p (at + 1)) ≡ some rule
+    pub reads : attributes fuel Page p [] (at + 2) ≡ whole δ inside
+    pub reads-inside : items fuel Page ruled p (depth + 1) inside ≡ whole φ end
+    pub is : i ≡ element (byte p (at + 1)) at δ φ
 
-  parts : (depth at f end : ℕ) (i : Item) → byte p at ≡ 0x23 → item f Page ruled p depth at ≡ whole i end → Parts depth at i end
+  pub parts : (depth at f end : ℕ) (i : Item) → byte p at ≡ 0x23 → item f Page ruled p depth at ≡ whole i end → Parts depth at i end
   unfolding operandBytes allInRange
   parts depth at f end i code e =
       let B = begins depth at f end i e in
@@ -145,7 +160,7 @@ module _ (D : Vocabulary) (p : List ℕ) where
       (code : byte p at ≡ 0x23) (named : Named) (strings : List ℕ) (N : Names p (at + 2) named strings)
       (list : Listed) (before : List ℕ) (L : JudgesItems D p (named .next .at) list before) (right : Bool)
       (R : IsRight v (getD allowed (b % 64) 0) (getD held (b % 64) 0) (getD from (b % 64) 0) (named .names) strings (list .inside) before right) where
-    pub element-item : (wrong : Wrong) → wrongOf wrong ≡ cond right (wrongOf (list .wrong)) (some at)
+    pub element-item : (wrong : ℕ) → wrongOf wrong ≡ cond right (wrongOf (list .wrong)) (some at)
         → JudgesItem D p at (record { content = b % 64; next = list .next; wrong = wrong })
     unfolding wordItem firstWrongItem
     element-item wrong is-wrong f depth end i e =
@@ -177,56 +192,62 @@ module _ (D : Vocabulary) (p : List ℕ) where
       let a = A f depth end φ e in
       record { contains = a .contains; ends = a .ends; finds = a .finds }
 
+  -- A list of items, at any depth: it ends, or goes on with an item and the others.
   module _ (depth at : ℕ) where
     abbrev others : ℕ → Item → ℕ → Read Items
-    others f i next = andThen (items f Page ruled p (depth + 1) next) λ φ end. whole (more i φ) end
+    others f i next = andThen (items f Page ruled p depth next) λ φ end. whole (more i φ) end
+
+    abbrev listed : ℕ → Bool → Read Items
+    listed f ended = when ended (λ _. whole Items.none (at + 1)) (λ _. andThen (item f Page ruled p depth at) λ i next. others f i next)
 
     record ListBegun (φ : Items) (end : ℕ) : Type 0 where
       fuel : ℕ
-      goes : when (eqb (byte p at) 0x26) (λ _. whole Items.none (at + 1)) (λ _. andThen (item fuel Page ruled p (depth + 1) at) λ i next. others fuel i next) ≡ whole φ end
+      goes : listed fuel (eqb (byte p at) (endOf depth)) ≡ whole φ end
 
-    list-begins : (f end : ℕ) (φ : Items) → items f Page ruled p (depth + 1) at ≡ whole φ end → ListBegun φ end
+    list-begins : (f end : ℕ) (φ : Items) → items f Page ruled p depth at ≡ whole φ end → ListBegun φ end
     unfolding items
     list-begins zero end φ e = absurd (let z : _≡_ {A = ℕ} 0 1 = cc in omega arith)
-    list-begins (suc f) end φ e =
-        record { fuel = f; goes = rw (ne-eqb (depth + 1) 0 (λ q. omega arith)) at e }
+    list-begins (suc f) end φ e = record { fuel = f; goes = e }
 
-  -- `26` ends the list.
-  pub list-ends : (w : List ℕ) (at contents : ℕ) (before : List ℕ) (wrong : Wrong) → byte p at ≡ 0x26 → Containing w contents before
+    pub list-none : (f end : ℕ) (φ : Items) → byte p at ≡ endOf depth → items f Page ruled p depth at ≡ whole φ end → (φ ≡ Items.none) × (at + 1 ≡ end)
+    list-none f end φ code e =
+        let B = list-begins f end φ e in
+        let g : listed (B .fuel) true ≡ whole φ end = subst (λ (t : Bool). listed (B .fuel) t ≡ whole φ end) (eq-eqb (byte p at) (endOf depth) code) (B .goes) in
+        (cc, cc)
+
+    pub record ListParts (φ : Items) (end : ℕ) : Type 0 where
+      pub fuel : ℕ
+      pub first : Item
+      pub next : ℕ
+      pub others-read : Items
+      pub reads : item fuel Page ruled p depth at ≡ whole first next
+      pub reads-others : items fuel Page ruled p depth next ≡ whole others-read end
+      pub is : φ ≡ more first others-read
+
+    pub list-parts : (f end : ℕ) (φ : Items) → (byte p at ≡ endOf depth → ⊥) → items f Page ruled p depth at ≡ whole φ end → ListParts φ end
+    list-parts f end φ other e =
+        let B = list-begins f end φ e in
+        let g : listed (B .fuel) false ≡ whole φ end = subst (λ (t : Bool). listed (B .fuel) t ≡ whole φ end) (ne-eqb (byte p at) (endOf depth) other) (B .goes) in
+        let q = andThen-whole (item (B .fuel) Page ruled p depth at) (others (B .fuel)) φ end g in
+        let o = andThen-whole (items (B .fuel) Page ruled p depth (q .1)) (λ φ′ m. whole (more (q .0) φ′) m) φ end (q .3) in
+        let t : o .1 ≡ end = cc in
+        record {
+          fuel = B .fuel;
+          first = q .0;
+          next = q .1;
+          others-read = o .0;
+          reads = q .2;
+          reads-others = subst (λ (k : ℕ). items (B .fuel) Page ruled p depth (q .1) ≡ whole (o .0) k) t (o .2);
+          is = cc;
+        }
+
+  -- `26` ends the list inside an element.
+  pub list-ends : (w : List ℕ) (at contents : ℕ) (before : List ℕ) (wrong : ℕ) → byte p at ≡ 0x26 → Containing w contents before
       → Adds w (wrongOf wrong) at (record { inside = contents; next = record { at = at + 1 }; wrong = wrong }) before
   unfolding word firstWrong
   list-ends w at contents before wrong code C f depth end φ e =
-      let B = list-begins depth at f end φ e in
-      let g : whole Items.none (at + 1) ≡ whole φ end = rw (eq-eqb (byte p at) 0x26 code) at (B .goes) in
-      let s : φ ≡ Items.none = cc in
-      let t : at + 1 ≡ end = cc in
-      rw s (record { contains = rw (append-nil w) C; ends = t; finds = sym (or-none (wrongOf wrong)) })
-
-  record ListParts (depth at : ℕ) (φ : Items) (end : ℕ) : Type 0 where
-    fuel : ℕ
-    first : Item
-    next : ℕ
-    others-read : Items
-    reads : item fuel Page ruled p (depth + 1) at ≡ whole first next
-    reads-others : items fuel Page ruled p (depth + 1) next ≡ whole others-read end
-    is : φ ≡ more first others-read
-
-  list-parts : (depth at f end : ℕ) (φ : Items) → (byte p at ≡ 0x26 → ⊥) → items f Page ruled p (depth + 1) at ≡ whole φ end → ListParts depth at φ end
-  list-parts depth at f end φ other e =
-      let B = list-begins depth at f end φ e in
-      let g = subst (λ (t : Bool). when t (λ _. whole Items.none (at + 1)) (λ _. andThen (item (B .fuel) Page ruled p (depth + 1) at) λ i next. others depth at (B .fuel) i next) ≡ whole φ end) (ne-eqb (byte p at) 0x26 other) (B .goes) in
-      let q = andThen-whole (item (B .fuel) Page ruled p (depth + 1) at) (others depth at (B .fuel)) φ end g in
-      let o = andThen-whole (items (B .fuel) Page ruled p (depth + 1) (q .1)) (λ φ′ m. whole (more (q .0) φ′) m) φ end (q .3) in
-      let t : o .1 ≡ end = cc in
-      record {
-        fuel = B .fuel;
-        first = q .0;
-        next = q .1;
-        others-read = o .0;
-        reads = q .2;
-        reads-others = subst (λ (k : ℕ). items (B .fuel) Page ruled p (depth + 1) (q .1) ≡ whole (o .0) k) t (o .2);
-        is = cc;
-      }
+      let n = list-none (depth + 1) at f end φ (code ∙ sym (inner-end depth)) e in
+      rw (n .0) (record { contains = rw (append-nil w) C; ends = n .1; finds = sym (or-none (wrongOf wrong)) })
 
   module _ (w : List ℕ) (found : Option ℕ) (at : ℕ) (r : Listed) (last : List ℕ) where
     -- An item, and then the others.
@@ -234,7 +255,7 @@ module _ (D : Vocabulary) (p : List ℕ) where
         → Adds (w ++ (i .content ∷ [])) (orElse found (wrongOf (i .wrong))) (i .next .at) r last → Adds w found at r last
     unfolding word firstWrong
     one-more i other J A f depth end φ e =
-        let P = list-parts depth at f end φ other e in
+        let P = list-parts (depth + 1) at f end φ (λ q. other (q ∙ inner-end depth)) e in
         let j : ItemJudged D (P .first) (P .next) i = J (P .fuel) (depth + 1) (P .next) (P .first) (P .reads) in
         let a : Added (w ++ (i .content ∷ [])) (orElse found (wrongOf (i .wrong))) (P .others-read) end r last =
         A (P .fuel) depth end (P .others-read) (subst (λ (m : ℕ). items (P .fuel) Page ruled p (depth + 1) m ≡ whole (P .others-read) end) (sym (j .ends)) (P .reads-others)) in
@@ -247,18 +268,17 @@ module _ (D : Vocabulary) (p : List ℕ) where
     -- Past the end no list stands.
     pub past-list : length p ≤ at → Adds w found at r last
     past-list past f depth end φ e =
-        let P = list-parts depth at f end φ (λ q. let z : byte p at ≡ 0 = byte-past p at past in omega arith) e in
+        let P = list-parts (depth + 1) at f end φ (λ q. let z : byte p at ≡ 0 = byte-past p at past in omega (arith, q ∙ inner-end depth)) e in
         let h : at < length p = begins (depth + 1) at (P .fuel) (P .next) (P .first) (P .reads) .here in
         absurd (omega arith)
 
   -- Where judging has come: what the items from here on add is what all of them add to nothing.
-  pub record Judging (at₀ : ℕ) (preceding : List ℕ) (at inside : ℕ) (wrong : Wrong) : Type 0 where
+  pub record Judging (at₀ : ℕ) (preceding : List ℕ) (at inside : ℕ) (wrong : ℕ) : Type 0 where
     pub word : List ℕ
     pub contains : Containing word inside preceding
     pub goes : (r : Listed) (last : List ℕ) → Adds word (wrongOf wrong) at r last → Adds [] none at₀ r last
 
-pub record Going (v attributes contents clauses p preceding₀ : List ℕ) (at₀ : ℕ) (preceding : List ℕ) (at inside : ℕ) (wrong : Wrong) : Type 0 where
+pub record Going (v attributes contents clauses p preceding₀ : List ℕ) (at₀ : ℕ) (preceding : List ℕ) (at inside : ℕ) (wrong : ℕ) : Type 0 where
   pub forward : at₀ ≤ at
-  pub room : 64 ≤ length preceding
-  pub long : length preceding ≡ length preceding₀
+  pub room : length preceding ≡ 64
   pub judging : (D : Vocabulary) → Tabled v D attributes contents clauses → Containing [] 0 preceding₀ → Judging D p at₀ preceding at inside wrong

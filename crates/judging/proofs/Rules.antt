@@ -1,5 +1,5 @@
 -- An element's tables and its rule's: when the element is right.
-use Prim.Native.Nat.{ℕ, _+_, _-_, _<_}
+use Prim.Native.Nat.{ℕ, _+_, _%_}
 use mathlib.Core.Path.{_≡_, refl, sym, ap, ap₂, subst, _∙_}
 use mathlib.Core.List.{List, [], _∷_}
 use mathlib.Core.Bool.{Bool, true, false, not, _&&_, _||_, or-true, false≢true}
@@ -15,6 +15,7 @@ use Rattle.pages.specs.RightPages.{names}
 use Rattle.judging.specs.Judgement.{Atoms, truthOf, allTrue, atomsOf, allIn, rightUnder, precedes, holdsValue}
 use Rattle.judging.specs.Promises.{tableAtoms, AllHold, Naming, Containing, IsRight}
 use Rattle.judging.proofs.Booleans.{by-test, and-false-left, and-false-right, or-right}
+use Rattle.judging.proofs.WordLaws.{none-precedes}
 
 -- ---- lists within lists
 
@@ -67,7 +68,10 @@ module _ (A B : Atoms) (s : Same A B) where
 
 module _ (δ : List Attribute) (w : List ℕ) (named : ℕ) (strings : List ℕ) (contents : ℕ) (before : List ℕ)
     (N : Naming δ named strings) (C : Containing w contents before) where
-  value-same : (a m : ℕ) → (not (member named a) || member m (getD strings a 0)) ≡ (not (isIn a (names δ)) || holdsValue δ a m)
+  order-same : (c d : ℕ) → (member contents c && member (getD before c 0) d) ≡ precedes w d c
+  order-same c d = by-test (isIn c w) (λ e. rw (C .has c, e) (C .ordered c d)) (λ e. rw (C .has c, e) (sym (none-precedes w d c e)))
+
+  value-same : (a m : ℕ) → (not (member named a) || member m (getD strings (a % 32) 0)) ≡ (not (isIn a (names δ)) || holdsValue δ a m)
   value-same a m = by-test (isIn a (names δ)) (λ e. rw (N .has a, e) (N .holds a m e)) (λ e. rw (N .has a, e))
 
   table-same : Same (tableAtoms named strings contents before) (atomsOf δ w)
@@ -75,7 +79,7 @@ module _ (δ : List Attribute) (w : List ℕ) (named : ℕ) (strings : List ℕ)
   table-same = record {
     attrs = N .has;
     contents = C .has;
-    orders = λ c d. ap not (C .ordered c d);
+    orders = λ c d. ap not (order-same c d);
     values = value-same;
   }
 

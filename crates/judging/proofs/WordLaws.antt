@@ -1,18 +1,34 @@
 -- Words of contents, one content at a time.
-use Prim.Native.Nat.{ℕ, zero, suc, _<_}
+use Prim.Native.Nat.{ℕ, zero, suc, _^_, _<_}
 use mathlib.Core.Path.{_≡_, refl, sym, ap, _∙_}
 use mathlib.Core.List.{List, [], _∷_, _++_}
-use mathlib.Core.Bool.{Bool, true, false, _&&_, _||_, and-false, or-false, or-comm}
+use mathlib.Core.Bool.{Bool, true, false, _&&_, _||_, and-false, or-false, or-comm, false≢true}
 use lib.ListN.{length, getD, set, replicate}
 use lib.Seq.{getD-set-same, getD-set-other}
-use lib.Dec.{eqb}
-use borrow.Author.Tests.{eq-eqb, ne-eqb, eqb-true, eqb-false}
+use lib.Dec.{eqb, ltb}
+use borrow.Author.Tests.{eq-eqb, ne-eqb, eqb-true, eqb-false, ltb-true, ltb-false}
 use Rattle.sets.specs.Sets.{member}
-use Rattle.sets.proofs.Laws.{member-zero}
+use Rattle.sets.proofs.Laws.{member-zero, member-high}
 use Rattle.vocabularies.specs.Vocabulary.{isIn}
 use Rattle.judging.specs.Judgement.{precedes}
 use Rattle.judging.specs.Promises.{Containing}
 use Rattle.judging.proofs.Booleans.{by-test}
+
+-- The members of a word are below its width.
+pub member-small : (set k : ℕ) → set < 2 ^ 64 → member set k ≡ true → k < 64
+member-small set k fits is = by-test (ltb k 64)
+    (λ e. ltb-true k 64 e)
+    (λ e. absurd (false≢true (sym (member-high 64 set k fits (ltb-false k 64 e)) ∙ is)))
+
+-- What is not in the word follows nothing in it.
+pub none-precedes : (w : List ℕ) (d c : ℕ) → isIn c w ≡ false → precedes w d c ≡ false
+unfolding precedes isIn
+none-precedes [] d c n = refl
+none-precedes (x ∷ w) d c n = by-test (eqb c x)
+    (λ e. absurd (false≢true (sym n ∙ rw e)))
+    (λ e.
+    let o : isIn c w ≡ false = rw e at n in
+    rw (o, and-false (eqb x d)) (none-precedes w d c o))
 
 is-in-more : (k c : ℕ) (w : List ℕ) → isIn k (w ++ (c ∷ [])) ≡ (isIn k w || eqb k c)
 unfolding isIn

@@ -1,9 +1,9 @@
 -- What the code that judges promises, in terms of the definitions that read and judge. Each promise is about bytes that read; what
 -- the code answers on others is free, and no public call hands it others.
-use Prim.Native.Nat.{ℕ, _+_}
+use Prim.Native.Nat.{ℕ, zero, suc, _+_, _%_}
 use mathlib.Core.Path.{_≡_}
 use mathlib.Core.List.{List, [], _∷_}
-use mathlib.Core.Bool.{Bool, true, cond, not, _||_}
+use mathlib.Core.Bool.{Bool, true, cond, not, _&&_, _||_}
 use mathlib.Core.Option.{Option, some, none}
 use lib.ListN.{getD}
 use Rattle.sets.specs.Sets.{member}
@@ -18,8 +18,6 @@ use Rattle.pages.specs.ItemReading.{attributes, item, items}
 use Rattle.pages.specs.RightPages.{names, word, wordItem}
 use Rattle.judging.specs.declared.Held.{Held}
 use Rattle.judging.specs.declared.Named.{Named}
-use Rattle.judging.specs.declared.Wrong.{Wrong}
-use Rattle.judging.specs.declared.Wrong.the-variants.{Nothing, At}
 use Rattle.judging.specs.declared.Judged.{Judged}
 use Rattle.judging.specs.declared.Listed.{Listed}
 use Rattle.judging.specs.Judgement.{Atoms, truthOf, allTrue, precedes, holdsValue, rightUnder, firstWrong, firstWrongItem}
@@ -30,8 +28,8 @@ abbrev pub tableAtoms : ℕ → List ℕ → ℕ → List ℕ → Atoms
 tableAtoms named strings contents before = record {
   attr = λ a. member named a;
   content = λ c. member contents c;
-  order = λ c d. not (member (getD before c 0) d);
-  value = λ a m. not (member named a) || member m (getD strings a 0);
+  order = λ c d. not (member contents c && member (getD before c 0) d);
+  value = λ a m. not (member named a) || member m (getD strings (a % 32) 0);
 }
 
 -- The value and the end of the formula that stands at an offset.
@@ -49,7 +47,7 @@ AllHold A v at b = (f end : ℕ) (ψs : List Formula) → clauses f v at ≡ who
 -- The tables of attributes.
 pub record Naming (δ : List Attribute) (named : ℕ) (strings : List ℕ) : Type 0 where
   pub has : (a : ℕ) → member named a ≡ isIn a (names δ)
-  pub holds : (a m : ℕ) → isIn a (names δ) ≡ true → member m (getD strings a 0) ≡ holdsValue δ a m
+  pub holds : (a m : ℕ) → isIn a (names δ) ≡ true → member m (getD strings (a % 32) 0) ≡ holdsValue δ a m
 
 -- The tables of a word of contents.
 pub record Containing (w : List ℕ) (contents : ℕ) (before : List ℕ) : Type 0 where
@@ -71,9 +69,10 @@ abbrev pub Tabled : List ℕ → Vocabulary → List ℕ → List ℕ → List �
 Tabled v D allowed held from = (e : ℕ) (R : Rule) → ruleOf (D .rules) e ≡ some R
     → RuleTables v R (getD allowed e 0) (getD held e 0) (getD from e 0)
 
-abbrev pub wrongOf : Wrong → Option ℕ
-wrongOf Nothing = none
-wrongOf (At at) = some at
+-- The first wrong element as the code has it: its offset and 1, or 0 if none is wrong.
+abbrev pub wrongOf : ℕ → Option ℕ
+wrongOf zero = none
+wrongOf (suc at) = some at
 
 -- What content an item is, its end, and its first wrong element.
 pub record ItemJudged (D : Vocabulary) (i : Item) (end : ℕ) (r : Judged) : Type 0 where

@@ -1,8 +1,8 @@
 // The judge of one page under a vocabulary.
 ghost use mathlib.Core.Path.{_≡_};
-ghost use mathlib.Core.Bool.{not, _||_};
+ghost use mathlib.Core.Bool.{not, _&&_, _||_};
 ghost use mathlib.Core.List.{List, [], _∷_, _++_};
-ghost use Prim.Native.Nat.{ℕ, _≤_, _<_};
+ghost use Prim.Native.Nat.{ℕ, _%_, _≤_, _<_};
 ghost use lib.ListN.{length, getD};
 ghost use Rattle.sets.specs.Sets.{member};
 ghost use Rattle.vocabularies.specs.Vocabulary.{Vocabulary};
@@ -22,35 +22,19 @@ pub struct Named {
     pub next: Position,
 }
 
-// Where the first wrong element stands, if there is one.
-pub enum Wrong {
-    Nothing,
-    At(usize),
-}
-
-// An item that was judged: what content it is, the position after it, and the first wrong element in it.
+// An item that was judged: what content it is, the position after it, and the first wrong element in it, as its offset and 1, or 0 if
+// none is wrong.
 pub struct Judged {
     pub content: u8,
     pub next: Position,
-    pub wrong: Wrong,
+    pub wrong: usize,
 }
 
-// A list of items that was judged: its contents, the position after it, and the first wrong element in it.
+// A list of items that was judged: its contents, the position after it, and the first wrong element in it, as before.
 pub struct Listed {
     pub inside: u64,
     pub next: Position,
-    pub wrong: Wrong,
-}
-
-// The word at a place; 0 past the end.
-fn word_at(words: &[u64], i: u8) -> u64
-    ensures { λ r. ⌜ r ≡ getD (now (words .entry)) i 0 ⌝ }
-{
-    let k = i as usize;
-    if k < words.len() {
-        return words[k];
-    }
-    0
+    pub wrong: usize,
 }
 
 // No number above 63 is a member.
@@ -64,20 +48,25 @@ fn is_member(set: u64, i: u8) -> bool
 }
 
 // No d stands before a c.
-fn is_ordered(preceding: &[u64], c: u8, d: u8) -> bool
-    ensures { λ r. ⌜ r ≡ not (member (getD (now (preceding .entry)) c 0) d) ⌝ }
+fn is_ordered(inside: u64, preceding: &[u64; 64], c: u8, d: u8) -> bool
+    ensures { λ r. ⌜ r ≡ not (member inside c && member (getD (now (preceding .entry)) c 0) d) ⌝ }
 {
-    !is_member(word_at(preceding, c), d)
+    if !is_member(inside, c) {
+        return true;
+    }
+    let k = c as usize;
+    !is_member(preceding[k], d)
 }
 
 // Attribute a is absent, or has a string of the set m.
-fn is_valued(names: u64, strings: &[u8], a: u8, m: u64) -> bool
-    ensures { λ r. ⌜ r ≡ (not (member names a) || member m (getD (now (strings .entry)) a 0)) ⌝ }
+fn is_valued(names: u64, strings: &[u8; 32], a: u8, m: u64) -> bool
+    ensures { λ r. ⌜ r ≡ (not (member names a) || member m (getD (now (strings .entry)) (a % 32) 0)) ⌝ }
 {
     if !is_member(names, a) {
         return true;
     }
-    is_member(m, commands::byte_at(strings, a as usize))
+    let k = (a % 32) as usize;
+    is_member(m, strings[k])
 }
 
 // The formula of one command here, for an element with these tables.
@@ -85,9 +74,9 @@ fn atom(
     v: &[u8],
     here: Position,
     names: u64,
-    strings: &[u8],
+    strings: &[u8; 32],
     inside: u64,
-    preceding: &[u64],
+    preceding: &[u64; 64],
 ) -> Held
     requires { ⌜ NoConnective (now v) (here .at) ⌝ }
     ensures forward { λ r. ⌜ here .at ≤ r .next .at ⌝ }
@@ -115,6 +104,7 @@ fn atom(
         },
         0x16 => Held {
             value: is_ordered(
+                inside,
                 preceding,
                 commands::byte_at(v, at + 1),
                 commands::byte_at(v, at + 2),
@@ -142,9 +132,9 @@ fn holds(
     v: &[u8],
     here: Position,
     names: u64,
-    strings: &[u8],
+    strings: &[u8; 32],
     inside: u64,
-    preceding: &[u64],
+    preceding: &[u64; 64],
 ) -> Held
     ensures forward { λ r. ⌜ here .at ≤ r .next .at ⌝ }
     ensures truth { λ r. ⌜ Holds (tableAtoms names (now (strings .entry)) inside (now (preceding .entry))) (now (v .entry)) (here .at) r ⌝ }
@@ -195,9 +185,9 @@ fn all_hold(
     v: &[u8],
     from: usize,
     names: u64,
-    strings: &[u8],
+    strings: &[u8; 32],
     inside: u64,
-    preceding: &[u64],
+    preceding: &[u64; 64],
 ) -> bool
     ensures { λ r. ⌜ AllHold (tableAtoms names (now (strings .entry)) inside (now (preceding .entry))) (now (v .entry)) from r ⌝ }
 {
@@ -230,9 +220,9 @@ fn is_right(
     contents: u64,
     clauses: usize,
     names: u64,
-    strings: &[u8],
+    strings: &[u8; 32],
     inside: u64,
-    preceding: &[u64],
+    preceding: &[u64; 64],
 ) -> bool
     ensures { λ r. ⌜ IsRight (now (v .entry)) attributes contents clauses names (now (strings .entry)) inside (now (preceding .entry)) r ⌝ }
 {
@@ -246,8 +236,8 @@ fn is_right(
 }
 
 // The attributes straight after `23 e`: their names, and in `strings` the string of each, 64 for one outside 0 to 63.
-fn read_attributes(p: &[u8], here: Position, strings: &mut [u8]) -> Named
-    requires { ⌜ 32 ≤ length (now strings) ⌝ }
+fn read_attributes(p: &[u8], here: Position, strings: &mut [u8; 32]) -> Named
+    requires { ⌜ length (now strings) ≡ 32 ⌝ }
     ensures forward { λ r. ⌜ here .at ≤ r .next .at ⌝ }
     ensures named { λ r. ⌜ Names (now (p .entry)) (here .at) r (now (strings .exit)) ⌝ }
 {
@@ -278,19 +268,21 @@ fn read_attributes(p: &[u8], here: Position, strings: &mut [u8]) -> Named
     }
 }
 
-fn first_of(a: Wrong, b: Wrong) -> Wrong
+// The first wrong element of two parts.
+fn first_of(a: usize, b: usize) -> usize
     ensures { λ r. ⌜ wrongOf r ≡ orElse (wrongOf a) (wrongOf b) ⌝ }
 {
-    match a {
-        Wrong::Nothing => b,
-        Wrong::At(at) => Wrong::At(at),
+    if a == 0 {
+        return b;
     }
+    a
 }
 
 // One content more, after those inside.
-fn add_content(preceding: &mut [u64], inside: u64, c: u8) -> u64
-    requires { ⌜ (64 ≤ length (now preceding)) × (c < 64) ⌝ }
-    ensures { λ r. ⌜ ((w : List ℕ) → Containing w inside (now (preceding .entry)) → Containing (w ++ (c ∷ [])) r (now (preceding .exit))) ⌝ }
+fn add_content(preceding: &mut [u64; 64], inside: u64, c: u8) -> u64
+    requires { ⌜ (length (now preceding) ≡ 64) × (c < 64) ⌝ }
+    ensures long { λ _. ⌜ length (now (preceding .exit)) ≡ 64 ⌝ }
+    ensures more { λ r. ⌜ ((w : List ℕ) → Containing w inside (now (preceding .entry)) → Containing (w ++ (c ∷ [])) r (now (preceding .exit))) ⌝ }
 {
     let k = c as usize;
     preceding[k] = sets::union(preceding[k], inside);
@@ -315,14 +307,14 @@ pub fn judge_item(
         return Judged {
             content: 0,
             next: here,
-            wrong: Wrong::Nothing,
+            wrong: 0,
         };
     }
     if p[at] != 0x23 {
         return Judged {
             content: 0,
             next: Position { at: at + 1 },
-            wrong: Wrong::Nothing,
+            wrong: 0,
         };
     }
     let e = commands::byte_at(p, at + 1) % 64;
@@ -343,17 +335,16 @@ pub fn judge_item(
         list.inside,
         &preceding,
     ) {
-        let wrong = list.wrong;
         return Judged {
             content: e,
             next,
-            wrong,
+            wrong: list.wrong,
         };
     }
     Judged {
         content: e,
         next,
-        wrong: Wrong::At(at),
+        wrong: at + 1,
     }
 }
 
@@ -365,15 +356,15 @@ fn judge_items(
     clauses: &[usize; 64],
     p: &[u8],
     here: Position,
-    preceding: &mut [u64],
+    preceding: &mut [u64; 64],
 ) -> Listed
-    requires { ⌜ 64 ≤ length (now preceding) ⌝ }
+    requires { ⌜ length (now preceding) ≡ 64 ⌝ }
     ensures forward { λ r. ⌜ here .at ≤ r .next .at ⌝ }
     ensures judged { λ r. ⌜ ((D : Vocabulary) → Tabled (now (v .entry)) D (now (attributes .entry)) (now (contents .entry)) (now (clauses .entry)) → Containing [] 0 (now (preceding .entry)) → JudgesItems D (now (p .entry)) (here .at) r (now (preceding .exit))) ⌝ }
 {
     let mut at = here.at;
     let mut inside: u64 = 0;
-    let mut wrong = Wrong::Nothing;
+    let mut wrong: usize = 0;
     while at < p.len() {
         if p[at] == 0x26 {
             return Listed {
@@ -384,8 +375,7 @@ fn judge_items(
         }
         let item = judge_item(v, attributes, contents, clauses, p, Position { at });
         inside = add_content(preceding, inside, item.content);
-        let found = item.wrong;
-        wrong = first_of(wrong, found);
+        wrong = first_of(wrong, item.wrong);
         let next = item.next;
         at = next.at;
     }

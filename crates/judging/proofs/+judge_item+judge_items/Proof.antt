@@ -1,15 +1,12 @@
 -- An element's contents are judged, then the element by its rule; a list's items one after the other. The measure is twice the unread
 -- bytes, and one more for a list, which begins with an item at the same offset.
-use Prim.Native.Nat.{ℕ, _<_, _+_, _-_, _%_}
-use mathlib.Core.Path.{refl, sym, _∙_}
+use Prim.Native.Nat.{ℕ, _<_, _+_, _-_}
 use mathlib.Core.List.{[], _∷_, _++_}
-use mathlib.Core.Bool.{true, false}
 use native.Mathlib.Omega.{arith}
-use lib.ListN.{length, length-set}
+use lib.ListN.{length}
 use borrow.Author.Needs.{needs}
-use Rattle.judging.specs.declared.Wrong.the-variants.{Nothing, At}
 use Rattle.judging.proofs.WordLaws.{no-content}
-use Rattle.judging.proofs.ItemLaws.{past-item, text-item, element-item, adds-all, list-ends, one-more, past-list, Going, Judging}
+use Rattle.judging.proofs.ItemLaws.{past-item, text-item, found-at, element-item, adds-all, list-ends, one-more, past-list, Going}
 use borrow.Fn.Kinds.{In}
 use borrow.Fn.PlainCycle.{Measures, is, falls, and}
 use Rattle.judging.proofs.judge_item.Reads as judge-item
@@ -60,8 +57,8 @@ judge-item-returns t c = (λ h. omega arith, (omega arith, λ D T. past-item D _
 judge-item-shared-slice-read-if2 : (t : ℕ) → judge-item-lts.Need-shared-slice-read-if2 (item-told t) (judge-item-at t) judge-item.Post
 judge-item-shared-slice-read-if2 t c = search needs
 
-judge-item-add-t22 : (t : ℕ) → judge-item-lts.Need-add-t22 (item-told t) (judge-item-at t) judge-item.Post
-judge-item-add-t22 t c = search needs
+judge-item-add-t20 : (t : ℕ) → judge-item-lts.Need-add-t20 (item-told t) (judge-item-at t) judge-item.Post
+judge-item-add-t20 t c = search needs
 
 judge-item-returns-2 : (t : ℕ) → judge-item-lts.Need-returns-2 (item-told t) (judge-item-at t) judge-item.Post
 judge-item-returns-2 t c = (λ h. omega arith, (omega arith, λ D T. text-item D _ _ (c .if2 .taken)))
@@ -78,24 +75,8 @@ judge-item-cast-k t c = search needs
 judge-item-add-is-right : (t : ℕ) → judge-item-lts.Need-add-is-right (item-told t) (judge-item-at t) judge-item.Post
 judge-item-add-is-right t c = search needs
 
-judge-item-slice-aggregate-read-attributes :
-    (t : ℕ) → judge-item-lts.Need-slice-aggregate-read-attributes (
-      byte-at-reads.Asked,
-      byte-at-reads.Learnt,
-      read-attributes-reads.Asked,
-      read-attributes-reads.Learnt,
-      judge-items-below t,
-      judge-items.Post,
-      is-right-reads.Asked,
-      is-right-reads.Learnt,
-    ) (judge-item-at t) judge-item.Post
-judge-item-slice-aggregate-read-attributes t c = search needs
-
 judge-item-read-attributes-requires : (t : ℕ) → judge-item-lts.Need-read-attributes-requires (item-told t) (judge-item-at t) judge-item.Post
 judge-item-read-attributes-requires t c κs = search needs
-
-judge-item-slice-aggregate-judge-items : (t : ℕ) → judge-item-lts.Need-slice-aggregate-judge-items (item-told t) (judge-item-at t) judge-item.Post
-judge-item-slice-aggregate-judge-items t c = search needs
 
 judge-item-judge-items-requires : (t : ℕ) → judge-item-lts.Need-judge-items-requires (item-told t) (judge-item-at t) judge-item.Post
 judge-item-judge-items-requires t c κs = (omega arith, search needs)
@@ -118,40 +99,37 @@ judge-item-mul-is-right-3 t c = search needs
 judge-item-element-copy-out-is-right-3 : (t : ℕ) → judge-item-lts.Need-element-copy-out-is-right-3 (item-told t) (judge-item-at t) judge-item.Post
 judge-item-element-copy-out-is-right-3 t c = search needs
 
-judge-item-slice-aggregate-is-right : (t : ℕ) → judge-item-lts.Need-slice-aggregate-is-right (item-told t) (judge-item-at t) judge-item.Post
-judge-item-slice-aggregate-is-right t c = search needs
-
-judge-item-slice-aggregate-is-right-2 : (t : ℕ) → judge-item-lts.Need-slice-aggregate-is-right-2 (item-told t) (judge-item-at t) judge-item.Post
-judge-item-slice-aggregate-is-right-2 t c = search needs
-
 judge-item-is-right-requires : (t : ℕ) → judge-item-lts.Need-is-right-requires (item-told t) (judge-item-at t) judge-item.Post
 judge-item-is-right-requires t c κs = tt
 
 judge-item-returns-3 : (t : ℕ) → judge-item-lts.Need-returns-3 (item-told t) (judge-item-at t) judge-item.Post
 judge-item-returns-3 t c =
-    let a = c .before .before .before .before .before .before .before .before .before .before .before .before .before .read-attributes in
-    let l = c .before .before .before .before .before .before .before .before .before .judge-items in
-    let g = c .before .before .before .before .before .before .before .before .before .before .before .before .before .before .before .before .before .before .before .before .before .args in (
+    let a = c .before .before .before .before .before .before .before .before .before .before .before .read-attributes in
+    let l = c .before .before .before .before .before .before .before .before .judge-items in
+    let g = c .before .before .before .before .before .before .before .before .before .before .before .before .before .before .before .before .before .before .before .args in (
       λ _. omega (arith, l .ensures .0, a .ensures .0),
       (
         omega arith,
         λ D T.
-            element-item D _ _ (g .attributes .now) (g .contents .now) (g .clauses .now) T _ _ (c .before .before .before .before .before .before .before .before .before .before .before .before .before .before .before .byte-at .ensures) (c .before .before .before .before .before .before .before .before .before .before .before .before .before .before .before .before .if2 .left) (a .result) _ (a .ensures .1) (l .result) _
+            element-item D _ _ (g .attributes .now) (g .contents .now) (g .clauses .now) T _ _ (c .before .before .before .before .before .before .before .before .before .before .before .before .before .byte-at .ensures) (c .before .before .before .before .before .before .before .before .before .before .before .before .before .before .if2 .left) (a .result) _ (a .ensures .1) (l .result) _
             (l .ensures .1 D T (no-content 64)) (c .before .is-right .result) (c .before .is-right .ensures) _ (rw (c .if3 .taken)),
       ),
     )
 
+judge-item-add-t16 : (t : ℕ) → judge-item-lts.Need-add-t16 (item-told t) (judge-item-at t) judge-item.Post
+judge-item-add-t16 t c = search needs
+
 judge-item-returns-4 : (t : ℕ) → judge-item-lts.Need-returns-4 (item-told t) (judge-item-at t) judge-item.Post
 judge-item-returns-4 t c =
-    let a = c .before .before .before .before .before .before .before .before .before .before .before .before .before .read-attributes in
-    let l = c .before .before .before .before .before .before .before .before .before .judge-items in
-    let g = c .before .before .before .before .before .before .before .before .before .before .before .before .before .before .before .before .before .before .before .before .before .args in (
+    let a = c .before .before .before .before .before .before .before .before .before .before .before .read-attributes in
+    let l = c .before .before .before .before .before .before .before .before .judge-items in
+    let g = c .before .before .before .before .before .before .before .before .before .before .before .before .before .before .before .before .before .before .before .args in (
       λ _. omega (arith, l .ensures .0, a .ensures .0),
       (
         omega arith,
         λ D T.
-            element-item D _ _ (g .attributes .now) (g .contents .now) (g .clauses .now) T _ _ (c .before .before .before .before .before .before .before .before .before .before .before .before .before .before .before .byte-at .ensures) (c .before .before .before .before .before .before .before .before .before .before .before .before .before .before .before .before .if2 .left) (a .result) _ (a .ensures .1) (l .result) _
-            (l .ensures .1 D T (no-content 64)) (c .before .is-right .result) (c .before .is-right .ensures) _ (rw (c .if3 .left)),
+            element-item D _ _ (g .attributes .now) (g .contents .now) (g .clauses .now) T _ _ (c .before .before .before .before .before .before .before .before .before .before .before .before .before .byte-at .ensures) (c .before .before .before .before .before .before .before .before .before .before .before .before .before .before .if2 .left) (a .result) _ (a .ensures .1) (l .result) _
+            (l .ensures .1 D T (no-content 64)) (c .before .is-right .result) (c .before .is-right .ensures) _ (rw (c .if3 .left) (found-at _)),
       ),
     )
 
@@ -166,19 +144,15 @@ judge-items-μ-loop v attributes contents clauses p preceding₀ at₀ inside₀
 judge-items-loop-holds : (t : ℕ) → judge-items-lts.Need-loop-holds (items-told t) (judge-items-at t) judge-items.Post judge-items-Inv-loop judge-items-μ-loop
 judge-items-loop-holds t c = record {
   forward = omega arith;
-  room = c .before .before .before .pre .1;
-  long = refl;
+  room = c .before .before .pre .1;
   judging = λ D T C. record { word = []; contains = C; goes = λ r last A. A };
 }
 
 judge-items-shared-slice-read-if1 : (t : ℕ) → judge-items-lts.Need-shared-slice-read-if1 (items-told t) (judge-items-at t) judge-items.Post judge-items-Inv-loop judge-items-μ-loop
 judge-items-shared-slice-read-if1 t c = omega arith
 
-judge-items-add-t18 : (t : ℕ) → judge-items-lts.Need-add-t18 (items-told t) (judge-items-at t) judge-items.Post judge-items-Inv-loop judge-items-μ-loop
-judge-items-add-t18 t c = omega arith
-
-judge-items-same-length : (t : ℕ) → judge-items-lts.Need-same-length (items-told t) (judge-items-at t) judge-items.Post judge-items-Inv-loop judge-items-μ-loop
-judge-items-same-length t c = c .before .before .before .loop .inv .long
+judge-items-add-t17 : (t : ℕ) → judge-items-lts.Need-add-t17 (items-told t) (judge-items-at t) judge-items.Post judge-items-Inv-loop judge-items-μ-loop
+judge-items-add-t17 t c = omega arith
 
 judge-items-returns : (t : ℕ) → judge-items-lts.Need-returns (items-told t) (judge-items-at t) judge-items.Post judge-items-Inv-loop judge-items-μ-loop
 judge-items-returns t c =
@@ -195,27 +169,23 @@ judge-items-first-of-requires : (t : ℕ) → judge-items-lts.Need-first-of-requ
 judge-items-first-of-requires t c κs = tt
 
 judge-items-loop-less : (t : ℕ) → judge-items-lts.Need-loop-less (items-told t) (judge-items-at t) judge-items.Post judge-items-Inv-loop judge-items-μ-loop
-judge-items-loop-less t c = omega (arith, c .before .before .before .before .before .before .judge-item .ensures .0 (c .before .before .before .before .before .before .before .before .before .loop-test .taken))
+judge-items-loop-less t c = omega (arith, c .before .before .before .before .judge-item .ensures .0 (c .before .before .before .before .before .before .before .loop-test .taken))
 
 judge-items-loop-again : (t : ℕ) → judge-items-lts.Need-loop-again (items-told t) (judge-items-at t) judge-items.Post judge-items-Inv-loop judge-items-μ-loop
 judge-items-loop-again t c =
-    let l = c .before .before .before .before .before .before .before .before .before .before .loop in
-    let i = c .before .before .before .before .before .before .judge-item in
+    let l = c .before .before .before .before .before .before .before .before .loop in
+    let i = c .before .before .before .before .judge-item in
     record {
-      forward = omega (arith, i .ensures .0 (c .before .before .before .before .before .before .before .before .before .loop-test .taken));
-      room = rw (c .before .before .before .before .add-content .kept .0) (l .inv .room);
-      long = c .before .before .before .before .add-content .kept .0 ∙ l .inv .long;
+      forward = omega (arith, i .ensures .0 (c .before .before .before .before .before .before .before .loop-test .taken));
+      room = c .before .before .add-content .ensures .0;
       judging = λ D T C.
           let J = l .inv .judging D T C in
           record {
             word = J .word ++ (i .result .content ∷ []);
-            contains = c .before .before .before .before .add-content .ensures (J .word) (J .contains);
-            goes = λ r last A. J .goes r last (one-more D _ (J .word) _ _ r last (i .result) (c .before .before .before .before .before .before .before .if1 .left) (i .ensures .1 .1 D T) (rw (c .before .first-of .ensures) at A));
+            contains = c .before .before .add-content .ensures .1 (J .word) (J .contains);
+            goes = λ r last A. J .goes r last (one-more D _ (J .word) _ _ r last (i .result) (c .before .before .before .before .before .if1 .left) (i .ensures .1 .1 D T) (rw (c .before .first-of .ensures) at A));
           };
     }
-
-judge-items-same-length-2 : (t : ℕ) → judge-items-lts.Need-same-length-2 (items-told t) (judge-items-at t) judge-items.Post judge-items-Inv-loop judge-items-μ-loop
-judge-items-same-length-2 t c = c .before .loop .inv .long
 
 judge-items-returns-2 : (t : ℕ) → judge-items-lts.Need-returns-2 (items-told t) (judge-items-at t) judge-items.Post judge-items-Inv-loop judge-items-μ-loop
 judge-items-returns-2 t c =
@@ -228,15 +198,13 @@ pub +judge-item+judge-items-spec : {M : Type 1} → statement M
     judge-item.Post
     (judge-item-returns t)
     (judge-item-shared-slice-read-if2 t)
-    (judge-item-add-t22 t)
+    (judge-item-add-t20 t)
     (judge-item-returns-2 t)
     (judge-item-add-byte-at t)
     (judge-item-byte-at-requires t)
     (judge-item-cast-k t)
     (judge-item-add-is-right t)
-    (judge-item-slice-aggregate-read-attributes t)
     (judge-item-read-attributes-requires t)
-    (judge-item-slice-aggregate-judge-items t)
     (judge-item-judge-items-requires t)
     (judge-item-mul-is-right t)
     (judge-item-element-copy-out-is-right t)
@@ -244,10 +212,9 @@ pub +judge-item+judge-items-spec : {M : Type 1} → statement M
     (judge-item-element-copy-out-is-right-2 t)
     (judge-item-mul-is-right-3 t)
     (judge-item-element-copy-out-is-right-3 t)
-    (judge-item-slice-aggregate-is-right t)
-    (judge-item-slice-aggregate-is-right-2 t)
     (judge-item-is-right-requires t)
     (judge-item-returns-3 t)
+    (judge-item-add-t16 t)
     (judge-item-returns-4 t))
     λ t. judge-items-lts.spec (items-told t)
     (judge-items-at t)
@@ -256,13 +223,11 @@ pub +judge-item+judge-items-spec : {M : Type 1} → statement M
     judge-items-μ-loop
     (judge-items-loop-holds t)
     (judge-items-shared-slice-read-if1 t)
-    (judge-items-add-t18 t)
-    (judge-items-same-length t)
+    (judge-items-add-t17 t)
     (judge-items-returns t)
     (judge-items-judge-item-requires t)
     (judge-items-add-content-requires t)
     (judge-items-first-of-requires t)
     (judge-items-loop-less t)
     (judge-items-loop-again t)
-    (judge-items-same-length-2 t)
     (judge-items-returns-2 t)

@@ -92,7 +92,7 @@ returns-6 c = (omega arith, value-holds _ _ _ _ (c .before .before .before .matc
 returns-7 : tie.Need-returns-7
 returns-7 c =
     let n = c .match .rest in
-    let m = c .before .before .before .before .before .before .pre in
+    let m = c .before .before .before .before .pre in
     (omega arith, none-holds _ _ _ _ (m .0) (m .1) (m .2) (n .0 .0 .0 .0 .1) (n .0 .0 .0 .1) (n .0 .0 .1) (n .0 .1) (n .1))
 
 pub atom-spec : {M : Type 1} → statement M

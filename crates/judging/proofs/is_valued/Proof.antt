@@ -9,15 +9,25 @@ is-member-requires c κs = search needs
 returns : tie.Need-returns
 returns c = rw (← c .before .is-member .ensures, c .if1 .taken)
 
-byte-at-requires : tie.Need-byte-at-requires
-byte-at-requires c κs = search needs
+cast-k : tie.Need-cast-k
+cast-k c = search needs
+
+element-copy-out-is-member : tie.Need-element-copy-out-is-member
+element-copy-out-is-member c = search needs
 
 is-member-requires-2 : tie.Need-is-member-requires-2
 is-member-requires-2 c κs = search needs
 
 returns-2 : tie.Need-returns-2
-returns-2 c = rw (← c .before .before .before .is-member .ensures, c .before .before .if1 .left) (rw (c .is-member2 .ensures, c .before .byte-at .ensures))
+returns-2 c = rw (← c .before .before .before .is-member .ensures, c .before .before .if1 .left) (rw (c .is-member2 .ensures))
 
 pub is-valued-spec : {M : Type 1} → statement M
 is-valued-spec =
-    tie.close (tie.spec is-member-requires returns byte-at-requires is-member-requires-2 returns-2)
+    tie.close
+    (tie.spec
+    is-member-requires
+    returns
+    cast-k
+    element-copy-out-is-member
+    is-member-requires-2
+    returns-2)

@@ -1,6 +1,5 @@
 -- The attributes from here on add to these tables what all of them add to empty ones.
-use Prim.Native.Nat.{_-_, _+_, _%_}
-use mathlib.Core.Path.{refl, sym, _∙_}
+use Prim.Native.Nat.{_-_, _+_}
 use mathlib.Core.List.{[], _∷_}
 use native.Mathlib.Omega.{arith}
 use lib.ListN.{length, length-set}
@@ -17,7 +16,7 @@ abbrev μ-loop : tie.MeasureT-loop
 μ-loop p strings₀ at₀ names₀ strings at names = length p - at
 
 loop-holds : tie.Need-loop-holds Inv-loop μ-loop
-loop-holds c = record { forward = omega arith; room = c .before .before .pre; long = refl; earlier = []; goes = λ r last A. A }
+loop-holds c = record { forward = omega arith; room = c .before .pre; earlier = []; goes = λ r last A. A }
 
 add-byte-at : tie.Need-add-byte-at Inv-loop μ-loop
 add-byte-at c = search needs
@@ -40,8 +39,8 @@ add-byte-at-2 c = search needs
 byte-at-requires-2 : tie.Need-byte-at-requires-2 Inv-loop μ-loop
 byte-at-requires-2 c κs = tt
 
-slice-write-strings : tie.Need-slice-write-strings Inv-loop μ-loop
-slice-write-strings c = search needs
+element-write-strings : tie.Need-element-write-strings Inv-loop μ-loop
+element-write-strings c = search needs
 
 add-at : tie.Need-add-at Inv-loop μ-loop
 add-at c = search needs
@@ -55,16 +54,12 @@ loop-again c =
     record {
       forward = omega arith;
       room = simp length-set (l .inv .room);
-      long = simp length-set (l .inv .long);
-      earlier = byte (c .before .before .before .before .before .before .before .before .before .args .p .now) (l .at + 1) ∷ l .inv .earlier;
+      earlier = byte (c .before .before .before .before .before .before .before .before .args .p .now) (l .at + 1) ∷ l .inv .earlier;
       goes = λ r last A. l .inv .goes r last (string-added _ _ _ _ _ _ _ (c .before .before .before .before .byte-at .ensures) (l .inv .room) (c .before .with .ensures) r last _ (c .byte-at2 .ensures) (c .before .before .if1 .taken) A);
     }
 
 shared-slice-read-if2 : tie.Need-shared-slice-read-if2 Inv-loop μ-loop
 shared-slice-read-if2 c = search needs
-
-same-length : tie.Need-same-length Inv-loop μ-loop
-same-length c = c .before .before .before .before .before .before .loop .inv .long
 
 returns : tie.Need-returns Inv-loop μ-loop
 returns c =
@@ -74,8 +69,8 @@ returns c =
 with-requires-2 : tie.Need-with-requires-2 Inv-loop μ-loop
 with-requires-2 c κs = omega arith
 
-slice-write-strings-2 : tie.Need-slice-write-strings-2 Inv-loop μ-loop
-slice-write-strings-2 c = search needs
+element-write-strings-2 : tie.Need-element-write-strings-2 Inv-loop μ-loop
+element-write-strings-2 c = search needs
 
 add-at-2 : tie.Need-add-at-2 Inv-loop μ-loop
 add-at-2 c = search needs
@@ -89,13 +84,9 @@ loop-again-2 c =
     record {
       forward = omega arith;
       room = simp length-set (l .inv .room);
-      long = simp length-set (l .inv .long);
-      earlier = byte (c .before .before .before .before .before .before .before .before .before .before .args .p .now) (l .at + 1) ∷ l .inv .earlier;
+      earlier = byte (c .before .before .before .before .before .before .before .before .before .args .p .now) (l .at + 1) ∷ l .inv .earlier;
       goes = λ r last A. l .inv .goes r last (other-added _ _ _ _ _ _ _ (c .before .before .before .before .before .byte-at .ensures) (l .inv .room) (c .with2 .ensures) r last (c .before .if2 .left) A);
     }
-
-same-length-2 : tie.Need-same-length-2 Inv-loop μ-loop
-same-length-2 c = c .before .loop .inv .long
 
 returns-2 : tie.Need-returns-2 Inv-loop μ-loop
 returns-2 c =
@@ -116,17 +107,15 @@ read-attributes-spec =
     with-requires
     add-byte-at-2
     byte-at-requires-2
-    slice-write-strings
+    element-write-strings
     add-at
     loop-less
     loop-again
     shared-slice-read-if2
-    same-length
     returns
     with-requires-2
-    slice-write-strings-2
+    element-write-strings-2
     add-at-2
     loop-less-2
     loop-again-2
-    same-length-2
     returns-2)
