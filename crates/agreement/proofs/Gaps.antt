@@ -12,15 +12,12 @@ use Rattle.vocabularies.specs.Vocabulary.{Vocabulary, declared, isIn}
 use Rattle.pages.specs.declared.Kind.the-variants.{Page}
 use Rattle.pages.specs.Items.{string, open-gap, Attribute, Item, Items, gapIn, gapInItem, isOpenGap, openIn, attributeGapIn, attributeGapInItem}
 use Rattle.pages.specs.ItemReading.{nesting, valueAt, attributes, endOf, leafAt, items, item, pageSlice}
+use Rattle.pages.specs.RightPages.{Gapless}
 use Rattle.agreement.proofs.Readings.{Gives, gives, refuses, runs-out, given, gives-command, gives-when, gives-then, gives-alone}
 
 -- No gap at any depth, and no attribute gap.
-abbrev pub Gapless : Items → Type 0
-Gapless φ = (g : ℕ) → gapIn φ g ≡ false
-
-pub record Closed (φ : Items) : Type 0 where
-  pub gaps : Gapless φ
-  pub attribute-gaps : (h : ℕ) → attributeGapIn φ h ≡ false
+abbrev pub NoGap : Items → Type 0
+NoGap φ = (g : ℕ) → gapIn φ g ≡ false
 
 record ClosedItem (i : Item) : Type 0 where
   gaps : (g : ℕ) → gapInItem i g ≡ false
@@ -70,7 +67,7 @@ module _ (ruled : ℕ → Bool) (s : List ℕ) where
   mutual
     unfolding items gapIn attributeGapIn
 
-    pub items-close : (f depth at : ℕ) → Gives (Unit {0}) (λ φ end. Closed φ) (items f Page ruled s depth at)
+    pub items-close : (f depth at : ℕ) → Gives (Unit {0}) (λ φ end. Gapless φ) (items f Page ruled s depth at)
     items-close zero depth at = runs-out tt
     items-close (suc f) depth at = gives-when (eqb (byte s at) (endOf depth))
         (λ _ _. gives (record { gaps = λ g. refl; attribute-gaps = λ h. refl }))
@@ -91,6 +88,6 @@ module _ (ruled : ℕ → Bool) (s : List ℕ) where
         (λ _ _. refuses))
         (λ _ e. gives (leaf-closed s at code (text-code code (t .may) e)))
 
-pub page-closed : (D : Vocabulary) (p : List ℕ) (φ : Items) (end : ℕ) → pageSlice D p ≡ whole φ end → Closed φ
+pub page-closed : (D : Vocabulary) (p : List ℕ) (φ : Items) (end : ℕ) → pageSlice D p ≡ whole φ end → Gapless φ
 unfolding pageSlice
 page-closed D p φ end = given (gives-alone p (items-close (declared (D .rules)) p (enough p) 0 0))

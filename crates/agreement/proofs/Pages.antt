@@ -15,7 +15,7 @@ use Rattle.pages.specs.RightPages.{ElementRight, Accepts, AcceptsItem, SomeElem
 use Rattle.judging.specs.Judgement.{orElse, firstWrong, firstWrongItem}
 use Rattle.agreement.proofs.Deciding.{Decided, holds, fails}
 use Rattle.agreement.proofs.Elements.{decided-right}
-use Rattle.agreement.proofs.Gaps.{Gapless}
+use Rattle.agreement.proofs.Gaps.{NoGap}
 use Rattle.agreement.proofs.Marks.{Rises, RisesIn, Stands, StandsIn, within, within-item}
 
 module _ (D : Vocabulary) where
@@ -25,7 +25,7 @@ module _ (D : Vocabulary) where
 
   -- What was found: no wrong element, and then items without gaps are accepted; or an element that is wrong.
   pub data Found (φ : Items) : Option ℕ → Type 0 where
-    no-wrong : (Gapless φ → Accepts D φ) → Found φ none
+    no-wrong : (NoGap φ → Accepts D φ) → Found φ none
     wrong : {mark : ℕ} → WrongAt D mark φ → Found φ (some mark)
 
   data FoundIn (i : Item) : Option ℕ → Type 0 where
@@ -86,7 +86,7 @@ module _ (D : Vocabulary) where
     accepts-item-right (element e m δ φ) mark a (inl w) = w .1 (a .0)
     accepts-item-right (element e m δ φ) mark a (inr w) = accepts-right φ mark (a .1) w
 
-  none-found : {φ : Items} → Found D φ none → Gapless φ → Accepts D φ
+  none-found : {φ : Items} → Found D φ none → NoGap φ → Accepts D φ
   none-found (no-wrong k) = k
 
   some-found : {φ : Items} {mark : ℕ} → Found D φ (some mark) → WrongAt D mark φ
@@ -97,7 +97,7 @@ module _ (D : Vocabulary) where
   nothing-found φ (wrong w) a = absurd (accepts-right φ _ a w)
 
   -- No wrong element is found in a page without gaps exactly when section 6 accepts it.
-  pub accepts-iff : (φ : Items) → Gapless φ → (firstWrong D φ ≡ none) ↔ Accepts D φ
+  pub accepts-iff : (φ : Items) → NoGap φ → (firstWrong D φ ≡ none) ↔ Accepts D φ
   accepts-iff φ n = (λ e. none-found (rw e at (found φ)) n, nothing-found φ (found φ))
 
   -- The element that is found is wrong.

@@ -32,7 +32,9 @@ module _ {v p : List ℕ} where
   alone-verdict {D} {page} R a = go (firstWrong D page) refl
     where
       go : (o : Option ℕ) → firstWrong D page ≡ o → PageVerdict v p (wrongVerdict o)
-      go none e = accepted R a (accepts-iff D page (page-closed D p page (R .pageEnd) (R .page-reads) .gaps) .0 e)
+      go none e =
+          let closed = page-closed D p page (R .pageEnd) (R .page-reads) in
+          accepted R (record { alone = a; accepted = accepts-iff D page (closed .gaps) .0 e; gapless = closed })
       go (some m) e =
           wrong-element R a (first-wrong D page m e) (lowest D page 0 (R .pageEnd) (page-marks-rise D p page (R .pageEnd) (R .page-reads)) m e)
 
@@ -87,16 +89,15 @@ module _ {v p : List ℕ} where
   computes (unreadable-page e e′) = rw (e, e′)
   computes (not-root {D} {page} R n) = judged-of R ∙ rw (false-iff (decided-alone D page) .1 n)
   computes (wrong-element R a w l) = alone-of R a ∙ ap wrongVerdict (found-at R w l)
-  computes (accepted {D} {page} R a c) =
-      alone-of R a ∙ ap wrongVerdict (accepts-iff D page (page-closed D p page (R .pageEnd) (R .page-reads) .gaps) .1 c)
+  computes (accepted {D} {page} R r) = alone-of R (r .alone) ∙ ap wrongVerdict (accepts-iff D page (r .gapless .gaps) .1 (r .accepted))
 
   -- At most one verdict; `pageVerdict-is` gives one.
   pub unique : {a b : Verdict} → PageVerdict v p a → PageVerdict v p b → a ≡ b
   unique A B = sym (computes A) ∙ computes B
 
   accepted-right : PageVerdict v p Accepted → (D : Vocabulary) × (page : Items) × Readable v p D page × Right D page
-  accepted-right (accepted {D} {page} R a c) = (D, page, R, record { alone = a; accepted = c })
+  accepted-right (accepted {D} {page} R r) = (D, page, R, r)
 
 -- The page passes exactly when it and its vocabulary can be read and it is right.
 pub passes : (v p : List ℕ) → (pageVerdict v p ≡ Accepted) ↔ ((D : Vocabulary) × (page : Items) × Readable v p D page × Right D page)
-passes v p = (λ e. accepted-right (rw e at (pageVerdict-is v p)), λ t. computes (accepted (t .2) (t .3 .alone) (t .3 .accepted)))
+passes v p = (λ e. accepted-right (rw e at (pageVerdict-is v p)), λ t. computes (accepted (t .2) (t .3)))

@@ -1,5 +1,6 @@
--- The commands of document 01, "A job, command by command": which operands each has, the operands' ranges, where each may
--- stand, and what is read at an offset. A command's first byte is written as there, in hexadecimal.
+-- The commands of document 01, "A job, command by command": which operands each has, the operands' ranges, where it may stand, and
+-- what is read at an offset. A command's first byte is written as there, in hexadecimal. `04`, `26` and `27` have no operand and one
+-- place each; they are told where clauses and items are read.
 use Prim.Native.Nat.{ℕ, zero, suc, _+_, _*_}
 use mathlib.Core.List.{List, [], _∷_}
 use mathlib.Core.Bool.{Bool, true, false, cond, _&&_, _||_, not}
@@ -15,6 +16,10 @@ use Rattle.commands.specs.declared.Decoded.the-variants.{Moved, Refused}
 -- The named strings are 0 to 63; other strings exist without end, and are the numbers from 64 on.
 abbrev pub strings : ℕ
 strings = 64
+
+-- String 0 is the empty one.
+abbrev pub emptyString : ℕ
+emptyString = 0
 
 -- What an operand names. A set of strings is eight bytes, highest first; every other operand is one byte.
 pub data Operand : Type 0 where
@@ -41,7 +46,7 @@ abbrev pub _▸_ : ℕ → List Operand → Format
 _▸_ c os = record { code = c; operands = os }
 
 infixr 20 _▸_
--- The commands that have operands, part by part: vocabulary and formulas, templates and pages, program, proposal.
+-- The commands that have operands, part by part: vocabulary and formulas, templates and pages, program, proposal. Any other has none.
 abbrev pub formats : List Format
 formats =
     (0x01 ▸ element ∷ [])

@@ -32,11 +32,11 @@ module _ {A : Type 0} where
   abbrev pub onCommand : Context → List ℕ → ℕ → (ℕ → ℕ → Read A) → Read A
   onCommand x s at k = onDecoded (command x s at) k
 
-  -- A choice whose sides wait until the test is known.
+  -- A choice whose sides are not worked out before the test is: reading would not end otherwise.
   abbrev pub when : Bool → (Unit {0} → Read A) → (Unit {0} → Read A) → Read A
   when true yes′ no′ = yes′ tt
   when false yes′ no′ = no′ tt
 
--- Enough for any reading of these bytes: no two calls of a definition stand at one offset with the same work before them.
+-- Enough for any reading of these bytes: every step but the one from a list of items to its next item moves on by a byte.
 abbrev pub enough : List ℕ → ℕ
 enough s = length s + length s + 2

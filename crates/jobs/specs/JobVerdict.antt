@@ -56,7 +56,8 @@ module _ (j : Job) where
     pub derived : DerivedFrom (j .templates) graph t page
     pub other : RootAlone (j .vocabulary) page → ⊥
 
-  -- The element of template t whose `23` stands at an offset is wrong in some page.
+  -- The element of template t whose `23` stands at an offset is wrong in some page. Offsets are the job's, so an offset stands in one
+  -- template, and the lowest offset has the lowest template.
   pub record WrongIn (p t at : ℕ) : Type 0 where
     pub graph : Summary
     pub shows : graphShown (j .program) (j .proposal) p ≡ some graph

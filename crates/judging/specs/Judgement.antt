@@ -114,16 +114,17 @@ abbrev pub wrongVerdict : Option ℕ → Verdict
 wrongVerdict none = Accepted
 wrongVerdict (some at) = Refused (Refusals.Page (WrongElement 0 0 at))
 
--- The verdict of a page that was read under a vocabulary that was read. Reading never ends unfinished.
+-- The verdict of a page that was read under a vocabulary that was read. Reading never ends unfinished (`agreement`, Ends); if it did,
+-- nothing would be accepted.
 abbrev pub judged : Vocabulary → Read Items → Verdict
 judged D (whole φ end) = cond (isAlone (D .root) φ) (wrongVerdict (firstWrong D φ)) (Refused (Refusals.Page (NotRoot 0 0)))
 judged D (refused f at) = Refused (Refusals.Form f (record { at = at; slice = 1 }))
-judged D unfinished = Accepted
+judged D unfinished = Refused (Refusals.Page (NotRoot 0 0))
 
 abbrev pub judgedUnder : Read Vocabulary → List ℕ → Verdict
 judgedUnder (whole D end) p = judged D (pageSlice D p)
 judgedUnder (refused f at) p = Refused (Refusals.Form f (record { at = at; slice = 0 }))
-judgedUnder unfinished p = Accepted
+judgedUnder unfinished p = Refused (Refusals.Page (NotRoot 0 0))
 
 unfoldable pub pageVerdict : List ℕ → List ℕ → Verdict
 unfolding vocabularySlice pageSlice firstWrong

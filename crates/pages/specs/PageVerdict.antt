@@ -13,7 +13,7 @@ use Rattle.vocabularies.specs.Vocabulary.{Vocabulary}
 use Rattle.vocabularies.specs.VocabularyReading.{vocabularySlice}
 use Rattle.pages.specs.Items.{Items}
 use Rattle.pages.specs.ItemReading.{pageSlice}
-use Rattle.pages.specs.RightPages.{RootAlone, Accepts, WrongAt}
+use Rattle.pages.specs.RightPages.{RootAlone, Right, WrongAt}
 
 -- The two slices can be read, as this vocabulary and this page.
 pub record Readable (v p : List ℕ) (D : Vocabulary) (page : Items) : Type 0 where
@@ -32,5 +32,4 @@ pub data PageVerdict (v p : List ℕ) : Verdict → Type 0 where
   wrong-element : {D : Vocabulary} {page : Items} {at : ℕ} → Readable v p D page → RootAlone D page
       → WrongAt D at page → ((at′ : ℕ) → WrongAt D at′ page → at ≤ at′)
       → PageVerdict v p (Refused (Refusals.Page (WrongElement 0 0 at)))
-  accepted : {D : Vocabulary} {page : Items} → Readable v p D page → RootAlone D page → Accepts D page
-      → PageVerdict v p Accepted
+  accepted : {D : Vocabulary} {page : Items} → Readable v p D page → Right D page → PageVerdict v p Accepted

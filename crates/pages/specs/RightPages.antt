@@ -1,15 +1,15 @@
--- Right pages: the acceptance relation of source 000, section 6, as it is printed there, and document 01's "exactly one element,
--- the root". Nothing here computes: how it is decided is another matter.
+-- Right pages: the acceptance relation and the language of source 000, section 6, and document 01's "exactly one element, the root".
+-- The relation is written as functions into types, in the order of the paper; how it is decided is another matter.
 use Prim.Native.Nat.{ℕ, _≤_, _<_}
 use mathlib.Core.Path.{_≡_}
 use mathlib.Core.List.{List, [], _∷_, map, List·Memᴰ}
 use mathlib.Core.Option.{Option, some}
 use mathlib.Core.Logic.{_⊎_}
-use mathlib.Core.Bool.{true}
+use mathlib.Core.Bool.{true, false}
 use lib.ListN.{length, getD}
 use Rattle.sets.specs.Sets.{member}
 use Rattle.vocabularies.specs.Vocabulary.{Formula, conj, disj, neg, truth, attr, content, order, value, Rule, Vocabulary, ruleOf}
-use Rattle.pages.specs.Items.{Value, string, Attribute, Item, text, gap, element, Items, none, more, one}
+use Rattle.pages.specs.Items.{Value, string, Attribute, Item, text, gap, element, Items, none, more, one, gapIn, attributeGapIn}
 
 abbrev pub _∈_ : {A : Type 0} → A → List A → Type 0
 _∈_ a l = List·Memᴰ a l
@@ -72,9 +72,16 @@ unfoldable mutual
 abbrev pub RootAlone : Vocabulary → Items → Type 0
 RootAlone D φ = (mark : ℕ) × (δ : List Attribute) × (contents : Items) × (φ ≡ one (element (D .root) mark δ contents))
 
+-- gaps(φ) = ∅
+pub record Gapless (φ : Items) : Type 0 where
+  pub gaps : (g : ℕ) → gapIn φ g ≡ false
+  pub attribute-gaps : (h : ℕ) → attributeGapIn φ h ≡ false
+
+-- 𝓛(D): the root element alone, accepted, with no gap left.
 pub record Right (D : Vocabulary) (φ : Items) : Type 0 where
   pub alone : RootAlone D φ
   pub accepted : Accepts D φ
+  pub gapless : Gapless φ
 
 -- Some element of the items, at any depth, is as P says.
 unfoldable mutual

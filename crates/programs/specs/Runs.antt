@@ -4,6 +4,7 @@ use Prim.Native.Nat.{ℕ}
 use mathlib.Core.List.{List, [], _∷_, _++_}
 use mathlib.Core.Bool.{Bool, true, false, cond}
 use lib.Dec.{eqb}
+use Rattle.commands.specs.Commands.{emptyString}
 use Rattle.pages.specs.Items.{Value, string, open-gap, Attribute, Item, text, gap, element, Items, none, more, one, _⋈_}
 use Rattle.programs.specs.Program.{Act, copyTemplate, setTemplate, copyString, setString, anyString, plug, plugString, show, Statement, step, stop, statementAt, templateAt}
 
@@ -41,9 +42,9 @@ unfoldable pub pluggedString : ℕ → ℕ → Items → Items
 unfolding replaced
 pluggedString h s φ = replaced stay (λ k. cond (eqb k h) (string s) (open-gap k)) φ
 
--- What an attribute gap that is still open takes at a show: string 0.
+-- What an attribute gap that is still open takes at a show.
 abbrev pub closingString : ℕ
-closingString = 0
+closingString = emptyString
 
 -- A page as a show closes it: nothing in each gap still open, string 0 in each open attribute gap.
 unfoldable pub closed : Items → Items
@@ -55,6 +56,7 @@ pub record Choice : Type 0 where
   pub second : Bool
   pub string : ℕ
 
+-- The values of all variables; a program names 0 to 3 alone.
 pub record State : Type 0 where
   pub point : ℕ
   pub template : ℕ → Items
@@ -63,7 +65,7 @@ pub record State : Type 0 where
 
 -- Every variable empty, every string string 0, no page.
 abbrev pub start : State
-start = record { point = 0; template = λ x. none; string = λ y. 0; pages = [] }
+start = record { point = 0; template = λ x. none; string = λ y. emptyString; pages = [] }
 
 abbrev pub update : {A : Type 0} → ℕ → A → (ℕ → A) → ℕ → A
 update v new old k = cond (eqb k v) new (old k)

@@ -8,6 +8,7 @@ use lib.ListN.{length}
 use lib.Dec.{leb, ltb}
 use Rattle.verdicts.specs.declared.Form.{Form}
 use Rattle.verdicts.specs.declared.Form.the-variants.{TooLong, NotAllowed}
+use Rattle.verdicts.specs.declared.Verdict.{Verdict}
 use Rattle.verdicts.specs.declared.Verdict.the-variants.{Accepted}
 use Rattle.commands.specs.Reading.{Read, whole, refused, andThen, when, enough}
 use Rattle.commands.proofs.Laws.{andThen-whole, when-whole}
@@ -65,7 +66,11 @@ module _ (s : List ℕ) where
       let q : record { vocabulary = v .0; templates = t .0; program = p .0; proposal = h .0 } ≡ j = cc (h .3) in
       subst (λ (k : Job). InRange (k .program)) q (program-in-range (enough s) (length (t .0)) s (t .1) (p .0) (p .1) (p .2))
 
-pub guarantee : (s : List ℕ) → Guarantee s
-guarantee s (accepted {j = j} {end = end} reads covered shows) j′ end′ reads′ choices =
-    let q : j ≡ j′ = cc in
-    subst (λ (k : Job). ShowsOnlyRightPages k choices) q (all-right j (in-range s j end reads) covered shows choices)
+accepted-shows-right : (s : List ℕ) → JobVerdict s Accepted
+    → (j : Job) × (end : ℕ) × (job s ≡ whole j end) × ((choices : List Choice) → ShowsOnlyRightPages j choices)
+accepted-shows-right s (accepted {j = j} {end = end} reads covered shows) =
+    (j, end, reads, all-right j (in-range s j end reads) covered shows)
+
+-- An answer that is the job's verdict keeps what demand 3 claims.
+pub guarantee : (s : List ℕ) (answer : Verdict) → JobVerdict s answer → Guarantee s answer
+guarantee s answer verdict e = accepted-shows-right s (subst (JobVerdict s) e verdict)

@@ -6,6 +6,7 @@ use mathlib.Core.List.{List}
 use mathlib.Core.Bool.{Bool, true, false}
 use lib.ListN.{length}
 use lib.Dec.{eqb}
+use Rattle.commands.specs.Commands.{emptyString}
 use Rattle.pages.specs.Items.{Items}
 use Rattle.pages.specs.Items as Items
 use Rattle.programs.specs.Program.{Act, Statement, Variable, templates, strings, named}
@@ -19,7 +20,7 @@ WithinAt (strings y) E F = Within (E .string y) (F .string y)
 
 -- At the start each template variable is the empty template 0, each string variable string 0.
 abbrev pub startEnvironment : Environment
-startEnvironment = record { template = λ x. fragment 0 Items.none; string = λ y s. eqb s 0 }
+startEnvironment = record { template = λ x. fragment 0 Items.none; string = λ y s. eqb s emptyString }
 
 module _ (φs : List Items) (program : List Statement) (proposal : List Head) where
   abbrev pub StartCovered : Variable → Type 0

@@ -40,7 +40,8 @@ factThere count (anyAt n h) = leb n count
 factThere count (oneString s) = true
 factThere count anyString = true
 
--- The place of an item in the order: the command, then three operands, absent ones 0. Two items of one command have as many operands.
+-- The place of an item in the order: the command, then its operands, as one number with a byte for each, so that numbers compare as
+-- the lists do. Two items of one command have as many operands; absent ones are 0.
 unfoldable pub rank : List ℕ → ℕ → ℕ → ℕ
 unfolding operandBytes
 rank s at code = ((code * 256 + present 1) * 256 + present 2) * 256 + present 3
@@ -68,7 +69,7 @@ abbrev pub factContext : Variable → Context
 factContext (templates x) = TemplateFacts
 factContext (strings y) = StringFacts
 
--- The heads from an offset on, each at least `least` as p * 8 + v, up to `4F`, of a job with these numbers of templates and points.
+-- The heads from an offset on, each at least `least` as the number p * 8 + v, which compares as (p, v) does, since v is below 8, up to `4F`, of a job with these numbers of templates and points.
 unfoldable pub proposal : ℕ → ℕ → ℕ → List ℕ → ℕ → ℕ → Read (List Head)
 unfolding facts
 proposal zero count points s least at = unfinished

@@ -8,7 +8,7 @@ pub enum Form {
     TooLong,
     // 2: the bytes end in a command, or before one.
     Ended,
-    // 3: a command that is unknown or not allowed there.
+    // 3: a command that is unknown or not allowed there, or a byte after the end.
     NotAllowed,
     // 4: an operand outside its range.
     OutOfRange,

@@ -1,5 +1,5 @@
 -- The facts of a clause (document 01, "A job, command by command"): its distinct contents in `15` and `16`, distinct pairs of
--- `16` and distinct (a, m) of `17`, in the order in which they first stand in the formula. `16 c d` names the contents c, d and the pair.
+-- `16` and distinct (a, m) of `17`, in the order in which they first stand in the formula; the order has no meaning of its own. `16 c d` names the contents c, d and the pair.
 use Prim.Native.Nat.{ℕ}
 use mathlib.Core.List.{List, [], _∷_, _++_}
 use mathlib.Core.Bool.{Bool, true, false, cond, _&&_, _||_}
