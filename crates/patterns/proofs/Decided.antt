@@ -17,13 +17,13 @@ use Rattle.summaries.specs.Summaries.{Summary}
 use Rattle.summaries.specs.Languages.{AttributesDerive, Derives, ItemDerives, Language, DerivedFrom, nothing, item-then, text-stays, gap-takes, element-keeps}
 use Rattle.agreement.proofs.Deciding.{Decided, holds, fails}
 use Rattle.agreement.proofs.Roots.{decided-alone}
-use Rattle.agreement.proofs.Gaps.{Gapless}
+use Rattle.agreement.proofs.Gaps.{NoGap}
 use Rattle.agreement.proofs.Pages.{Found, no-wrong, wrong, found, accepts-right}
 use Rattle.patterns.specs.Given.{Bounded, contents, NamesInRange, SoundVocabulary}
 use Rattle.patterns.specs.Reached.{Reached, CanBe}
 use Rattle.patterns.specs.Elements.{wrongElement}
 use Rattle.patterns.specs.Shows.{Least, nowhere, Tables, ExactTables, notRoot, lowestMark, lowestRoot, lowestWrongIn, lowestWrong}
-use Rattle.patterns.proofs.Closed.{derived-gapless}
+use Rattle.patterns.proofs.Closed.{derived-no-gap, derived-closed}
 use Rattle.patterns.proofs.NotRoot.{not-root-exact}
 use Rattle.patterns.proofs.Standing.{Saying, Made, standing, reached-yields}
 use Rattle.patterns.proofs.Reaching.{reached-there}
@@ -152,13 +152,14 @@ module _ (φs : List Items) (G : Summary) (bounded : Bounded φs G) (named : Nam
       alone-or page (holds a) k = a
       alone-or page (fails n) k = absurd (k n)
 
-      accepts-or : (page : Items) {o : Option ℕ} → Found D page o → Gapless page → ((at : ℕ) → WrongAt D at page → ⊥) → Accepts D page
+      accepts-or : (page : Items) {o : Option ℕ} → Found D page o → NoGap page → ((at : ℕ) → WrongAt D at page → ⊥) → Accepts D page
       accepts-or page (no-wrong k) h n = k h
       accepts-or page (wrong {mark = mark} w) h n = absurd (n mark w)
 
       back : (lowestRoot φs G D T ≡ none) × (lowestWrong φs G D T ≡ none) → (page : Items) → Language φs G page → Right D page
       back (no-root, no-mark) page (r, (g, d)) = record {
         alone = alone-or page (decided-alone D page) (λ n. none-of (subst (Least _) no-root lowest-root) r (page, (g, d), n));
-        accepted = accepts-or page (found D page) (derived-gapless φs G d)
+        accepted = accepts-or page (found D page) (derived-no-gap φs G d)
             (λ at w. none-of (subst (Least _) no-mark lowest-wrong) at (page, (r, (g, d)), w));
+        gapless = derived-closed φs G d;
       }

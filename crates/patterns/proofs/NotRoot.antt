@@ -16,7 +16,7 @@ use Rattle.summaries.specs.Proposal.{root}
 use Rattle.summaries.specs.Summaries.{Summary}
 use Rattle.summaries.specs.Languages.{DerivedFrom}
 use Rattle.agreement.proofs.Deciding.{false-iff}
-use Rattle.agreement.proofs.Gaps.{Gapless}
+use Rattle.agreement.proofs.Gaps.{NoGap}
 use Rattle.agreement.proofs.Roots.{decided-alone}
 use Rattle.patterns.specs.Morphisms.{rootMorphism, kindOf, empty, alone, other}
 use Rattle.patterns.specs.Given.{Bounded}
@@ -25,23 +25,23 @@ use Rattle.patterns.specs.Exactness.{Exact}
 use Rattle.patterns.specs.Shows.{notRoot}
 use Rattle.patterns.proofs.Tests.{or-left, or-right, or-cases, and-both, and-left, and-right, eqb-same}
 use Rattle.patterns.proofs.Lawful.{root-lawful}
-use Rattle.patterns.proofs.Closed.{derived-gapless}
+use Rattle.patterns.proofs.Closed.{derived-no-gap}
 
 -- A gap is a gap.
 gap-found : (g : ℕ) (φ : Items) → gapIn (more (gap g) φ) g ≡ true
 unfolding gapIn
 gap-found g φ = or-left (eqb g g) (gapIn φ g) (eqb-same g)
 
-rest-gapless : (i : Item) (φ : Items) → Gapless (more i φ) → Gapless φ
+rest-no-gap : (i : Item) (φ : Items) → NoGap (more i φ) → NoGap φ
 unfolding gapIn
-rest-gapless i φ h g = second (gapInItem i g) (gapIn φ g) (h g)
+rest-no-gap i φ h g = second (gapInItem i g) (gapIn φ g) (h g)
   where
     second : (a b : Bool) → (a || b) ≡ false → b ≡ false
     second true b e = absurd (true≢false e)
     second false b e = e
 
 -- Two items that are no gaps are two contents, which is another kind.
-two-contents : (top c : ℕ) (j : Item) (φ : Items) → Gapless (more j φ) → kindOf top (c ∷ word (more j φ)) ≡ other
+two-contents : (top c : ℕ) (j : Item) (φ : Items) → NoGap (more j φ) → kindOf top (c ∷ word (more j φ)) ≡ other
 unfolding word wordItem kindOf
 two-contents top c text φ h = refl
 two-contents top c (gap g) φ h = absurd (true≢false (sym (gap-found g φ) ∙ h g))
@@ -56,16 +56,16 @@ one-content top c = go (eqb c top)
     go false = refl
 
 -- Of a page without gaps the kind tells whether it is exactly the root element.
-pub kind-alone : (top : ℕ) → (top ≡ 0 → ⊥) → (φ : Items) → Gapless φ → isAlone top φ ≡ eqb (kindOf top (word φ)) alone
+pub kind-alone : (top : ℕ) → (top ≡ 0 → ⊥) → (φ : Items) → NoGap φ → isAlone top φ ≡ eqb (kindOf top (word φ)) alone
 unfolding word wordItem kindOf
 kind-alone top pos none h = refl
 kind-alone top pos (more text none) h = sym (one-content top 0 ∙ ne-eqb 0 top (λ e. pos (sym e)))
 kind-alone top pos (more text (more j φ)) h =
-    ap (λ (k : ℕ). eqb k alone) (sym (two-contents top 0 j φ (rest-gapless text (more j φ) h)))
+    ap (λ (k : ℕ). eqb k alone) (sym (two-contents top 0 j φ (rest-no-gap text (more j φ) h)))
 kind-alone top pos (more (gap g) φ) h = absurd (true≢false (sym (gap-found g φ) ∙ h g))
 kind-alone top pos (more (element e mark δ χ) none) h = and-true (eqb e top) ∙ sym (one-content top e)
 kind-alone top pos (more (element e mark δ χ) (more j φ)) h =
-    and-false (eqb e top) ∙ ap (λ (k : ℕ). eqb k alone) (sym (two-contents top e j φ (rest-gapless (element e mark δ χ) (more j φ) h)))
+    and-false (eqb e top) ∙ ap (λ (k : ℕ). eqb k alone) (sym (two-contents top e j φ (rest-no-gap (element e mark δ χ) (more j φ) h)))
 
 not-alone : (k : ℕ) → k < 3 → eqb k alone ≡ false → (k ≡ empty) ⊎ (k ≡ other)
 not-alone zero h e = inl refl
@@ -85,7 +85,7 @@ module _ (φs : List Items) (G : Summary) (bounded : Bounded φs G) (D : Vocabul
         page,
         (g, d),
         false-iff (decided-alone D page) .0
-            (kind-alone (D .root) pos page (derived-gapless φs G d) ∙ ap (λ (x : ℕ). eqb x alone) p ∙ ne),
+            (kind-alone (D .root) pos page (derived-no-gap φs G d) ∙ ap (λ (x : ℕ). eqb x alone) p ∙ ne),
       )
 
   pub not-root-exact : (r : ℕ) → notRoot G K r ≡ true ↔ OtherPage r
@@ -105,4 +105,4 @@ module _ (φs : List Items) (G : Summary) (bounded : Bounded φs G) (D : Vocabul
           (λ (q : kind ≡ empty). or-left (K r empty) (K r other) (subst (λ (k : ℕ). K r k ≡ true) q held))
           (λ (q : kind ≡ other). or-right (K r empty) (K r other) (subst (λ (k : ℕ). K r k ≡ true) q held))
           (not-alone kind (root-lawful (D .root) .below (word page))
-          (sym (kind-alone (D .root) pos page (derived-gapless φs G d)) ∙ false-iff (decided-alone D page) .1 n)))
+          (sym (kind-alone (D .root) pos page (derived-no-gap φs G d)) ∙ false-iff (decided-alone D page) .1 n)))
