@@ -24,7 +24,7 @@ use Rattle.programs.specs.declared.ProgramRead.{ProgramRead}
 use Rattle.programs.specs.Program.{Statement}
 use Rattle.programs.specs.ProgramReading.{program}
 use Rattle.programs.specs.Promises.{Tabled, ProgramReads}
-use Rattle.programs.proofs.Agreement.{WholeAs, agrees-whole, agrees-refuses, whole-agrees, refused-agrees, whole-then, enough-enough}
+use Rattle.programs.proofs.Laws.{WholeAs, agrees-whole, agrees-refuses, whole-agrees, refused-agrees, whole-then, enough-enough}
 use Rattle.summaries.specs.declared.ProposalRead.{ProposalRead}
 use Rattle.summaries.specs.ProposalReading.{proposal}
 use Rattle.summaries.specs.Promises.{Kept, ProposalReads}

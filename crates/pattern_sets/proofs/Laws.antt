@@ -13,10 +13,6 @@ use Rattle.sets.specs.Sets.{member}
 use Rattle.sets.proofs.Laws.{member-zero}
 use Rattle.pattern_sets.specs.PatternSets.{holds, First, FirstMember, IsEmpty, SameMembers, Same}
 
-pub or-absent : (a : Bool) {b : Bool} → b ≡ false → (a || b) ≡ a
-or-absent true e = refl
-or-absent false e = e
-
 -- A number is told by its quotient and its remainder.
 same-rest : (x y : ℕ) → y / 64 ≡ x / 64 → eqb (y % 64) (x % 64) ≡ eqb y x
 same-rest x y q = go (ℕ-discrete y x)
@@ -39,25 +35,25 @@ with-pattern s x w h e y = go (ℕ-discrete (y / 64) (x / 64))
         let r : getD (set s (x / 64) w) (y / 64) 0 ≡ getD s (y / 64) 0 = getD-set-other s (x / 64) (y / 64) w 0 n in
         rw (r, ne-eqb y x (λ q. n (ap (λ (k : ℕ). k / 64) q)))
 
--- Four words, each the union of two.
-module _ (a b : List ℕ) (la : length a ≡ 4) (lb : length b ≡ 4) (u₀ u₁ u₂ u₃ : ℕ)
-    (e₀ : (k : ℕ) → member u₀ k ≡ (member (getD a 0 0) k || member (getD b 0 0) k))
-    (e₁ : (k : ℕ) → member u₁ k ≡ (member (getD a 1 0) k || member (getD b 1 0) k))
-    (e₂ : (k : ℕ) → member u₂ k ≡ (member (getD a 2 0) k || member (getD b 2 0) k))
-    (e₃ : (k : ℕ) → member u₃ k ≡ (member (getD a 3 0) k || member (getD b 3 0) k)) where
-  word-union : (q k : ℕ) → member (getD (u₀ ∷ u₁ ∷ u₂ ∷ u₃ ∷ []) q 0) k ≡ (member (getD a q 0) k || member (getD b q 0) k)
-  word-union zero k = e₀ k
-  word-union (suc zero) k = e₁ k
-  word-union (suc (suc zero)) k = e₂ k
-  word-union (suc (suc (suc zero))) k = e₃ k
-  word-union (suc (suc (suc (suc q)))) k =
+-- Four words, each made of two by an operation on their members.
+module _ (op : Bool → Bool → Bool) (nothing : op false false ≡ false) (a b : List ℕ) (la : length a ≡ 4) (lb : length b ≡ 4) (u₀ u₁ u₂ u₃ : ℕ)
+    (e₀ : (k : ℕ) → member u₀ k ≡ op (member (getD a 0 0) k) (member (getD b 0 0) k))
+    (e₁ : (k : ℕ) → member u₁ k ≡ op (member (getD a 1 0) k) (member (getD b 1 0) k))
+    (e₂ : (k : ℕ) → member u₂ k ≡ op (member (getD a 2 0) k) (member (getD b 2 0) k))
+    (e₃ : (k : ℕ) → member u₃ k ≡ op (member (getD a 3 0) k) (member (getD b 3 0) k)) where
+  word-by-word : (q k : ℕ) → member (getD (u₀ ∷ u₁ ∷ u₂ ∷ u₃ ∷ []) q 0) k ≡ op (member (getD a q 0) k) (member (getD b q 0) k)
+  word-by-word zero k = e₀ k
+  word-by-word (suc zero) k = e₁ k
+  word-by-word (suc (suc zero)) k = e₂ k
+  word-by-word (suc (suc (suc zero))) k = e₃ k
+  word-by-word (suc (suc (suc (suc q)))) k =
       let x : getD a (suc (suc (suc (suc q)))) 0 ≡ 0 = List·getD-eq-default a 0 (omega arith) in
       let y : getD b (suc (suc (suc (suc q)))) 0 ≡ 0 = List·getD-eq-default b 0 (omega arith) in
-      rw (x, y, member-zero)
+      rw (x, y, member-zero) (sym nothing)
 
-  pub union-pattern : (y : ℕ) → holds (u₀ ∷ u₁ ∷ u₂ ∷ u₃ ∷ []) y ≡ (holds a y || holds b y)
+  pub pattern-by-pattern : (y : ℕ) → holds (u₀ ∷ u₁ ∷ u₂ ∷ u₃ ∷ []) y ≡ op (holds a y) (holds b y)
   unfolding holds
-  union-pattern y = word-union (y / 64) (y % 64)
+  pattern-by-pattern y = word-by-word (y / 64) (y % 64)
 
 -- ---- the first pattern from a place on
 
@@ -119,6 +115,13 @@ unfolding holds
 holds-high s l x h =
     let e : getD s (x / 64) 0 ≡ 0 = List·getD-eq-default s 0 (omega arith) in
     rw (e, member-zero)
+
+pub held-small : (s : List ℕ) → length s ≡ 4 → (x : ℕ) → holds s x ≡ true → x < 256
+held-small s l x h = go (ltb x 256) refl
+  where
+    go : (t : Bool) → ltb x 256 ≡ t → x < 256
+    go true e = ltb-true x 256 e
+    go false e = absurd (false≢true (sym (holds-high s l x (ltb-false x 256 e)) ∙ h))
 
 pub holds-empty : (x : ℕ) → holds (0 ∷ 0 ∷ 0 ∷ 0 ∷ []) x ≡ false
 unfolding holds

@@ -1,8 +1,8 @@
+pub mod Booleans
 pub mod Members
 pub mod Laws
-pub mod Numbers
-pub mod FactPlaces
-pub mod Placing
-pub mod Spreading
-pub mod Joining
-pub mod Rows
+pub mod Flags
+pub mod Shifting
+pub mod Tables
+pub mod Stepping
+pub mod Imaging

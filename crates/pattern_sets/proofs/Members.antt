@@ -1,7 +1,7 @@
 -- The first member of a word: trailing zeros count what is skipped. And where two words differ.
-use Prim.Native.Nat.{ℕ, zero, suc, _+_, _-_, _/_, _%_, _^_, _<_, _≤_}
+use Prim.Native.Nat.{ℕ, zero, suc, _+_, _-_, _*_, _/_, _%_, _^_, _<_, _≤_}
 use mathlib.Core.Path.{_≡_, refl, sym, ap, _∙_}
-use mathlib.Core.Bool.{Bool, true, false, false≢true}
+use mathlib.Core.Bool.{Bool, true, false, cond, false≢true}
 use mathlib.Core.Logic.{_⊎_, inl, inr, ⊎-elim}
 use native.Mathlib.Nat.{mod-lt, div-one, eq-or-lt-of-le, le-of-suc-le-suc}
 use native.Mathlib.Numerals.{one-add}
@@ -9,7 +9,7 @@ use native.Mathlib.Omega.{arith}
 use lib.Count.{trailingZeros, under, trailing-le}
 use lib.Dec.{eqb, ltb, lit<}
 use lib.Pow.{shr-shr, shr-le, pow-pos}
-use borrow.Author.Tests.{ltb-true, ltb-false, eqb-true, eqb-false}
+use borrow.Author.Tests.{eq-eqb, ne-eqb, ltb-true, ltb-false, eqb-true, eqb-false}
 use Rattle.sets.specs.Sets.{member}
 use Rattle.sets.proofs.Laws.{member-zero, member-high, same-members}
 use Rattle.pattern_sets.specs.PatternSets.{FirstMember, SameMembers}
@@ -25,6 +25,15 @@ member-head n = rw (div-one n)
 pub member-shift : (n i k : ℕ) → member (n / 2 ^ i) k ≡ member n (i + k)
 unfolding member
 member-shift n i k = rw (shr-shr n i k)
+
+-- A number doubled, with a lowest bit.
+pub double-head : (b : Bool) (n : ℕ) → member (cond b 1 0 + 2 * n) 0 ≡ b
+double-head true n = member-head (1 + 2 * n) ∙ eq-eqb ((1 + 2 * n) % 2) 1 (omega arith)
+double-head false n = member-head (0 + 2 * n) ∙ ne-eqb ((0 + 2 * n) % 2) 1 (λ e. omega arith)
+
+pub double-tail : (b : Bool) (n k : ℕ) → member (cond b 1 0 + 2 * n) (suc k) ≡ member n k
+double-tail true n k = member-tail (1 + 2 * n) k ∙ ap (λ (m : ℕ). member m k) (omega arith)
+double-tail false n k = member-tail (0 + 2 * n) k ∙ ap (λ (m : ℕ). member m k) (omega arith)
 
 -- ---- trailing zeros
 

@@ -1,3 +1,2 @@
 pub mod PatternSets
-pub mod Readings
-pub mod Promises
+pub mod Images

@@ -1,37 +1,11 @@
-// Sets of fact patterns, the numbers 0 to 255, as four words; and readings of words, by which the sets of patterns of words one
-// after the other are worked out.
+// Sets of fact patterns, the numbers 0 to 255, as four words.
 ghost use mathlib.Core.Path.{_≡_};
-ghost use mathlib.Core.Bool.{_&&_, _||_, false};
+ghost use mathlib.Core.Bool.{not, _&&_, _||_, true, false};
 ghost use Prim.Native.Nat.{ℕ, _<_, _≤_};
 ghost use lib.Dec.{eqb};
+ghost use Rattle.sets.specs.Sets.{member};
 ghost use Rattle.pattern_sets.specs.PatternSets.{holds, First, FirstMember, IsEmpty, SameMembers, Same};
-ghost use Rattle.patterns.specs.Readings.{rootReading};
-ghost use Rattle.pattern_sets.specs.Readings.{Reads};
-ghost use Rattle.pattern_sets.specs.Promises.{Places, PlacesBefore, PlacesAfter, AllBefores, AllAfters, KeepsFacts, ReadsOne, Spreads, Joins, AddsRow, Multiplies};
-use vocabularies::Facts;
-
-// A reading of words. Where it is not that of the root, the facts of a clause, and for each pair the places of its contents: of the
-// one that stands in a first word, and of the one that stands in a second, if the two break the pair.
-pub struct Reading {
-    pub rooted: bool,
-    pub root: u8,
-    pub facts: Facts,
-    pub befores: [u8; 8],
-    pub afters: [u8; 8],
-}
-
-const PRESENT: u8 = 0;
-
-const ORDERED: u8 = 1;
-
-// No pattern has a mark there.
-const NOWHERE: u8 = 8;
-
-const EMPTY: u8 = 0;
-
-const ALONE: u8 = 1;
-
-const OTHER: u8 = 2;
+ghost use Rattle.pattern_sets.specs.Images.{AllFlagged, ShiftedMembers, Shifted, Image, raisedAt, crossedAt, raisedBy, crossedBy, joinedBy, Apart, Joined};
 
 pub fn empty() -> [u64; 4]
     ensures { λ r. ⌜ ((y : ℕ) → holds r y ≡ false) ⌝ }
@@ -70,6 +44,159 @@ pub fn union(a: [u64; 4], b: [u64; 4]) -> [u64; 4]
         sets::union(a[2], b[2]),
         sets::union(a[3], b[3]),
     ]
+}
+
+fn common(a: u64, b: u64) -> u64
+    ensures { λ r. ⌜ ((k : ℕ) → member r k ≡ (member a k && member b k)) ⌝ }
+{
+    a & b
+}
+
+pub fn intersection(a: [u64; 4], b: [u64; 4]) -> [u64; 4]
+    ensures { λ r. ⌜ ((y : ℕ) → holds r y ≡ (holds a y && holds b y)) ⌝ }
+{
+    [
+        common(a[0], b[0]),
+        common(a[1], b[1]),
+        common(a[2], b[2]),
+        common(a[3], b[3]),
+    ]
+}
+
+// The members of `a` that `b` lacks.
+fn without(a: u64, b: u64) -> u64
+    ensures { λ r. ⌜ ((k : ℕ) → member r k ≡ (member a k && not (member b k))) ⌝ }
+{
+    a ^ (a & b)
+}
+
+pub fn difference(a: [u64; 4], b: [u64; 4]) -> [u64; 4]
+    ensures { λ r. ⌜ ((y : ℕ) → holds r y ≡ (holds a y && not (holds b y))) ⌝ }
+{
+    [
+        without(a[0], b[0]),
+        without(a[1], b[1]),
+        without(a[2], b[2]),
+        without(a[3], b[3]),
+    ]
+}
+
+// The patterns that have flag i.
+pub fn flagged(i: u8) -> [u64; 4]
+    ensures { λ r. ⌜ AllFlagged i r ⌝ }
+{
+    match i {
+        0 => [0xAAAA_AAAA_AAAA_AAAA; 4],
+        1 => [0xCCCC_CCCC_CCCC_CCCC; 4],
+        2 => [0xF0F0_F0F0_F0F0_F0F0; 4],
+        3 => [0xFF00_FF00_FF00_FF00; 4],
+        4 => [0xFFFF_0000_FFFF_0000; 4],
+        5 => [0xFFFF_FFFF_0000_0000; 4],
+        6 => [0, 0xFFFF_FFFF_FFFF_FFFF, 0, 0xFFFF_FFFF_FFFF_FFFF],
+        7 => [0, 0, 0xFFFF_FFFF_FFFF_FFFF, 0xFFFF_FFFF_FFFF_FFFF],
+        _ => [0; 4],
+    }
+}
+
+fn shifted_word(word: u64, n: u32) -> u64
+    requires { ⌜ n < 64 ⌝ }
+    ensures { λ r. ⌜ ShiftedMembers word n r ⌝ }
+{
+    word << n
+}
+
+// Each pattern moved to the one with flag i, if it lacks it; what else is there does not matter.
+fn shifted(set: [u64; 4], i: u8) -> [u64; 4]
+    requires { ⌜ i < 8 ⌝ }
+    ensures { λ r. ⌜ Shifted set i r ⌝ }
+{
+    if i == 7 {
+        return [0, 0, set[0], set[1]];
+    }
+    if i == 6 {
+        return [0, set[0], set[1], set[2]];
+    }
+    let n = 1u32 << i;
+    [
+        shifted_word(set[0], n),
+        shifted_word(set[1], n),
+        shifted_word(set[2], n),
+        shifted_word(set[3], n),
+    ]
+}
+
+// Each pattern with flag i.
+fn raised(set: [u64; 4], i: u8) -> [u64; 4]
+    requires { ⌜ i < 8 ⌝ }
+    ensures { λ r. ⌜ Image (raisedAt i) set r ⌝ }
+{
+    intersection(flagged(i), union(set, shifted(set, i)))
+}
+
+// Each pattern with flag i if it has flag c.
+fn crossed(set: [u64; 4], c: u8, i: u8) -> [u64; 4]
+    requires { ⌜ i < 8 ⌝ }
+    ensures { λ r. ⌜ Image (crossedAt c i) set r ⌝ }
+{
+    let those = flagged(c);
+    union(difference(set, those), raised(intersection(set, those), i))
+}
+
+// Each pattern with the flags of x.
+fn raised_by(set: [u64; 4], x: u8) -> [u64; 4]
+    ensures { λ r. ⌜ Image (raisedBy 8 x) set r ⌝ }
+{
+    let mut image = set;
+    let mut i: u8 = 0;
+    while i < 8 {
+        if sets::has(x as u64, i) {
+            let next = raised(image, i);
+            image = next;
+        }
+        i += 1;
+    }
+    image
+}
+
+// Each pattern with the flags at whose places x and it have flags.
+fn crossed_by(set: [u64; 4], x: u8, firsts: [u8; 8], seconds: [u8; 8]) -> [u64; 4]
+    ensures { λ r. ⌜ (Apart x firsts seconds → Image (crossedBy 8 x firsts seconds) set r) ⌝ }
+{
+    let mut image = set;
+    let mut i: u8 = 0;
+    while i < 8 {
+        let k = i as usize;
+        if sets::has(x as u64, firsts[k] % 64) {
+            let next = crossed(image, seconds[k] % 64, i);
+            image = next;
+        }
+        i += 1;
+    }
+    image
+}
+
+// Each pattern joined with x.
+fn joined_with(set: [u64; 4], x: u8, firsts: [u8; 8], seconds: [u8; 8]) -> [u64; 4]
+    ensures { λ r. ⌜ (Apart x firsts seconds → Image (joinedBy firsts seconds x) set r) ⌝ }
+{
+    if x == 0 {
+        return set;
+    }
+    raised_by(crossed_by(set, x, firsts, seconds), x)
+}
+
+// The patterns of `a` joined with those of `b`.
+pub fn joined_sets(a: [u64; 4], b: [u64; 4], firsts: [u8; 8], seconds: [u8; 8]) -> [u64; 4]
+    ensures { λ r. ⌜ (((x : ℕ) → holds a x ≡ true → Apart x firsts seconds) → Joined (joinedBy firsts seconds) a b r) ⌝ }
+{
+    let mut set = empty();
+    let mut at = next(a, 0);
+    while at < 256 {
+        let more = union(set, joined_with(b, at as u8, firsts, seconds));
+        set = more;
+        at = next(a, at + 1);
+    }
+    set
 }
 
 // The first member of a word at a place or after it, or 64 where there is none.
@@ -127,203 +254,4 @@ pub fn same(a: [u64; 4], b: [u64; 4]) -> bool
         return false;
     }
     same_members(a[3], b[3])
-}
-
-fn wide(x: u8) -> u64
-    ensures { λ r. ⌜ r ≡ x ⌝ }
-{
-    x as u64
-}
-
-// Whether a fact is that a content is present.
-fn is_content(kind: u8, first: u8, c: u64) -> bool
-    ensures { λ r. ⌜ r ≡ (eqb kind 0 && eqb first c) ⌝ }
-{
-    if kind != PRESENT {
-        return false;
-    }
-    wide(first) == c
-}
-
-// The place of the fact that a content is present, or the number of facts.
-fn place_of(facts: Facts, c: u64) -> u8
-    ensures { λ r. ⌜ Places facts c r ⌝ }
-{
-    let count = facts.count;
-    let mut i = 0;
-    while i < 8 {
-        if count <= i {
-            return i as u8;
-        }
-        if is_content(facts.kinds[i], facts.firsts[i], c) {
-            return i as u8;
-        }
-        i += 1;
-    }
-    NOWHERE
-}
-
-fn before_of(facts: Facts, i: usize) -> u8
-    requires { ⌜ i < 8 ⌝ }
-    ensures { λ r. ⌜ PlacesBefore facts i r ⌝ }
-{
-    if facts.count <= i {
-        return NOWHERE;
-    }
-    if facts.kinds[i] == ORDERED {
-        return place_of(facts, facts.seconds[i]);
-    }
-    NOWHERE
-}
-
-fn after_of(facts: Facts, i: usize) -> u8
-    requires { ⌜ i < 8 ⌝ }
-    ensures { λ r. ⌜ PlacesAfter facts i r ⌝ }
-{
-    if facts.count <= i {
-        return NOWHERE;
-    }
-    if facts.kinds[i] == ORDERED {
-        return place_of(facts, wide(facts.firsts[i]));
-    }
-    NOWHERE
-}
-
-fn befores_of(facts: Facts) -> [u8; 8]
-    ensures { λ r. ⌜ AllBefores facts r ⌝ }
-{
-    [
-        before_of(facts, 0),
-        before_of(facts, 1),
-        before_of(facts, 2),
-        before_of(facts, 3),
-        before_of(facts, 4),
-        before_of(facts, 5),
-        before_of(facts, 6),
-        before_of(facts, 7),
-    ]
-}
-
-fn afters_of(facts: Facts) -> [u8; 8]
-    ensures { λ r. ⌜ AllAfters facts r ⌝ }
-{
-    [
-        after_of(facts, 0),
-        after_of(facts, 1),
-        after_of(facts, 2),
-        after_of(facts, 3),
-        after_of(facts, 4),
-        after_of(facts, 5),
-        after_of(facts, 6),
-        after_of(facts, 7),
-    ]
-}
-
-// The reading of a clause's facts.
-pub fn facts_reading(facts: Facts) -> Reading
-    ensures { λ r. ⌜ KeepsFacts facts r ⌝ }
-{
-    Reading {
-        rooted: false,
-        root: 0,
-        facts,
-        befores: befores_of(facts),
-        afters: afters_of(facts),
-    }
-}
-
-// Whether a word is empty, the root alone, or other.
-pub fn root_reading(root: u8) -> Reading
-    ensures { λ r. ⌜ Reads r (rootReading root) ⌝ }
-{
-    Reading {
-        rooted: true,
-        root,
-        facts: vocabularies::no_facts(),
-        befores: [0u8; 8],
-        afters: [0u8; 8],
-    }
-}
-
-// The pattern of a word of one content.
-pub fn single(r: Reading, c: u8) -> u8
-    ensures { λ p. ⌜ ReadsOne r c p ⌝ }
-{
-    if r.rooted {
-        if c == r.root {
-            return ALONE;
-        }
-        return OTHER;
-    }
-    let facts = r.facts;
-    let place = place_of(facts, c as u64);
-    if place < 8 {
-        if (place as usize) < facts.count {
-            return 1u8 << place;
-        }
-    }
-    0
-}
-
-// The marks of a pattern at places, in their order.
-fn spread(x: u8, places: [u8; 8]) -> u8
-    ensures { λ r. ⌜ Spreads x places r ⌝ }
-{
-    let mut i: usize = 8;
-    let mut marks: u8 = 0;
-    while 0 < i {
-        i -= 1;
-        if sets::has(x as u64, places[i] % 64) {
-            marks = marks * 2 + 1;
-        } else {
-            marks = marks * 2;
-        }
-    }
-    marks
-}
-
-// The pattern of two words, one after the other.
-pub fn join(r: Reading, x: u8, y: u8) -> u8
-    ensures { λ z. ⌜ Joins r x y z ⌝ }
-{
-    if r.rooted {
-        if x == EMPTY {
-            return y;
-        }
-        if y == EMPTY {
-            return x;
-        }
-        return OTHER;
-    }
-    let befores = r.befores;
-    let afters = r.afters;
-    x | y | (spread(x, befores) & spread(y, afters))
-}
-
-// A set with the patterns of x joined with those of b.
-fn with_row(r: Reading, set: [u64; 4], x: u8, b: [u64; 4]) -> [u64; 4]
-    ensures { λ words. ⌜ AddsRow r set x b words ⌝ }
-{
-    let mut larger = set;
-    let mut at = next(b, 0);
-    while at < 256 {
-        let more = with(larger, join(r, x, at as u8));
-        larger = more;
-        at = next(b, at + 1);
-    }
-    larger
-}
-
-// The patterns of a word of the one set with a word of the other after it.
-pub fn product(r: Reading, a: [u64; 4], b: [u64; 4]) -> [u64; 4]
-    ensures { λ words. ⌜ Multiplies r a b words ⌝ }
-{
-    let mut set = empty();
-    let mut at = next(a, 0);
-    while at < 256 {
-        let more = with_row(r, set, at as u8, b);
-        set = more;
-        at = next(a, at + 1);
-    }
-    set
 }

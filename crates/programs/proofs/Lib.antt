@@ -1,6 +1,8 @@
 pub mod Agreement
-pub mod Statements
-pub mod Here
-pub mod Naming
-pub mod Reading
-pub mod Whole
+pub mod Ranges
+mod Statements
+mod Here
+mod Naming
+mod Reading
+mod Whole
+pub mod Laws

@@ -1,14 +1,14 @@
 -- The variables that a statement names, as a set.
-use Prim.Native.Nat.{ℕ, _+_, _<_, _≤_}
+use Prim.Native.Nat.{ℕ, _+_, _<_}
 use mathlib.Core.Path.{_≡_, refl, sym, ap, _∙_}
-use mathlib.Core.List.{List, _∷_}
-use mathlib.Core.Bool.{Bool, true, false, _&&_, _||_, or-false, or-assoc}
+use mathlib.Core.List.{List}
+use mathlib.Core.Bool.{Bool, true, false, _||_, or-false, or-assoc}
 use native.Mathlib.Omega.{arith}
 use lib.Dec.{eqb}
-use borrow.Author.Tests.{eq-eqb, ne-eqb, eqb-true, eqb-false, leb-true}
+use borrow.Author.Tests.{eq-eqb, ne-eqb, eqb-true, eqb-false}
 use Rattle.sets.specs.Sets.{member}
 use Rattle.sets.proofs.Laws.{member-zero}
-use Rattle.commands.specs.Commands.{Operand, gap, variable, width, byte, operandsOf, inRange, allInRange}
+use Rattle.commands.specs.Commands.{byte}
 use Rattle.programs.specs.Program.{Variable, templates, strings, stop, statementNames}
 use Rattle.programs.specs.ProgramReading.{statementRead}
 use Rattle.programs.proofs.Statements.{NoneOfThese, no-step}
@@ -34,42 +34,6 @@ adds-string y set r h = record { holds = adds }
     adds : (v : Variable) → IsVariable v → member r (numberOf v) ≡ (isString y v || member set (numberOf v))
     adds (templates k) t = h k ∙ rw (ne-eqb k (4 + y) (λ e. omega arith))
     adds (strings k) t = h (4 + k) ∙ rw (same-shifted k y)
-
--- A variable among the operands is low.
-and-first : (a b : Bool) → (a && b) ≡ true → a ≡ true
-and-first true b e = refl
-and-first false b e = e
-
-and-second : (a b : Bool) → (a && b) ≡ true → b ≡ true
-and-second true b e = e
-and-second false b e = absurd (let z : _≡_ {A = ℕ} 0 1 = cc in omega arith)
-
-in-first : (o : Operand) (os : List Operand) (s : List ℕ) (i : ℕ) → allInRange (o ∷ os) s i ≡ true → inRange o s i ≡ true
-unfolding allInRange
-in-first o os s i e = and-first (inRange o s i) (allInRange os s (i + width o)) e
-
-in-rest : (o : Operand) (os : List Operand) (s : List ℕ) (i : ℕ) → allInRange (o ∷ os) s i ≡ true → allInRange os s (i + width o) ≡ true
-unfolding allInRange
-in-rest o os s i e = and-second (inRange o s i) (allInRange os s (i + width o)) e
-
-low : (os : List Operand) (s : List ℕ) (i a : ℕ) → allInRange (variable ∷ os) s i ≡ true → a ≡ byte s i → a < 4
-unfolding inRange
-low os s i a e h = let l : byte s i ≤ 3 = leb-true _ _ (in-first variable os s i e) in omega arith
-
-module _ (s : List ℕ) (at code k a : ℕ) (ranges : allInRange (operandsOf code) s (at + 1) ≡ true) (key : code ≡ k) (os : List Operand) where
-  pub first-low : operandsOf k ≡ variable ∷ os → a ≡ byte s (at + 1) → a < 4
-  first-low e h = low os s (at + 1) a (rw (key, e) at ranges) h
-
-  pub second-low : operandsOf k ≡ variable ∷ variable ∷ os → a ≡ byte s (at + 2) → a < 4
-  second-low e h =
-      let i : at + 1 + 1 ≡ at + 2 = omega arith in
-      low os s (at + 2) a (rw i at (in-rest variable (variable ∷ os) s (at + 1) (rw (key, e) at ranges))) h
-
-  pub fourth-low : operandsOf k ≡ variable ∷ variable ∷ gap ∷ variable ∷ os → a ≡ byte s (at + 4) → a < 4
-  fourth-low e h =
-      let i : at + 1 + 1 + 1 + 1 ≡ at + 4 = omega arith in
-      let third = in-rest variable (gap ∷ variable ∷ os) s (at + 1 + 1) (in-rest variable (variable ∷ gap ∷ variable ∷ os) s (at + 1) (rw (key, e) at ranges)) in
-      low os s (at + 4) a (rw i at (in-rest gap (variable ∷ os) s (at + 1 + 1 + 1) third)) h
 
 -- One, two and three variables, added to the empty set.
 module _ (names p : Variable → Bool) (r : ℕ) where

@@ -7,7 +7,7 @@ use native.Mathlib.Omega.{arith}
 use lib.ListN.{length, getD, set, replicate}
 use lib.Seq.{getD-set-same, getD-set-other}
 use lib.Dec.{eqb, leb, ltb}
-use borrow.Author.Tests.{eq-eqb, ne-eqb, eqb-true, eqb-false, ltb-true, ltb-false, leb-true}
+use borrow.Author.Tests.{eq-eqb, ne-eqb, eqb-true, eqb-false, ltb-true, ltb-false}
 use Rattle.verdicts.specs.declared.Form.{Form}
 use Rattle.verdicts.specs.declared.Form.the-variants.{NotRising, Missing}
 use Rattle.commands.specs.declared.Context.{Context}
@@ -17,13 +17,13 @@ use Rattle.commands.specs.declared.Decoded.{Decoded}
 use Rattle.commands.specs.declared.Decoded.the-variants.{Moved, Refused}
 use Rattle.commands.specs.declared.Part.{Part}
 use Rattle.commands.specs.declared.Part.the-variants as Parts
-use Rattle.commands.specs.Commands.{byte, allowed, command, operandsOf, inRange, allInRange}
+use Rattle.commands.specs.Commands.{byte, allowed, command, operandsOf}
 use Rattle.commands.specs.Reading.{Read, whole, refused, andThen, onDecoded, when, enough}
 use Rattle.commands.specs.Parts.{AgreesAs, Enough}
 use Rattle.commands.proofs.Laws.{MovedOver, moved}
 use Rattle.vocabularies.specs.Promises.{partOf}
 use Rattle.programs.specs.Program.{templates, strings}
-use Rattle.programs.proofs.Agreement.{WholeAs, agrees-map, agrees-whole, agrees-refused, enough-enough, enough-after, fewer-left, Stay}
+use Rattle.programs.proofs.Laws.{nth, entry-low, WholeAs, agrees-map, agrees-whole, agrees-refused, enough-enough, enough-after, fewer-left, Stay}
 use Rattle.summaries.specs.declared.ProposalRead.{ProposalRead}
 use Rattle.summaries.specs.Proposal.{Fact, Head}
 use Rattle.summaries.specs.ProposalReading.{facts, variableOf, factContext, proposal}
@@ -156,10 +156,6 @@ either-is a b c true u e e′ h n = eqb-true c a e
 either-is a b c false true e e′ h n = absurd (n (eqb-true c b e′))
 either-is a b c false false e e′ h n = absurd (let z : _≡_ {A = ℕ} 0 1 = cc in omega arith)
 
-second-true : (a b : Bool) → (true && (a && b)) ≡ true → a ≡ true
-second-true true b e = refl
-second-true false b e = e
-
 module _ (points : ℕ) (s : List ℕ) (least at code : ℕ) (next : Position) (m : HeadStands points s least at code next) (on : code ≡ 0x4F → ⊥) where
   over : MovedOver Heads s at code next
   over = moved Heads s at code next (m .read)
@@ -168,13 +164,9 @@ module _ (points : ℕ) (s : List ℕ) (least at code : ℕ) (next : Position) (
   unfolding allowed
   is-head = either-is 0x40 0x4F (byte s at) (eqb (byte s at) 0x40) (eqb (byte s at) 0x4F) refl refl (over .permitted) (λ q. on (over .first ∙ q))
 
-  pub entry-low : byte s (at + 2) < 8
-  unfolding operandsOf allInRange inRange
-  entry-low =
-      let i : at + 1 + 1 ≡ at + 2 = omega arith in
-      let l : byte s (at + 1 + 1) ≤ 7 = leb-true _ _ (second-true (leb (byte s (at + 1 + 1)) 7) true (rw is-head at (over .ranges))) in
-      let l′ : byte s (at + 2) ≤ 7 = rw i at l in
-      omega arith
+  pub variable-there : byte s (at + 2) < 8
+  unfolding operandsOf nth
+  variable-there = entry-low s at (byte s at) 0x40 1 2 (byte s (at + 2)) (over .ranges) is-head refl refl refl
 
 -- What stands under the first head, and under the others.
 module _ (p a : ℕ) (φs : List Fact) (hs : List Head) (la : a < 8) (q b : ℕ) (lb : b < 8) where
@@ -259,7 +251,7 @@ module _ (count points : ℕ) (s : List ℕ) (least at : ℕ) (d : Decoded) (cod
       kept-more : (φs : List Fact) → ((f : ℕ) → Enough s (next .at) f → (end : ℕ) × (facts f context count s 0 (next .at) ≡ whole φs end))
           → (hs : List Head) → Kept count s (n + 1) (r .heads) hs → Kept count s least (r .heads) (made count points s least at φs ∷ hs)
       kept-more φs stand hs K =
-          kept-first count s least (byte s (at + 1)) (byte s (at + 2)) (next .at) φs hs (r .heads) (entry-low points s least at code next m on) (m .rises)
+          kept-first count s least (byte s (at + 1)) (byte s (at + 2)) (next .at) φs hs (r .heads) (variable-there points s least at code next m on) (m .rises)
           (rw n-is at here) (let l = over points s least at code next m on .forward in omega arith)
           (λ k l h. passed k l (omega arith)) stand (rw n-is at K)
 
@@ -277,4 +269,4 @@ module _ (count points : ℕ) (s : List ℕ) (least at : ℕ) (d : Decoded) (cod
 
 pub number-low : (points : ℕ) (s : List ℕ) (least at code : ℕ) (next : Position) (n : ℕ) → HeadStands points s least at code next → (code ≡ 0x4F → ⊥) → points ≤ 32
     → n ≡ byte s (at + 1) * 8 + byte s (at + 2) → n < 256
-number-low points s least at code next n m on l e = let h = m .there in let h′ = entry-low points s least at code next m on in omega arith
+number-low points s least at code next n m on l e = let h = m .there in let h′ = variable-there points s least at code next m on in omega arith

@@ -1,4 +1,5 @@
-pub mod Items
+mod Items
 pub mod Here
 pub mod Reading
-pub mod Heads
+mod Heads
+pub mod Laws

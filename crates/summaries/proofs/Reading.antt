@@ -18,8 +18,9 @@ use Rattle.commands.specs.declared.Part.the-variants as Parts
 use Rattle.commands.specs.Commands.{byte, allowed, command}
 use Rattle.commands.specs.Reading.{Read, whole, refused, andThen, onDecoded, when}
 use Rattle.commands.specs.Parts.{Enough}
+use Rattle.commands.proofs.Laws.{andThen-whole, onDecoded-whole}
 use Rattle.vocabularies.specs.Promises.{partOf}
-use Rattle.programs.proofs.Agreement.{agrees-map, enough-after, fewer-left}
+use Rattle.programs.proofs.Laws.{agrees-map, enough-after, fewer-left}
 use Rattle.summaries.specs.Proposal.{Fact}
 use Rattle.summaries.specs.ProposalReading.{factAt, factThere, rank, facts}
 use Rattle.summaries.specs.Promises.{Ranked, testedFact, factHere, FactsRead}
@@ -94,3 +95,44 @@ facts-same x count s least at (suc f) (suc g) h h′ =
     (same-here x count s least at f g (factHere x count s least at) refl λ code next m.
     facts-same x count s (rank s at code + 1) (next .at) f g (enough-after x s at code next (m .read) f h) (enough-after x s at code next (m .read) g h′)))
     ∙ sym (reads-here x count s least at g)
+
+-- Items that were read whole: there is none, or there is a first, and the rest is read on.
+pub record FirstFact (x : Context) (count : ℕ) (s : List ℕ) (least at f : ℕ) (φs : List Fact) (end : ℕ) : Type 0 where
+  pub code : ℕ
+  pub next : Position
+  pub fuel : ℕ
+  pub rest : List Fact
+  pub fuel-is : f ≡ suc fuel
+  pub stands : FactStands x count s least at code next
+  pub is : φs ≡ factAt s at code ∷ rest
+  pub more : facts fuel x count s (rank s at code + 1) (next .at) ≡ whole rest end
+
+module _ (x : Context) (count : ℕ) (s : List ℕ) (least at : ℕ) (φs : List Fact) (end : ℕ) where
+  out-of-fuel : {A : Type 0} → facts zero x count s least at ≡ whole φs end → A
+  unfolding facts
+  out-of-fuel e = absurd (let z : _≡_ {A = ℕ} 0 1 = cc in omega arith)
+
+  pub no-fact : (f : ℕ) → facts f x count s least at ≡ whole φs end → allowed x (byte s at) ≡ false → (φs ≡ []) × (end ≡ at)
+  no-fact zero e n = out-of-fuel e
+  no-fact (suc f) e n =
+      let q : whole [] at ≡ whole φs end = sym (reads-here x count s least at f ∙ rw n) ∙ e in
+      (cc, cc)
+
+  pub first-fact : (f : ℕ) → facts f x count s least at ≡ whole φs end → allowed x (byte s at) ≡ true → FirstFact x count s least at f φs end
+  first-fact zero e a = out-of-fuel e
+  first-fact (suc f) e a =
+      let here : onFact x count s least at f (factHere x count s least at) ≡ whole φs end = sym (reads-here x count s least at f ∙ rw a) ∙ e in
+      let d = onDecoded-whole (factHere x count s least at) _ φs end here in
+      let m = andThen-whole (facts f x count s (rank s at (d .0) + 1) (d .1 .at)) (λ φs end. whole (factAt s at (d .0) ∷ φs) end) φs end (d .3) in
+      let q : whole (factAt s at (d .0) ∷ m .0) (m .1) ≡ whole φs end = m .3 in
+      let same : m .1 ≡ end = cc in
+      record {
+        code = d .0;
+        next = d .1;
+        fuel = f;
+        rest = m .0;
+        fuel-is = refl;
+        stands = fact-stands x count s least at (factHere x count s least at) (d .0) (d .1) refl (d .2);
+        is = cc;
+        more = rw same at (m .2);
+      }

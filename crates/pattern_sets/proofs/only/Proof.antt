@@ -3,7 +3,7 @@ use mathlib.Core.Path.{_∙_, ap}
 use mathlib.Core.Bool.{Bool, _||_}
 use lib.Dec.{eqb}
 use borrow.Author.Needs.{needs}
-use Rattle.pattern_sets.proofs.Laws.{or-absent}
+use Rattle.pattern_sets.proofs.Booleans.{or-absent}
 use Rattle.pattern_sets.proofs.only.Statement.{statement}
 use Rattle.pattern_sets.proofs.only.Tie as tie
 

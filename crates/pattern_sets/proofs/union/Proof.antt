@@ -1,5 +1,7 @@
 -- Each word is the union of two words.
-use Rattle.pattern_sets.proofs.Laws.{union-pattern}
+use Rattle.pattern_sets.proofs.Laws.{pattern-by-pattern}
+use mathlib.Core.Path.{refl}
+use mathlib.Core.Bool.{_||_}
 use borrow.Author.Needs.{needs}
 use Rattle.pattern_sets.proofs.union.Statement.{statement}
 use Rattle.pattern_sets.proofs.union.Tie as tie
@@ -41,7 +43,10 @@ union-requires-4 : tie.Need-union-requires-4
 union-requires-4 c κs = search needs
 
 returns : tie.Need-returns
-returns c = union-pattern (c .before .before .before .before .args .t1) (c .before .before .before .before .args .t2) (search needs) (search needs) _ _ _ _ (c .before .before .before .union .ensures) (c .before .before .union2 .ensures) (c .before .union3 .ensures) (c .union4 .ensures)
+returns c =
+    pattern-by-pattern _||_ refl (c .before .before .before .before .args .t1) (c .before .before .before .before .args .t2)
+    (search needs) (search needs) _ _ _ _
+    (c .before .before .before .union .ensures) (c .before .before .union2 .ensures) (c .before .union3 .ensures) (c .union4 .ensures)
 
 pub union-spec : {M : Type 1} → statement M
 union-spec =

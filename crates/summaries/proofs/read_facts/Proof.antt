@@ -5,7 +5,7 @@ use lib.ListN.{length}
 use borrow.Author.Needs.{needs}
 use Rattle.commands.specs.declared.Part.{Part}
 use Rattle.summaries.specs.Promises.{FactsRead}
-use Rattle.programs.proofs.Agreement.{fewer-left}
+use Rattle.programs.proofs.Laws.{fewer-left}
 use Rattle.summaries.proofs.Here.{FactStands, fact-stands}
 use Rattle.summaries.proofs.Reading.{facts-end, facts-refused, facts-go-on}
 use Rattle.summaries.proofs.read_facts.Statement.{statement}

@@ -4,7 +4,7 @@ use mathlib.Core.Path.{_≡_, refl}
 use native.Mathlib.Omega.{arith}
 use lib.ListN.{length, length-set}
 use borrow.Author.Needs.{needs}
-use Rattle.programs.proofs.Agreement.{Stay, stay-below}
+use Rattle.programs.proofs.Laws.{Stay, stay-below}
 use Rattle.summaries.specs.declared.ProposalRead.{ProposalRead}
 use Rattle.summaries.specs.Promises.{ProposalReads}
 use Rattle.summaries.proofs.Here.{HeadStands, head-stands}

@@ -1,0 +1,249 @@
+-- The operations of a reading as the code works them out.
+use Prim.Native.Nat.{ℕ, zero, suc, _+_, _*_, _%_, _^_, _<_, _≤_}
+use mathlib.Core.Path.{_≡_, refl, sym, ap, _∙_}
+use mathlib.Core.List.{List, [], _∷_}
+use mathlib.Core.Bool.{Bool, true, false, cond, _&&_, _||_, and-false, and-comm, or-false, or-comm, false≢true}
+use native.Mathlib.Omega.{arith}
+use lib.ListN.{length, getD, List·getD-eq-default}
+use lib.Bits.{bitAnd, bitOr}
+use lib.Dec.{eqb, ltb, lit<}
+use lib.Pow.{pow-mono, pow-lt, shl-exact}
+use borrow.Author.Tests.{eq-eqb, ne-eqb, ltb-true, ltb-false}
+use Rattle.sets.specs.Sets.{member}
+use Rattle.sets.proofs.Laws.{member-and, member-or, member-zero, member-high, member-single}
+use Rattle.vocabularies.specs.Vocabulary.{isIn}
+use Rattle.vocabularies.specs.Facts.{Fact, present, ordered, valued, sameFact}
+use Rattle.judging.specs.Judgement.{precedes, holdsValue}
+use Rattle.patterns.specs.Patterns.{flagged, numbered, patternOf, flagIn, joinedFlag, join}
+use Rattle.patterns.specs.Morphisms as Morphisms
+use Rattle.patterns.specs.Morphisms.{factMorphism, rootMorphism, kindOf, joinKinds}
+use Rattle.patterns.proofs.Clauses.{numbered-below}
+use Rattle.patterns.proofs.Bits.{pattern-of-nothing}
+use Rattle.readings.specs.declared.Reading.{Reading}
+use Rattle.readings.specs.Readings.{Distinct, placeOf, beforeOf, afterOf, ReadsFacts, Reads, of-facts, of-root}
+use Rattle.readings.specs.Promises.{OfReading, ReadsOne, Joins, Spreads, Places}
+use Rattle.pattern_sets.specs.Images.{flagAt, joinedBy, Apart}
+use Rattle.pattern_sets.proofs.Booleans.{or-absent}
+use Rattle.pattern_sets.proofs.Flags.{pattern-below, pattern-bit, pattern-high, pattern-is, pattern-same}
+use Rattle.readings.proofs.Numbers.{numbered-is}
+use Rattle.readings.proofs.FactPlaces.{flag-placed, fact-placed, place-le, place-at, same-place}
+use Rattle.readings.proofs.Placing.{few-count, content-written}
+
+-- ---- the facts of a clause
+
+module _ (fs : List Fact) (few : length fs ≤ 8) where
+  -- No pattern has a flag at 8.
+  pub nowhere : (x : ℕ) → x < 2 ^ length fs → member x 8 ≡ false
+  nowhere x h = member-high (length fs) x 8 h few
+
+  module _ (x y : ℕ) (p : x < 2 ^ length fs) (q : y < 2 ^ length fs) where
+    alone : (f : Fact) → ((flagIn fs x f || flagIn fs y f) || (member x 8 && member y 8)) ≡ (flagIn fs x f || flagIn fs y f)
+    alone f = or-absent (flagIn fs x f || flagIn fs y f) (ap (λ (b : Bool). b && member y 8) (nowhere x p))
+
+    joined-by : (f : Fact) → ((flagIn fs x f || flagIn fs y f) || (member x (beforeOf fs f) && member y (afterOf fs f))) ≡ joinedFlag fs x y f
+    joined-by (present c) = alone (present c)
+    joined-by (ordered c d) = rw (flag-placed fs (present d) x p, flag-placed fs (present c) y q)
+    joined-by (valued a m) = alone (valued a m)
+
+    -- The flag of a fact at its place.
+    pub joined-at : (f : Fact) (i : ℕ) → placeOf f fs ≡ i
+        → ((member x i || member y i) || (member x (beforeOf fs f) && member y (afterOf fs f))) ≡ joinedFlag fs x y f
+    joined-at f i e =
+        let left : flagIn fs x f ≡ member x i = flag-placed fs f x p ∙ ap (member x) e in
+        let right : flagIn fs y f ≡ member y i = flag-placed fs f y q ∙ ap (member y) e in
+        rw (← left, ← right) (joined-by f)
+
+before-small : (fs : List Fact) → length fs ≤ 8 → (f : Fact) → beforeOf fs f ≤ 8
+before-small fs few (present c) = omega arith
+before-small fs few (ordered c d) = omega (arith, place-le fs (present d))
+before-small fs few (valued a m) = omega arith
+
+after-small : (fs : List Fact) → length fs ≤ 8 → (f : Fact) → afterOf fs f ≤ 8
+after-small fs few (present c) = omega arith
+after-small fs few (ordered c d) = omega (arith, place-le fs (present c))
+after-small fs few (valued a m) = omega arith
+
+-- In a word of one content no pair is broken.
+one-flag : (c : ℕ) (f : Fact) → flagged [] (c ∷ []) f ≡ sameFact f (present c)
+unfolding isIn precedes holdsValue
+one-flag c (present c′) = or-false (eqb c′ c)
+one-flag c (ordered c′ d′) = rw (and-false (eqb c d′))
+one-flag c (valued a m) = refl
+
+-- What only pairs have is absent at a content's place.
+content-alone : (fs : List Fact) (of : Fact → ℕ) → ((c : ℕ) → of (present c) ≡ 8) → (c : ℕ) → of (getD fs (placeOf (present c) fs) (present 0)) ≡ 8
+content-alone fs of alone c = go (ltb (placeOf (present c) fs) (length fs)) refl
+  where
+    go : (t : Bool) → ltb (placeOf (present c) fs) (length fs) ≡ t → of (getD fs (placeOf (present c) fs) (present 0)) ≡ 8
+    go true e = ap of (fact-placed fs (present c) (ltb-true (placeOf (present c) fs) (length fs) e)) ∙ alone c
+    go false e = ap of (List·getD-eq-default fs (present 0) (ltb-false (placeOf (present c) fs) (length fs) e)) ∙ alone 0
+
+module _ (r : Reading) (fs : List Fact) (h : ReadsFacts r fs) where
+  -- The pattern whose one flag is at a content's place.
+  placed-one : (c p : ℕ) → p < 2 ^ 8 → ((i : ℕ) → member p i ≡ eqb i (placeOf (present c) fs)) → placeOf (present c) fs < length fs
+      → p ≡ patternOf fs [] (c ∷ [])
+  unfolding patternOf
+  placed-one c p b at here = numbered-is fs (flagged [] (c ∷ [])) p (h .few) b
+      (λ i l. at i ∙ sym (one-flag c (getD fs i (present 0)) ∙ same-place fs (h .distinct) (present c) i l))
+      (λ i l. at i ∙ ne-eqb i (placeOf (present c) fs) (λ e. omega arith))
+
+  pub single-flag : (c place : ℕ) → place < 8 → place < r .facts .count → Places (r .facts) 0 c 0 place → (1 * 2 ^ place) % 2 ^ 8 ≡ patternOf fs [] (c ∷ [])
+  single-flag c place b l p =
+      let e : place ≡ placeOf (present c) fs = p .place fs (h .represents) (h .few) (present c) (content-written c) in
+      let n : r .facts .count ≡ length fs = few-count (r .facts) fs (h .represents) (h .few) in
+      let s : (1 * 2 ^ place) % 2 ^ 8 ≡ 1 * 2 ^ place = shl-exact {a = 1} 1 place 8 (lit< tt) (omega arith) in
+      let m : 2 ^ place < 2 ^ 8 = pow-lt b in
+      placed-one c ((1 * 2 ^ place) % 2 ^ 8) (omega arith)
+      (λ i. ap (λ (n : ℕ). member n i) s ∙ member-single place i ∙ ap (eqb i) e)
+      (omega arith)
+
+  pub single-none : (c place : ℕ) → length fs ≤ place → Places (r .facts) 0 c 0 place → 0 ≡ patternOf fs [] (c ∷ [])
+  unfolding patternOf
+  single-none c place l p = numbered-is fs (flagged [] (c ∷ [])) 0 (h .few) (omega arith)
+      (λ i b. member-zero i ∙ sym (one-flag c (getD fs i (present 0)) ∙ same-place fs (h .distinct) (present c) i b ∙ other i b))
+      (λ i b. member-zero i)
+    where
+      other : (i : ℕ) → i < length fs → eqb i (placeOf (present c) fs) ≡ false
+      other i b =
+          let e : place ≡ placeOf (present c) fs = p .place fs (h .represents) (h .few) (present c) (content-written c) in
+          ne-eqb i (placeOf (present c) fs) (λ q. omega arith)
+
+  module _ (x y : ℕ) (p : x < 2 ^ length fs) (q : y < 2 ^ length fs) where
+    -- A flag of the patterns joined by the places that are kept.
+    joined-flag : (i : ℕ) → i < 8 → ((member x i || member y i) || (flagAt x (r .befores) i && flagAt y (r .afters) i))
+        ≡ ((member x i || member y i) || (member x (beforeOf fs (getD fs i (present 0))) && member y (afterOf fs (getD fs i (present 0)))))
+    joined-flag i b =
+        let f = getD fs i (present 0) in
+        let left : getD (r .befores) i 0 % 64 ≡ beforeOf fs f = (let e = h .befores i b in let l = before-small fs (h .few) f in omega arith) in
+        let right : getD (r .afters) i 0 % 64 ≡ afterOf fs f = (let e = h .afters i b in let l = after-small fs (h .few) f in omega arith) in
+        rw (left, right)
+
+    pub joined-op : joinedBy (r .befores) (r .afters) x y ≡ join fs x y
+    unfolding join
+    joined-op = numbered-is fs (joinedFlag fs x y) (joinedBy (r .befores) (r .afters) x y) (h .few) (pattern-below flags)
+        (λ i l. let b : i < 8 = omega (arith, h .few) in
+        pattern-bit flags i b ∙ joined-flag i b ∙ joined-at fs (h .few) x y p q (getD fs i (present 0)) i (place-at fs (h .distinct) i l))
+        (λ i l. rest i l (ltb i 8) refl)
+      where
+        flags : ℕ → Bool
+        flags j = (member x j || member y j) || (flagAt x (r .befores) j && flagAt y (r .afters) j)
+
+        rest : (i : ℕ) → length fs ≤ i → (t : Bool) → ltb i 8 ≡ t → member (joinedBy (r .befores) (r .afters) x y) i ≡ false
+        rest i l true e =
+            let g : getD fs i (present 0) ≡ present 0 = List·getD-eq-default fs (present 0) l in
+            let b : i < 8 = ltb-true i 8 e in
+            pattern-bit flags i b ∙ joined-flag i b
+            ∙ rw (g, member-high (length fs) x i p l, member-high (length fs) y i q l, nowhere fs (h .few) x p)
+        rest i l false e = pattern-high flags i (ltb-false i 8 e)
+
+    pub joined-spread : (sx sy : ℕ) → Spreads x (r .befores) sx → Spreads y (r .afters) sy → bitOr (bitOr x y) (bitAnd sx sy) < 2 ^ 8
+        → bitOr (bitOr x y) (bitAnd sx sy) ≡ join fs x y
+    joined-spread sx sy ex ey b =
+        sym (pattern-is (λ j. (member x j || member y j) || (flagAt x (r .befores) j && flagAt y (r .afters) j)) (bitOr (bitOr x y) (bitAnd sx sy)) b
+        (λ i l. rw (member-or (bitOr x y) (bitAnd sx sy) i, member-or x y i, member-and sx sy i, ex i l, ey i l)))
+        ∙ joined-op
+
+    -- The places may change sides with the words.
+    pub joined-turned : joinedBy (r .afters) (r .befores) y x ≡ joinedBy (r .befores) (r .afters) x y
+    joined-turned = pattern-same
+        (λ j. (member y j || member x j) || (flagAt y (r .afters) j && flagAt x (r .befores) j))
+        (λ j. (member x j || member y j) || (flagAt x (r .befores) j && flagAt y (r .afters) j))
+        (λ j l. rw (or-comm (member y j) (member x j), and-comm (flagAt y (r .afters) j) (flagAt x (r .befores) j)))
+
+  -- The contents of a pair are no pairs themselves.
+  before-content : (f : Fact) (p : ℕ) → p ≡ afterOf fs f → p < 8 → getD (r .befores) p 0 ≡ 8
+  before-content (present c) p e l = absurd (omega arith)
+  before-content (ordered c d) p e l = h .befores p l ∙ ap (λ (k : ℕ). beforeOf fs (getD fs k (present 0))) e ∙ content-alone fs (beforeOf fs) (λ c. refl) c
+  before-content (valued a m) p e l = absurd (omega arith)
+
+  after-content : (f : Fact) (p : ℕ) → p ≡ beforeOf fs f → p < 8 → getD (r .afters) p 0 ≡ 8
+  after-content (present c) p e l = absurd (omega arith)
+  after-content (ordered c d) p e l = h .afters p l ∙ ap (λ (k : ℕ). afterOf fs (getD fs k (present 0))) e ∙ content-alone fs (afterOf fs) (λ c. refl) d
+  after-content (valued a m) p e l = absurd (omega arith)
+
+  pub apart-left : (x : ℕ) → x < 2 ^ length fs → Apart x (r .befores) (r .afters)
+  apart-left x b j l k =
+      let f = getD fs j (present 0) in
+      let e : getD (r .afters) j 0 % 64 ≡ afterOf fs f = (let q = h .afters j l in let s = after-small fs (h .few) f in omega arith) in
+      rw (before-content f (getD (r .afters) j 0 % 64) e k) (nowhere fs (h .few) x b)
+
+  pub apart-right : (y : ℕ) → y < 2 ^ length fs → Apart y (r .afters) (r .befores)
+  apart-right y b j l k =
+      let f = getD fs j (present 0) in
+      let e : getD (r .befores) j 0 % 64 ≡ beforeOf fs f = (let q = h .befores j l in let s = before-small fs (h .few) f in omega arith) in
+      rw (after-content f (getD (r .befores) j 0 % 64) e k) (nowhere fs (h .few) y b)
+
+-- ---- whether a word is the root alone
+
+module _ (r : Reading) (rooted : r .rooted ≡ true) where
+  not-facts : {fs : List Fact} → ReadsFacts r fs → ⊥
+  not-facts h = false≢true (sym (h .not-rooted) ∙ rooted)
+
+  pub single-alone : (c : ℕ) → c ≡ r .root → ReadsOne r c 1
+  unfolding kindOf
+  single-alone c e R (of-facts h) = absurd (not-facts h)
+  single-alone c e R (of-root t) = sym (ap (λ (b : Bool). cond b 1 2) (eq-eqb c (r .root) e))
+
+  pub single-other : (c : ℕ) → (c ≡ r .root → ⊥) → ReadsOne r c 2
+  unfolding kindOf
+  single-other c n R (of-facts h) = absurd (not-facts h)
+  single-other c n R (of-root t) = sym (ap (λ (b : Bool). cond b 1 2) (ne-eqb c (r .root) n))
+
+  pub joins-right : (x y : ℕ) → x ≡ 0 → Joins r x y y
+  joins-right x y e R (of-facts h) p q = absurd (not-facts h)
+  joins-right x y e R (of-root t) p q = rw (eq-eqb x 0 e)
+
+  pub joins-left : (x y : ℕ) → (x ≡ 0 → ⊥) → y ≡ 0 → Joins r x y x
+  joins-left x y n e R (of-facts h) p q = absurd (not-facts h)
+  joins-left x y n e R (of-root t) p q = rw (ne-eqb x 0 n, eq-eqb y 0 e)
+
+  pub joins-other : (x y : ℕ) → (x ≡ 0 → ⊥) → (y ≡ 0 → ⊥) → Joins r x y 2
+  joins-other x y n m R (of-facts h) p q = absurd (not-facts h)
+  joins-other x y n m R (of-root t) p q = rw (ne-eqb x 0 n, ne-eqb y 0 m)
+
+-- ---- any of the two
+
+module _ (r : Reading) (plain : r .rooted ≡ false) where
+  not-root : r .rooted ≡ true → ⊥
+  not-root e = false≢true (sym plain ∙ e)
+
+  pub single-found : (c place : ℕ) → place < 8 → place < r .facts .count → Places (r .facts) 0 c 0 place → ReadsOne r c ((1 * 2 ^ place) % 2 ^ 8)
+  single-found c place b l p R (of-facts {fs} h) = single-flag r fs h c place b l p
+  single-found c place b l p R (of-root e) = absurd (not-root e)
+
+  pub single-absent : (c place : ℕ) → r .facts .count ≤ place → Places (r .facts) 0 c 0 place → ReadsOne r c 0
+  single-absent c place l p R (of-facts {fs} h) =
+      let n : r .facts .count ≡ length fs = few-count (r .facts) fs (h .represents) (h .few) in
+      single-none r fs h c place (omega arith) p
+  single-absent c place l p R (of-root e) = absurd (not-root e)
+
+  pub single-nowhere : (c place : ℕ) → 8 ≤ place → Places (r .facts) 0 c 0 place → ReadsOne r c 0
+  single-nowhere c place l p R (of-facts {fs} h) = single-none r fs h c place (omega (arith, h .few)) p
+  single-nowhere c place l p R (of-root e) = absurd (not-root e)
+
+  pub joins-flags : (x y sx sy : ℕ) → Spreads x (r .befores) sx → Spreads y (r .afters) sy → bitOr (bitOr x y) (bitAnd sx sy) < 2 ^ 8
+      → Joins r x y (bitOr (bitOr x y) (bitAnd sx sy))
+  joins-flags x y sx sy ex ey b R (of-facts {fs} h) p q = joined-spread r fs h x y p q sx sy ex ey b
+  joins-flags x y sx sy ex ey b R (of-root e) p q = absurd (not-root e)
+
+-- What a morphism has that is read.
+module _ {r : Reading} where
+  pub size-most : {R : Morphisms.Morphism} → Reads r R → R .size ≤ 256
+  size-most (of-facts {fs} h) = pow-mono (h .few)
+  size-most (of-root e) = omega arith
+
+  pub joined-below : {R : Morphisms.Morphism} → Reads r R → (x y : ℕ) → x < R .size → y < R .size → R .op x y < R .size
+  unfolding join
+  joined-below (of-facts {fs} h) x y p q = numbered-below fs (joinedFlag fs x y)
+  joined-below (of-root e) x y p q = go (eqb x 0) (eqb y 0)
+    where
+      go : (a b : Bool) → cond a y (cond b x 2) < 3
+      go true b = q
+      go false true = p
+      go false false = omega arith
+
+  -- The word of no contents has the pattern 0.
+  pub empty-pattern : {R : Morphisms.Morphism} → Reads r R → R .of [] ≡ 0
+  unfolding kindOf
+  empty-pattern (of-facts {fs} h) = pattern-of-nothing fs
+  empty-pattern (of-root e) = refl

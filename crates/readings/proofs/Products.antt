@@ -1,0 +1,116 @@
+-- Sets whose patterns are joined are the product.
+use Prim.Native.Nat.{ℕ, _^_, _<_, _≤_}
+use mathlib.Core.Path.{_≡_, refl, sym, ap, subst, _∙_}
+use mathlib.Core.List.{List}
+use mathlib.Core.Bool.{Bool, true, false, _&&_, _||_, false≢true}
+use mathlib.Core.Logic.{_⊎_, inl, inr, ⊎-elim}
+use native.Mathlib.Omega.{arith}
+use lib.ListN.{length}
+use lib.Dec.{eqb, ltb}
+use borrow.Author.Tests.{eq-eqb, eqb-true, ltb-true, ltb-false}
+use Rattle.vocabularies.specs.Facts.{Fact}
+use Rattle.patterns.specs.Patterns.{join}
+use Rattle.patterns.specs.Morphisms as Morphisms
+use Rattle.patterns.specs.Morphisms.{factMorphism, joinKinds}
+use Rattle.patterns.specs.Rounds.{Set, anyBelow, product}
+use Rattle.patterns.proofs.Tests.{or-left, or-right, or-cases, and-both, and-left, and-right, same-test, failed, any-below, below-any}
+use Rattle.readings.specs.declared.Reading.{Reading}
+use Rattle.pattern_sets.specs.PatternSets.{holds, First}
+use Rattle.pattern_sets.specs.Images.{joinedBy, Apart, Joined}
+use Rattle.readings.specs.Readings.{ReadsFacts, Reads, of-facts, of-root, Is}
+use Rattle.readings.specs.Promises.{Below, Multiplies}
+use Rattle.readings.proofs.Joining.{joined-op, joined-turned, apart-left, apart-right, joined-below}
+
+held-below : {R : Morphisms.Morphism} (words : List ℕ) (S : Set) → Is R words S → Below R words
+held-below {R} words S is x h = go (ltb x (R .size)) refl
+  where
+    go : (t : Bool) → ltb x (R .size) ≡ t → x < R .size
+    go true e = ltb-true x (R .size) e
+    go false e = absurd (false≢true (sym (is .outside x (ltb-false x (R .size) e)) ∙ h))
+
+module _ {r : Reading} {R : Morphisms.Morphism} (reads : Reads r R) (a b : List ℕ) (A B : Set) (is-a : Is R a A) (is-b : Is R b B) where
+  pub below-left : Below R a
+  below-left = held-below a A is-a
+
+  pub below-right : Below R b
+  below-right = held-below b B is-b
+
+  pub joined-product : (words : List ℕ) → Joined (R .op) a b words → Is R words (product R A B)
+  joined-product words joined = record {
+    inside = λ z h. same-test (holds words z) (product R A B z) (λ e. into z (joined .sound z e)) (out z);
+    outside = λ z h. failed (holds words z) (λ e. too-large z h (joined .sound z e));
+  }
+    where
+      into : (z : ℕ) → (x : ℕ) × (y : ℕ) × (holds a x ≡ true) × (holds b y ≡ true) × (R .op x y ≡ z) → product R A B z ≡ true
+      into z (x, y, h, k, e) =
+          let p : x < R .size = below-left x h in
+          let q : y < R .size = below-right y k in
+          any-below (R .size) (λ x. A x && anyBelow (R .size) (λ y. B y && eqb z (R .op x y))) x p
+          (and-both (sym (is-a .inside x p) ∙ h)
+          (any-below (R .size) (λ y. B y && eqb z (R .op x y)) y q
+          (and-both (sym (is-b .inside y q) ∙ k) (eq-eqb z (R .op x y) (sym e)))))
+
+      out : (z : ℕ) → product R A B z ≡ true → holds words z ≡ true
+      out z e =
+          let (x, p, f) = below-any (R .size) (λ x. A x && anyBelow (R .size) (λ y. B y && eqb z (R .op x y))) e in
+          let (y, q, g) = below-any (R .size) (λ y. B y && eqb z (R .op x y)) (and-right (A x) (anyBelow (R .size) (λ y. B y && eqb z (R .op x y))) f) in
+          let h : holds a x ≡ true = is-a .inside x p ∙ and-left (A x) (anyBelow (R .size) (λ y. B y && eqb z (R .op x y))) f in
+          let k : holds b y ≡ true = is-b .inside y q ∙ and-left (B y) (eqb z (R .op x y)) g in
+          let o : z ≡ R .op x y = eqb-true z (R .op x y) (and-right (B y) (eqb z (R .op x y)) g) in
+          rw o (joined .complete x y h k)
+
+      too-large : (z : ℕ) → R .size ≤ z → (x : ℕ) × (y : ℕ) × (holds a x ≡ true) × (holds b y ≡ true) × (R .op x y ≡ z) → ⊥
+      too-large z h (x, y, p, q, e) =
+          let o : R .op x y < R .size = joined-below reads x y (below-left x p) (below-right y q) in
+          omega arith
+
+-- ---- by the places of pairs
+
+module _ (r : Reading) (fs : List Fact) (h : ReadsFacts r fs) (a b words : List ℕ) (below-a : Below (factMorphism fs) a) (below-b : Below (factMorphism fs) b) where
+  pub joined-left : (((x : ℕ) → holds a x ≡ true → Apart x (r .befores) (r .afters)) → Joined (joinedBy (r .befores) (r .afters)) a b words)
+      → Joined (join fs) a b words
+  joined-left promised = record {
+    complete = λ x y p q. subst (λ (z : ℕ). holds words z ≡ true) (joined-op r fs h x y (below-a x p) (below-b y q)) (joined .complete x y p q);
+    sound = λ z k.
+        let (x, y, p, q, e) = joined .sound z k in
+        (x, y, p, q, sym (joined-op r fs h x y (below-a x p) (below-b y q)) ∙ e);
+  }
+    where
+      joined : Joined (joinedBy (r .befores) (r .afters)) a b words
+      joined = promised (λ x p. apart-left r fs h x (below-a x p))
+
+  pub joined-right : (((y : ℕ) → holds b y ≡ true → Apart y (r .afters) (r .befores)) → Joined (joinedBy (r .afters) (r .befores)) b a words)
+      → Joined (join fs) a b words
+  joined-right promised = record {
+    complete = λ x y p q. subst (λ (z : ℕ). holds words z ≡ true) (turned x y p q) (joined .complete y x q p);
+    sound = λ z k.
+        let (y, x, q, p, e) = joined .sound z k in
+        (x, y, p, q, sym (turned x y p q) ∙ e);
+  }
+    where
+      joined : Joined (joinedBy (r .afters) (r .befores)) b a words
+      joined = promised (λ y q. apart-right r fs h y (below-b y q))
+
+      turned : (x y : ℕ) → holds a x ≡ true → holds b y ≡ true → joinedBy (r .afters) (r .befores) y x ≡ join fs x y
+      turned x y p q = joined-turned r fs h x y (below-a x p) (below-b y q) ∙ joined-op r fs h x y (below-a x p) (below-b y q)
+
+-- ---- by the kind of reading
+
+module _ (r : Reading) (a b words : List ℕ) where
+  pub product-root : r .rooted ≡ true → Joined joinKinds a b words → Multiplies r a b words
+  product-root e joined R (of-facts h) A B is-a is-b = absurd (false≢true (sym (h .not-rooted) ∙ e))
+  product-root e joined R (of-root t) A B is-a is-b = joined-product {r = r} (of-root t) a b A B is-a is-b words joined
+
+  pub product-left : r .rooted ≡ false
+      → (((x : ℕ) → holds a x ≡ true → Apart x (r .befores) (r .afters)) → Joined (joinedBy (r .befores) (r .afters)) a b words)
+      → Multiplies r a b words
+  product-left e promised R (of-facts {fs} h) A B is-a is-b = joined-product {r = r} (of-facts h) a b A B is-a is-b words
+      (joined-left r fs h a b words (held-below a A is-a) (held-below b B is-b) promised)
+  product-left e promised R (of-root t) A B is-a is-b = absurd (false≢true (sym e ∙ t))
+
+  pub product-right : r .rooted ≡ false
+      → (((y : ℕ) → holds b y ≡ true → Apart y (r .afters) (r .befores)) → Joined (joinedBy (r .afters) (r .befores)) b a words)
+      → Multiplies r a b words
+  product-right e promised R (of-facts {fs} h) A B is-a is-b = joined-product {r = r} (of-facts h) a b A B is-a is-b words
+      (joined-right r fs h a b words (held-below a A is-a) (held-below b B is-b) promised)
+  product-right e promised R (of-root t) A B is-a is-b = absurd (false≢true (sym e ∙ t))

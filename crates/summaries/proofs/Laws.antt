@@ -1,0 +1,3 @@
+-- What the layers above cite.
+pub use Rattle.summaries.proofs.Here.{FactStands}
+pub use Rattle.summaries.proofs.Reading.{facts-same, FirstFact, no-fact, first-fact}
