@@ -1,9 +1,10 @@
 -- How the code that reads items agrees with the definitions: a law for each way that a turn of it goes.
-use Prim.Native.Nat.{ℕ, zero, suc, _+_, _≤_, _<_}
-use mathlib.Core.Path.{_≡_, refl}
+use Prim.Native.Nat.{ℕ, zero, suc, _+_, _-_, _≤_, _<_}
+use mathlib.Core.Path.{_≡_, refl, sym, _∙_}
 use mathlib.Core.List.{List, [], _∷_}
-use mathlib.Core.Bool.{Bool, true, false}
+use mathlib.Core.Bool.{Bool, true, false, cond}
 use native.Mathlib.Omega.{arith}
+use lib.Dec.{eqb}
 use borrow.Author.Tests.{eq-eqb, ne-eqb, lt-ltb, le-ltb}
 use Rattle.verdicts.specs.declared.Form.{Form}
 use Rattle.verdicts.specs.declared.Form.the-variants.{NotRising, TooMany, Missing}
@@ -14,15 +15,16 @@ use Rattle.commands.specs.declared.Decoded.the-variants.{Moved}
 use Rattle.commands.specs.declared.Decoded.the-variants as Decoded
 use Rattle.commands.specs.declared.Part.{Part}
 use Rattle.commands.specs.declared.Part.the-variants.{Whole, Refused}
-use Rattle.commands.specs.Commands.{byte, allowed, command}
+use Rattle.commands.specs.Commands.{byte, operandsOf, operandBytes, allowed, command}
 use Rattle.commands.specs.Reading.{Read, whole, andThen}
 use Rattle.commands.specs.Parts.{Agrees}
 use Rattle.commands.proofs.Laws.{moved}
 use Rattle.vocabularies.specs.Vocabulary.{isIn}
 use Rattle.pages.specs.declared.Kind.{Kind}
+use Rattle.pages.specs.declared.Kind.the-variants.{Template, Page}
 use Rattle.pages.specs.ItemReading.{itemContext, attributeContext, nesting, endOf, attributes, items, item}
-use Rattle.pages.specs.Promises.{AttributesRead, ItemsRead, ItemRead}
-use Rattle.pages.proofs.Laws.{item-move, attributes-move}
+use Rattle.pages.specs.Promises.{AttributesRead, ItemsRead, ItemRead, PastText}
+use Rattle.pages.proofs.Laws.{stands-inside, item-move, attributes-move}
 use Rattle.pages.proofs.Parts.{agrees-made, refused-first, whole-first}
 
 -- What a part is made into does not change where it ends.
@@ -121,3 +123,42 @@ module _ (k : Kind) (x : Context) (is : x ≡ itemContext k) (ruled : ℕ → Bo
               (whole-first _ _ (attributes f k s [] (next .at)) named (reads f (omega arith)) inside r e λ δ e.
               let n = attributes-move f k s [] (next .at) δ (inside .at) (m .inside) e in
               made _ (items f k ruled s (depth + 1) (inside .at)) r (goes f (omega arith)))
+
+text-permitted : (k : Kind) → allowed (itemContext k) 0x21 ≡ true
+unfolding allowed
+text-permitted Template = refl
+text-permitted Page = refl
+
+text-bytes : operandBytes 0x21 ≡ 0
+unfolding operandBytes operandsOf
+text-bytes = refl
+
+-- Text takes one byte, and may stand among the items of both kinds.
+text-command : (k : Kind) (s : List ℕ) (at : ℕ) → byte s at ≡ 0x21 → command (itemContext k) s at ≡ Moved 0x21 (record { at = at + 1 })
+unfolding command
+text-command k s at e =
+    let inside = stands-inside s at (λ past. omega (arith, e, past)) in
+    let ends : at + 0 ≡ at = omega arith in
+    let after : at + 1 + 0 ≡ at + 1 = omega arith in
+    rw (lt-ltb _ _ inside, e, text-permitted k, text-bytes, ends, after, lt-ltb _ _ inside) refl
+
+no-end : (t : Bool) → _≡_ {A = ℕ} 0x21 (cond t 0x27 0x26) → ⊥
+no-end true e = omega arith
+no-end false e = omega arith
+
+module _ (k : Kind) (ruled : ℕ → Bool) (s : List ℕ) (depth : ℕ) (r : Part) where
+  items-text : (at : ℕ) → byte s at ≡ 0x21 → ItemsRead k ruled s depth (at + 1) r → ItemsRead k ruled s depth at r
+  items-text at e h =
+      items-next k ruled s depth at (λ ended. no-end (eqb depth 0) (sym e ∙ ended)) (Whole (record { at = at + 1 }))
+      (item-leaf k (itemContext k) refl ruled s depth at 0x21 (record { at = at + 1 }) (text-command k s at e) (λ opens. omega (arith, opens)))
+      (record { at = at + 1 }) r refl h
+
+  run : (n at next : ℕ) → at + n ≡ next → ((i : ℕ) → at ≤ i → i < next → byte s i ≡ 0x21) → ItemsRead k ruled s depth next r → ItemsRead k ruled s depth at r
+  run zero at next e texts h = let same : at ≡ next = omega (arith, e) in rw same h
+  run (suc n) at next e texts h =
+      items-text at (texts at (omega arith) (omega (arith, e)))
+      (run n (at + 1) next (omega (arith, e)) (λ i from to. texts i (omega (arith, from)) to) h)
+
+  -- Reading goes on after the text that stands at an offset.
+  pub items-past-text : (at next : ℕ) → PastText s at next → ItemsRead k ruled s depth next r → ItemsRead k ruled s depth at r
+  items-past-text at next past h = run (next - at) at next (omega (arith, past .forward)) (past .texts) h

@@ -73,7 +73,7 @@ pub record Onward (s : List ℕ) (at end : ℕ) : Type 0 where
   pub within : end ≤ length s
 
 -- A byte other than 0 is one of the bytes.
-stands-inside : (s : List ℕ) (at : ℕ) → (byte s at ≡ 0 → ⊥) → at < length s
+pub stands-inside : (s : List ℕ) (at : ℕ) → (byte s at ≡ 0 → ⊥) → at < length s
 stands-inside s at h = go (ltb at (length s)) refl
   where
     go : (t : Bool) → ltb at (length s) ≡ t → at < length s

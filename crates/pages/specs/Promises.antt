@@ -11,6 +11,7 @@ use Rattle.commands.specs.declared.Decoded.{Decoded}
 use Rattle.commands.specs.declared.Decoded.the-variants as Decodeds
 use Rattle.commands.specs.declared.Part.{Part}
 use Rattle.commands.specs.declared.Part.the-variants.{Whole, Refused}
+use Rattle.commands.specs.Commands.{byte}
 use Rattle.commands.specs.Reading.{whole}
 use Rattle.commands.specs.Parts.{Agrees, AgreesAs, Enough}
 use Rattle.vocabularies.specs.VocabularyReading.{mostBytes}
@@ -38,6 +39,11 @@ EnoughForItem s at f = (length s - at) + (length s - at) < f
 
 abbrev pub ItemRead : Kind → (ℕ → Bool) → List ℕ → ℕ → ℕ → Part → Type 0
 ItemRead k ruled s depth at r = (f : ℕ) → EnoughForItem s at f → Agrees (item f k ruled s depth at) r
+
+-- Nothing but text, `21`, stands from an offset up to another.
+pub record PastText (s : List ℕ) (at next : ℕ) : Type 0 where
+  pub forward : at ≤ next
+  pub texts : (i : ℕ) → at ≤ i → i < next → byte s i ≡ 0x21
 
 -- A template's items stand at an offset.
 abbrev pub StandsAt : (ℕ → Bool) → List ℕ → ℕ → Items → Type 0

@@ -5,7 +5,7 @@ ghost use Rattle.sets.specs.Sets.{member};
 ghost use Rattle.commands.specs.Reading.{enough};
 ghost use Rattle.commands.specs.Parts.{Agrees};
 ghost use Rattle.pages.specs.ItemReading.{itemContext, attributeContext, nesting, endOf, items};
-ghost use Rattle.pages.specs.Promises.{partOf, AttributesRead, ItemsRead, ItemRead, TemplatesFrom, alonePart};
+ghost use Rattle.pages.specs.Promises.{partOf, AttributesRead, ItemsRead, ItemRead, TemplatesFrom, alonePart, PastText};
 use commands::Context;
 use commands::Decoded;
 use commands::Part;
@@ -74,18 +74,32 @@ fn part_of(d: Decoded) -> Part
     }
 }
 
+// Steps over the `21`s that stand one after the other: each of them is an item, text.
+fn after_text(s: &[u8], here: Position) -> Position
+    ensures { λ r. ⌜ PastText (now (s .entry)) (here .at) (r .at) ⌝ }
+{
+    let mut at = here.at;
+    while at < s.len() {
+        if s[at] != 0x21 {
+            return Position { at };
+        }
+        at += 1;
+    }
+    Position { at }
+}
+
 // A list of items below `depth` open elements, up to and with what ends it; `declared` is the set of elements that have a rule.
 pub fn read_items(kind: Kind, declared: u64, s: &[u8], here: Position, depth: usize) -> Part
     ensures { λ r. ⌜ ItemsRead kind (member declared) (now (s .entry)) depth (here .at) r ⌝ }
 {
     let end = end_of(depth);
-    let mut p = here;
+    let mut p = after_text(s, here);
     while commands::byte_at(s, p.at) != end {
         let part = read_item(kind, declared, s, p, depth);
         let Part::Whole(next) = part else {
             return part;
         };
-        p = next;
+        p = after_text(s, next);
     }
     Part::Whole(Position { at: p.at + 1 })
 }

@@ -16,7 +16,7 @@ use Rattle.commands.proofs.Laws.{moved}
 use Rattle.pages.specs.ItemReading.{endOf}
 use Rattle.pages.specs.Promises.{partOf, ItemsRead}
 use Rattle.pages.proofs.Laws.{Onward, element-range, ended-inside}
-use Rattle.pages.proofs.Agreement.{items-end, items-refused, items-next, item-refused, item-leaf, item-missing, item-deep, item-attributes-refused, item-element}
+use Rattle.pages.proofs.Agreement.{items-end, items-refused, items-next, items-past-text, item-refused, item-leaf, item-missing, item-deep, item-attributes-refused, item-element}
 use Rattle.pages.proofs.Trees.{attributes-onward, item-onward}
 use Rattle.pages.proofs.read_item.Reads as read-item
 use Rattle.pages.proofs.read_item.Kinds as read-item-kinds
@@ -26,6 +26,7 @@ use Rattle.pages.proofs.read_items.Kinds as read-items-kinds
 use Rattle.pages.proofs.+read_item+read_items.Lts-read_items as read-items-lts
 use Rattle.commands.proofs.Position.command.Reads as command-reads
 use Rattle.commands.proofs.byte_at.Reads as byte-at-reads
+use Rattle.pages.proofs.after_text.Reads as after-text-reads
 use Rattle.pages.proofs.end_of.Reads as end-of-reads
 use Rattle.pages.proofs.item_context.Reads as item-context-reads
 use Rattle.pages.proofs.most_nested.Reads as most-nested-reads
@@ -78,6 +79,8 @@ abbrev items-claims : ℕ → read-items-lts.Claims
 items-claims t = (
   end-of-reads.Asked,
   end-of-reads.Learnt,
+  after-text-reads.Asked,
+  after-text-reads.Learnt,
   byte-at-reads.Asked,
   byte-at-reads.Learnt,
   read-item-below t,
@@ -178,17 +181,26 @@ abbrev μ-loop : read-items-lts.MeasureT-loop
 μ-loop kind declared s depth end p₀ p = length s - p .at
 
 module _ (t : ℕ) where
-  goes-on : (c : read-items-lts.Then1 (items-claims t) (read-items-at t) read-items.Post Inv-loop μ-loop) → byte (c .before .before .before .before .before .args .s .now) (c .before .before .loop .p .at) ≡ endOf (c .before .before .before .before .before .args .depth) → ⊥
-  goes-on c e = c .if1 .taken (c .before .byte-at .ensures ∙ e ∙ sym (c .before .before .before .end-of .ensures))
+  goes-on : (c : read-items-lts.Then1 (items-claims t) (read-items-at t) read-items.Post Inv-loop μ-loop) → byte (c .before .before .before .before .before .before .args .s .now) (c .before .before .loop .p .at) ≡ endOf (c .before .before .before .before .before .before .args .depth) → ⊥
+  goes-on c e = c .if1 .taken (c .before .byte-at .ensures ∙ e ∙ sym (c .before .before .before .before .end-of .ensures))
 
-  ended : (c : read-items-lts.After-struct-known (items-claims t) (read-items-at t) read-items.Post Inv-loop μ-loop) → byte (c .before .before .before .before .before .before .args .s .now) (c .before .before .before .loop .p .at) ≡ endOf (c .before .before .before .before .before .before .args .depth)
-  ended c = sym (c .before .before .byte-at .ensures) ∙ c .before .if1 .left ∙ c .before .before .before .before .end-of .ensures
+  ended : (c : read-items-lts.After-struct-known (items-claims t) (read-items-at t) read-items.Post Inv-loop μ-loop) → byte (c .before .before .before .before .before .before .before .args .s .now) (c .before .before .before .loop .p .at) ≡ endOf (c .before .before .before .before .before .before .before .args .depth)
+  ended c = sym (c .before .before .byte-at .ensures) ∙ c .before .if1 .left ∙ c .before .before .before .before .before .end-of .ensures
 
-  onward : (c : read-items-lts.After-known-told (items-claims t) (read-items-at t) read-items.Post Inv-loop μ-loop) → Onward (c .before .before .before .before .before .before .before .before .before .args .s .now) (c .before .before .before .before .before .before .loop .p .at) (c .before .part .given .0 .0 .at)
+  onward : (c : read-items-lts.After-known-told (items-claims t) (read-items-at t) read-items.Post Inv-loop μ-loop) → Onward (c .before .before .before .before .before .before .before .before .before .before .args .s .now) (c .before .before .before .before .before .before .loop .p .at) (c .before .part .given .0 .0 .at)
   onward c = item-onward _ _ _ _ _ _ _ (c .before .part .given .1) (c .before .before .before .read-item .ensures)
+
+  -- What is read from the loop's position on is read from where the list stands.
+  from-start : (c : read-items-lts.At-loop (items-claims t) (read-items-at t) read-items.Post Inv-loop μ-loop) (r : Part)
+      → ItemsRead (c .before .before .before .before .args .kind) (member (c .before .before .before .before .args .declared)) (c .before .before .before .before .args .s .now) (c .before .before .before .before .args .depth) (c .loop .p .at) r
+      → ItemsRead (c .before .before .before .before .args .kind) (member (c .before .before .before .before .args .declared)) (c .before .before .before .before .args .s .now) (c .before .before .before .before .args .depth) (c .before .before .before .before .args .here .at) r
+  from-start c r h = items-past-text _ _ _ _ _ _ _ (c .before .after-text .ensures) (c .loop .inv .1 r h)
 
   items-end-of-requires : read-items-lts.Need-end-of-requires (items-claims t) (read-items-at t) read-items.Post Inv-loop μ-loop
   items-end-of-requires c κs = search needs
+
+  items-after-text-requires : read-items-lts.Need-after-text-requires (items-claims t) (read-items-at t) read-items.Post Inv-loop μ-loop
+  items-after-text-requires c κs = search needs
 
   items-loop-holds : read-items-lts.Need-loop-holds (items-claims t) (read-items-at t) read-items.Post Inv-loop μ-loop
   items-loop-holds c = (omega arith, λ r h. h)
@@ -197,7 +209,7 @@ module _ (t : ℕ) where
   items-byte-at-requires c κs = search needs
 
   items-read-item-requires : read-items-lts.Need-read-item-requires (items-claims t) (read-items-at t) read-items.Post Inv-loop μ-loop
-  items-read-item-requires c κs = (omega (arith, c .before .before .loop .inv .0, c .before .before .before .before .before .pre .0), tt)
+  items-read-item-requires c κs = (omega (arith, c .before .before .loop .inv .0, c .before .before .before .after-text .ensures .forward, c .before .before .before .before .before .before .pre .0), tt)
 
   items-enum-known-part : read-items-lts.Need-enum-known-part (items-claims t) (read-items-at t) read-items.Post Inv-loop μ-loop
   items-enum-known-part c = search needs
@@ -206,19 +218,27 @@ module _ (t : ℕ) where
   items-enum-told c = search needs
 
   items-returns : read-items-lts.Need-returns (items-claims t) (read-items-at t) read-items.Post Inv-loop μ-loop
-  items-returns c = c .before .before .before .before .before .loop .inv .1 _ (items-refused _ _ _ _ _ (goes-on (c .before .before .before)) _ (c .before .before .read-item .ensures) _ _ (c .enum-told .given .1))
+  items-returns c = from-start (c .before .before .before .before .before) _ (items-refused _ _ _ _ _ (goes-on (c .before .before .before)) _ (c .before .before .read-item .ensures) _ _ (c .enum-told .given .1))
+
+  items-after-text-requires-2 : read-items-lts.Need-after-text-requires-2 (items-claims t) (read-items-at t) read-items.Post Inv-loop μ-loop
+  items-after-text-requires-2 c κs = search needs
 
   items-loop-less : read-items-lts.Need-loop-less (items-claims t) (read-items-at t) read-items.Post Inv-loop μ-loop
-  items-loop-less c = omega (arith, onward c)
+  items-loop-less c = omega (arith, onward (c .before), c .after-text2 .ensures .forward)
 
   items-loop-again : read-items-lts.Need-loop-again (items-claims t) (read-items-at t) read-items.Post Inv-loop μ-loop
-  items-loop-again c = (omega (arith, onward c, c .before .before .before .before .before .before .loop .inv .0), λ r h. c .before .before .before .before .before .before .loop .inv .1 r (items-next _ _ _ _ _ (goes-on (c .before .before .before .before)) _ (c .before .before .before .read-item .ensures) _ r (c .before .part .given .1) h))
+  items-loop-again c =
+      let inv = c .before .before .before .before .before .before .before .loop .inv in
+      let past = c .after-text2 .ensures in (
+        omega (arith, onward (c .before), inv .0, past .forward),
+        λ r h. inv .1 r (items-next _ _ _ _ _ (goes-on (c .before .before .before .before .before)) _ (c .before .before .before .before .read-item .ensures) _ r (c .before .before .part .given .1) (items-past-text _ _ _ _ _ _ _ past h)),
+      )
 
   items-add-t12 : read-items-lts.Need-add-t12 (items-claims t) (read-items-at t) read-items.Post Inv-loop μ-loop
-  items-add-t12 c = omega (arith, ended-inside (c .before .before .before .before .before .before .args .s .now) (c .before .before .before .before .before .before .args .depth) (c .before .before .before .loop .p .at) (ended c))
+  items-add-t12 c = omega (arith, ended-inside (c .before .before .before .before .before .before .before .args .s .now) (c .before .before .before .before .before .before .before .args .depth) (c .before .before .before .loop .p .at) (ended c))
 
   items-returns-2 : read-items-lts.Need-returns-2 (items-claims t) (read-items-at t) read-items.Post Inv-loop μ-loop
-  items-returns-2 c = c .before .before .before .loop .inv .1 _ (items-end _ _ _ _ _ _ (ended c) refl)
+  items-returns-2 c = from-start (c .before .before .before) _ (items-end _ _ _ _ _ _ (ended c) refl)
 
 pub +read-item+read-items-spec : {M : Type 1} → statement M
 +read-item+read-items-spec =
@@ -246,12 +266,14 @@ pub +read-item+read-items-spec : {M : Type 1} → statement M
     (item-returns-6 t))
     (λ t. read-items-lts.spec (items-claims t) (read-items-at t) read-items.Post Inv-loop μ-loop
     (items-end-of-requires t)
+    (items-after-text-requires t)
     (items-loop-holds t)
     (items-byte-at-requires t)
     (items-read-item-requires t)
     (items-enum-known-part t)
     (items-enum-told t)
     (items-returns t)
+    (items-after-text-requires-2 t)
     (items-loop-less t)
     (items-loop-again t)
     (items-add-t12 t)
