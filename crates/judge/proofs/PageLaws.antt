@@ -2,11 +2,10 @@
 use Prim.Native.Nat.{ℕ, zero, suc, _-_, _≤_, _<_}
 use mathlib.Core.Path.{_≡_, refl, sym, ap, fun-ext, subst, _∙_}
 use mathlib.Core.List.{List}
-use mathlib.Core.Bool.{Bool, true, false, cond, _&&_, and-false}
-use mathlib.Core.Option.{Option, none}
+use mathlib.Core.Bool.{Bool, true, false, cond, and-false}
 use native.Mathlib.Omega.{arith}
 use lib.ListN.{length}
-use lib.Dec.{eqb, ltb, leb}
+use lib.Dec.{eqb}
 use borrow.Author.Tests.{eq-eqb, ne-eqb, eqb-true, eqb-false, lt-leb, le-leb, lt-ltb, le-ltb}
 use Rattle.verdicts.specs.declared.Form.{Form}
 use Rattle.verdicts.specs.declared.Form.the-variants.{TooLong, NotAllowed}
@@ -19,19 +18,19 @@ use Rattle.commands.specs.declared.Position.{Position}
 use Rattle.commands.specs.declared.Part.{Part}
 use Rattle.commands.specs.declared.Part.the-variants as Parts
 use Rattle.commands.specs.Commands.{byte}
-use Rattle.commands.specs.Reading.{whole, refused, enough}
+use Rattle.commands.specs.Reading.{whole, enough}
 use Rattle.commands.specs.Parts.{Agrees}
 use Rattle.vocabularies.specs.declared.Tables.{Tables}
 use Rattle.vocabularies.specs.declared.VocabularyRead.{VocabularyRead}
 use Rattle.vocabularies.specs.Vocabulary.{Vocabulary, declared}
 use Rattle.vocabularies.specs.VocabularyReading.{vocabulary, vocabularySlice}
 use Rattle.vocabularies.specs.Promises.{Describes, VocabularyReads}
-use Rattle.vocabularies.proofs.Parts.{agrees-whole, agrees-refused}
+use Rattle.vocabularies.proofs.Laws.{agrees-whole, agrees-refused}
 use Rattle.pages.specs.declared.Kind.the-variants.{Page}
-use Rattle.pages.specs.Items.{Items, more}
+use Rattle.pages.specs.Items.{Items}
 use Rattle.pages.specs.ItemReading.{items, pageSlice}
 use Rattle.judging.specs.declared.Judged.{Judged}
-use Rattle.judging.specs.Judgement.{orElse, firstWrong, isElement, isNone, isAlone, wrongVerdict, judged, judgedUnder, pageVerdict}
+use Rattle.judging.specs.Judgement.{firstWrong, isElement, isAlone, wrongVerdict, judged, pageVerdict}
 use Rattle.judging.specs.Promises.{wrongOf, JudgesItem}
 use Rattle.judging.proofs.Booleans.{by-test}
 use Rattle.judging.proofs.ItemLaws.{list-none, list-parts, text-is, parts, or-none}

@@ -12,8 +12,8 @@ use Rattle.sets.specs.Sets.{member}
 use Rattle.sets.proofs.Laws.{member-zero}
 use Rattle.verdicts.specs.declared.Form.the-variants.{NotRising}
 use Rattle.commands.specs.declared.Context.the-variants.{PageAttributes}
-use Rattle.commands.specs.Commands.{byte, operandBytes, operandsOf, inRange, allInRange, allowed, strings}
-use Rattle.commands.specs.Reading.{Read, whole, refused, andThen, onCommand, when}
+use Rattle.commands.specs.Commands.{byte, operandBytes, operandsOf, allInRange, allowed}
+use Rattle.commands.specs.Reading.{Read, whole, refused, andThen, when}
 use Rattle.commands.proofs.Laws.{byte-past, moved, MovedOver, andThen-whole, onCommand-whole}
 use Rattle.vocabularies.specs.Vocabulary.{isIn}
 use Rattle.pages.specs.declared.Kind.the-variants.{Page}
@@ -22,7 +22,7 @@ use Rattle.pages.specs.ItemReading.{attributes, valueAt}
 use Rattle.pages.specs.RightPages.{names}
 use Rattle.judging.specs.declared.Named.{Named}
 use Rattle.judging.specs.Judgement.{holdsValue, hasString}
-use Rattle.judging.specs.Promises.{Naming, Names}
+use Rattle.judging.specs.Promises.{Names}
 use Rattle.judging.proofs.Booleans.{by-test, and-left, or-right}
 
 -- What the attributes δ add to the names and the strings before them. None of the names read before is among theirs.

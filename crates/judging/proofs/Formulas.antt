@@ -1,8 +1,8 @@
 -- Evaluation form by form: what the parts' values say of the whole's.
 use Prim.Native.Nat.{ℕ, zero, suc, _+_, _≤_, _<_}
-use mathlib.Core.Path.{_≡_, refl, sym, _∙_, ap, subst, subst₂}
+use mathlib.Core.Path.{_≡_, refl, sym, _∙_, subst, subst₂}
 use mathlib.Core.List.{List, [], _∷_}
-use mathlib.Core.Bool.{Bool, true, false, cond, not, _&&_, _||_}
+use mathlib.Core.Bool.{Bool, true, false, not, _&&_, _||_}
 use native.Mathlib.Omega.{arith}
 use lib.ListN.{length}
 use lib.Dec.{eqb, ltb, leb}
@@ -10,9 +10,8 @@ use borrow.Author.Tests.{eq-eqb, ne-eqb, leb-true}
 use Rattle.judging.proofs.Booleans.{and-left, and-right}
 use Rattle.verdicts.specs.declared.Form.the-variants.{TooMany, TooManyFacts}
 use Rattle.commands.specs.declared.Context.the-variants.{Formulas}
-use Rattle.commands.specs.declared.Position.{Position}
-use Rattle.commands.specs.Commands.{byte, setAt, operandBytes, operandsOf, allowed, command}
-use Rattle.commands.specs.Reading.{Read, whole, refused, unfinished, onCommand, andThen, when}
+use Rattle.commands.specs.Commands.{byte, setAt, operandBytes, allowed}
+use Rattle.commands.specs.Reading.{Read, whole, refused, andThen, when}
 use Rattle.commands.proofs.Laws.{byte-past, moved, MovedOver, andThen-whole, onCommand-whole, when-whole}
 use Rattle.vocabularies.specs.Vocabulary.{Formula, conj, disj, neg, truth, attr, content, order, value}
 use Rattle.vocabularies.specs.VocabularyReading.{Shape, binary, unary, leaf, shapeAt, formula, formulaNesting, clauses, mostFacts}

@@ -2,7 +2,7 @@
 use Prim.Native.Nat.{ℕ, zero, suc, _+_, _%_, _≤_, _<_}
 use mathlib.Core.Path.{_≡_, refl, sym, ap, subst, subst₂, _∙_}
 use mathlib.Core.List.{List, [], _∷_, _++_, append-assoc, append-nil}
-use mathlib.Core.Bool.{Bool, true, false, cond, _&&_, _||_, false≢true}
+use mathlib.Core.Bool.{Bool, true, false, cond, false≢true}
 use mathlib.Core.Option.{Option, some, none}
 use native.Mathlib.Numerals.{add-one}
 use native.Mathlib.Omega.{arith}
@@ -12,19 +12,19 @@ use borrow.Author.Tests.{eq-eqb, ne-eqb, eqb-true, leb-true}
 use Rattle.verdicts.specs.declared.Form.the-variants.{TooMany, Missing}
 use Rattle.commands.specs.declared.Context.the-variants.{PageItems}
 use Rattle.commands.specs.Commands.{byte, operandBytes, operandsOf, allInRange, allowed}
-use Rattle.commands.specs.Reading.{Read, whole, refused, andThen, onCommand, when}
-use Rattle.commands.proofs.Laws.{byte-past, moved, MovedOver, andThen-whole, onCommand-whole, when-whole, when-true, when-false}
+use Rattle.commands.specs.Reading.{Read, whole, refused, andThen, when}
+use Rattle.commands.proofs.Laws.{byte-past, moved, MovedOver, andThen-whole, onCommand-whole, when-whole}
 use Rattle.vocabularies.specs.Vocabulary.{Rule, Vocabulary, ruleOf, declared, isSome}
 use Rattle.pages.specs.declared.Kind.the-variants.{Page}
-use Rattle.pages.specs.Items.{Attribute, Item, text, gap, element, Items, more}
+use Rattle.pages.specs.Items.{Attribute, Item, text, element, Items, more}
 use Rattle.pages.specs.Items as Items
 use Rattle.pages.specs.ItemReading.{attributes, item, items, leafAt, nesting, endOf}
 use Rattle.pages.specs.RightPages.{word, wordItem}
 use Rattle.judging.specs.declared.Judged.{Judged}
 use Rattle.judging.specs.declared.Listed.{Listed}
 use Rattle.judging.specs.declared.Named.{Named}
-use Rattle.judging.specs.Judgement.{rightUnder, rightBy, orElse, firstWrong, firstWrongItem}
-use Rattle.judging.specs.Promises.{Names, Containing, IsRight, Tabled, wrongOf, ItemJudged, JudgesItem, ItemsJudged, JudgesItems}
+use Rattle.judging.specs.Judgement.{rightUnder, orElse, firstWrong, firstWrongItem}
+use Rattle.judging.specs.Promises.{Names, Containing, IsRight, Tabled, wrongOf, ItemJudged, JudgesItem, JudgesItems}
 use Rattle.judging.proofs.Booleans.{and-left, and-right, or-left}
 
 pub or-none : (o : Option ℕ) → orElse o none ≡ o

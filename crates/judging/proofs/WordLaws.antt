@@ -1,6 +1,6 @@
 -- Words of contents, one content at a time.
 use Prim.Native.Nat.{ℕ, zero, suc, _^_, _<_}
-use mathlib.Core.Path.{_≡_, refl, sym, ap, _∙_}
+use mathlib.Core.Path.{_≡_, refl, sym, _∙_}
 use mathlib.Core.List.{List, [], _∷_, _++_}
 use mathlib.Core.Bool.{Bool, true, false, _&&_, _||_, and-false, or-false, or-comm, false≢true}
 use lib.ListN.{length, getD, set, replicate}

@@ -3,7 +3,7 @@
 use Prim.Native.Nat.{ℕ, zero, suc, _+_, _%_}
 use mathlib.Core.Path.{_≡_}
 use mathlib.Core.List.{List, [], _∷_}
-use mathlib.Core.Bool.{Bool, true, cond, not, _&&_, _||_}
+use mathlib.Core.Bool.{Bool, true, not, _&&_, _||_}
 use mathlib.Core.Option.{Option, some, none}
 use lib.ListN.{getD}
 use Rattle.sets.specs.Sets.{member}
@@ -25,10 +25,10 @@ use Rattle.judging.specs.Judgement.{Atoms, truthOf, allTrue, precedes, h
 -- What the tables of an element stand for: the set of its attributes' names, the string of each name, the set of its contents, and
 -- for each content c the set of those that stand before a c.
 abbrev pub tableAtoms : ℕ → List ℕ → ℕ → List ℕ → Atoms
-tableAtoms named strings contents before = record {
+tableAtoms named strings inside preceding = record {
   attr = λ a. member named a;
-  content = λ c. member contents c;
-  order = λ c d. not (member contents c && member (getD before c 0) d);
+  content = λ c. member inside c;
+  order = λ c d. not (member inside c && member (getD preceding c 0) d);
   value = λ a m. not (member named a) || member m (getD strings (a % 32) 0);
 }
 
@@ -50,21 +50,22 @@ pub record Naming (δ : List Attribute) (named : ℕ) (strings : List ℕ) : Typ
   pub holds : (a m : ℕ) → isIn a (names δ) ≡ true → member m (getD strings (a % 32) 0) ≡ holdsValue δ a m
 
 -- The tables of a word of contents.
-pub record Containing (w : List ℕ) (contents : ℕ) (before : List ℕ) : Type 0 where
-  pub has : (c : ℕ) → member contents c ≡ isIn c w
-  pub ordered : (c d : ℕ) → member (getD before c 0) d ≡ precedes w d c
+pub record Containing (w : List ℕ) (inside : ℕ) (preceding : List ℕ) : Type 0 where
+  pub has : (c : ℕ) → member inside c ≡ isIn c w
+  pub ordered : (c d : ℕ) → member (getD preceding c 0) d ≡ precedes w d c
 
 -- The attributes that stand at an offset.
 abbrev pub Names : List ℕ → ℕ → Named → List ℕ → Type 0
 Names p at r strings = (f end : ℕ) (δ : List Attribute) → attributes f Page p [] at ≡ whole δ end
     → (r .next .at ≡ end) × Naming δ (r .names) strings
 
--- Whether an element is right under a rule whose tables are given.
+-- Whether an element is right under a rule, of which the allowed attributes and contents are given as sets, and the clauses by their
+-- offset.
 abbrev pub IsRight : List ℕ → ℕ → ℕ → ℕ → ℕ → List ℕ → ℕ → List ℕ → Bool → Type 0
-IsRight v allowed held from named strings contents before b = (R : Rule) (δ : List Attribute) (w : List ℕ)
-    → RuleTables v R allowed held from → Naming δ named strings → Containing w contents before → b ≡ rightUnder R δ w
+IsRight v allowed held from named strings inside preceding b = (R : Rule) (δ : List Attribute) (w : List ℕ)
+    → RuleTables v R allowed held from → Naming δ named strings → Containing w inside preceding → b ≡ rightUnder R δ w
 
--- The tables of a vocabulary's rules.
+-- The same for the rules of a vocabulary, each at its element's number.
 abbrev pub Tabled : List ℕ → Vocabulary → List ℕ → List ℕ → List ℕ → Type 0
 Tabled v D allowed held from = (e : ℕ) (R : Rule) → ruleOf (D .rules) e ≡ some R
     → RuleTables v R (getD allowed e 0) (getD held e 0) (getD from e 0)
@@ -84,11 +85,11 @@ abbrev pub JudgesItem : Vocabulary → List ℕ → ℕ → Judged → Type 0
 JudgesItem D p at r = (f depth end : ℕ) (i : Item) → item f Page (declared (D .rules)) p depth at ≡ whole i end → ItemJudged D i end r
 
 -- The contents of a list inside an element, its end, and its first wrong element.
-pub record ItemsJudged (D : Vocabulary) (φ : Items) (end : ℕ) (r : Listed) (before : List ℕ) : Type 0 where
-  pub contains : Containing (word φ) (r .inside) before
+pub record ItemsJudged (D : Vocabulary) (φ : Items) (end : ℕ) (r : Listed) (preceding : List ℕ) : Type 0 where
+  pub contains : Containing (word φ) (r .inside) preceding
   pub ends : r .next .at ≡ end
   pub finds : wrongOf (r .wrong) ≡ firstWrong D φ
 
 abbrev pub JudgesItems : Vocabulary → List ℕ → ℕ → Listed → List ℕ → Type 0
-JudgesItems D p at r before = (f depth end : ℕ) (φ : Items) → items f Page (declared (D .rules)) p (depth + 1) at ≡ whole φ end
-    → ItemsJudged D φ end r before
+JudgesItems D p at r preceding = (f depth end : ℕ) (φ : Items) → items f Page (declared (D .rules)) p (depth + 1) at ≡ whole φ end
+    → ItemsJudged D φ end r preceding

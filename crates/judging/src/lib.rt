@@ -1,8 +1,9 @@
-// The judge of one page under a vocabulary.
+// The elements of a page under the rules of a vocabulary: their attributes, their contents, and the clauses that they meet.
 ghost use mathlib.Core.Path.{_≡_};
-ghost use mathlib.Core.Bool.{not, _&&_, _||_};
+ghost use mathlib.Core.Bool.{cond, not, _&&_, _||_};
+ghost use mathlib.Core.Option.{some};
 ghost use mathlib.Core.List.{List, [], _∷_, _++_};
-ghost use Prim.Native.Nat.{ℕ, _%_, _≤_, _<_};
+ghost use Prim.Native.Nat.{ℕ, _%_, _^_, _≤_, _<_};
 ghost use lib.ListN.{length, getD};
 ghost use Rattle.sets.specs.Sets.{member};
 ghost use Rattle.vocabularies.specs.Vocabulary.{Vocabulary};
@@ -14,6 +15,17 @@ use commands::Position;
 pub struct Held {
     pub value: bool,
     pub next: Position,
+}
+
+impl Held {
+    fn new(value: bool, at: usize) -> Self
+        ensures { λ r. ⌜ r ≡ record { value = value; next = record { at = at } } ⌝ }
+    {
+        Held {
+            value,
+            next: Position { at },
+        }
+    }
 }
 
 // The names of an element's attributes, and the position after them.
@@ -30,7 +42,19 @@ pub struct Judged {
     pub wrong: usize,
 }
 
-// A list of items that was judged: its contents, the position after it, and the first wrong element in it, as before.
+impl Judged {
+    fn text(at: usize) -> Self
+        ensures { λ r. ⌜ r ≡ record { content = 0; next = record { at = at }; wrong = 0 } ⌝ }
+    {
+        Judged {
+            content: 0,
+            next: Position { at },
+            wrong: 0,
+        }
+    }
+}
+
+// A list of items that was judged: its contents as a set, the position after it, and the first wrong element in it, as for an item.
 pub struct Listed {
     pub inside: u64,
     pub next: Position,
@@ -84,46 +108,23 @@ fn atom(
 {
     let at = here.at;
     if v.len() <= at {
-        return Held {
-            value: false,
-            next: here,
-        };
+        return Held::new(false, at);
     }
     match v[at] {
-        0x13 => Held {
-            value: true,
-            next: Position { at: at + 1 },
-        },
-        0x14 => Held {
-            value: is_member(names, commands::byte_at(v, at + 1)),
-            next: Position { at: at + 2 },
-        },
-        0x15 => Held {
-            value: is_member(inside, commands::byte_at(v, at + 1)),
-            next: Position { at: at + 2 },
-        },
-        0x16 => Held {
-            value: is_ordered(
-                inside,
-                preceding,
-                commands::byte_at(v, at + 1),
-                commands::byte_at(v, at + 2),
-            ),
-            next: Position { at: at + 3 },
-        },
-        0x17 => Held {
-            value: is_valued(
-                names,
-                strings,
-                commands::byte_at(v, at + 1),
-                commands::set_at(v, at + 2),
-            ),
-            next: Position { at: at + 10 },
-        },
-        _ => Held {
-            value: false,
-            next: here,
-        },
+        0x13 => Held::new(true, at + 1),
+        0x14 => Held::new(is_member(names, commands::byte_at(v, at + 1)), at + 2),
+        0x15 => Held::new(is_member(inside, commands::byte_at(v, at + 1)), at + 2),
+        0x16 => {
+            let c = commands::byte_at(v, at + 1);
+            let d = commands::byte_at(v, at + 2);
+            Held::new(is_ordered(inside, preceding, c, d), at + 3)
+        }
+        0x17 => {
+            let a = commands::byte_at(v, at + 1);
+            let m = commands::set_at(v, at + 2);
+            Held::new(is_valued(names, strings, a, m), at + 10)
+        }
+        _ => Held::new(false, at),
     }
 }
 
@@ -278,6 +279,17 @@ fn first_of(a: usize, b: usize) -> usize
     a
 }
 
+// The first wrong element of an element at an offset: itself, or what is wrong inside it.
+fn element_first(right: bool, at: usize, inside: usize) -> usize
+    requires { ⌜ at < 2 ^ 63 ⌝ }
+    ensures { λ r. ⌜ wrongOf r ≡ cond right (wrongOf inside) (some at) ⌝ }
+{
+    if right {
+        return inside;
+    }
+    at + 1
+}
+
 // One content more, after those inside.
 fn add_content(preceding: &mut [u64; 64], inside: u64, c: u8) -> u64
     requires { ⌜ (length (now preceding) ≡ 64) × (c < 64) ⌝ }
@@ -304,18 +316,10 @@ pub fn judge_item(
 {
     let at = here.at;
     if p.len() <= at {
-        return Judged {
-            content: 0,
-            next: here,
-            wrong: 0,
-        };
+        return Judged::text(at);
     }
     if p[at] != 0x23 {
-        return Judged {
-            content: 0,
-            next: Position { at: at + 1 },
-            wrong: 0,
-        };
+        return Judged::text(at + 1);
     }
     let e = commands::byte_at(p, at + 1) % 64;
     let k = e as usize;
@@ -324,8 +328,7 @@ pub fn judge_item(
     let start = named.next;
     let mut preceding = [0u64; 64];
     let list = judge_items(v, attributes, contents, clauses, p, start, &mut preceding);
-    let next = list.next;
-    if is_right(
+    let right = is_right(
         v,
         attributes[k],
         contents[k],
@@ -334,17 +337,12 @@ pub fn judge_item(
         &strings,
         list.inside,
         &preceding,
-    ) {
-        return Judged {
-            content: e,
-            next,
-            wrong: list.wrong,
-        };
-    }
+    );
+    let next = list.next;
     Judged {
         content: e,
         next,
-        wrong: at + 1,
+        wrong: element_first(right, at, list.wrong),
     }
 }
 

@@ -1,6 +1,5 @@
 -- By the byte there.
 use borrow.Author.Tests.{eq-eqb, ne-eqb}
-use Rattle.commands.specs.Commands.{byte}
 use borrow.Author.Needs.{needs}
 use Rattle.judge.proofs.page_end.Statement.{statement}
 use Rattle.judge.proofs.page_end.Tie as tie

@@ -1,7 +1,7 @@
+-- A formula's value from those of its parts, form by form. The measure is the unread bytes.
 use Prim.Native.Nat.{ℕ, _<_, _-_}
 use native.Mathlib.Omega.{arith}
 use lib.ListN.{length}
-use borrow.Author.Needs.{needs}
 use Rattle.judging.proofs.Formulas.{past-holds, conj-holds, disj-holds, neg-holds}
 use borrow.Fn.Kinds.{In}
 use borrow.Fn.PlainCycle.{Measures, is, falls, and}

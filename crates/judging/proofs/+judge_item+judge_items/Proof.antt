@@ -6,7 +6,7 @@ use native.Mathlib.Omega.{arith}
 use lib.ListN.{length}
 use borrow.Author.Needs.{needs}
 use Rattle.judging.proofs.WordLaws.{no-content}
-use Rattle.judging.proofs.ItemLaws.{past-item, text-item, found-at, element-item, adds-all, list-ends, one-more, past-list, Going}
+use Rattle.judging.proofs.ItemLaws.{past-item, text-item, element-item, adds-all, list-ends, one-more, past-list, Going}
 use borrow.Fn.Kinds.{In}
 use borrow.Fn.PlainCycle.{Measures, is, falls, and}
 use Rattle.judging.proofs.judge_item.Reads as judge-item
@@ -16,7 +16,9 @@ use Rattle.judging.proofs.judge_items.Reads as judge-items
 use Rattle.judging.proofs.judge_items.Kinds as judge-items-kinds
 use Rattle.judging.proofs.+judge_item+judge_items.Lts-judge_items as judge-items-lts
 use Rattle.commands.proofs.byte_at.Reads as byte-at-reads
+use Rattle.judging.proofs.Judged.text.Reads as text-reads
 use Rattle.judging.proofs.add_content.Reads as add-content-reads
+use Rattle.judging.proofs.element_first.Reads as element-first-reads
 use Rattle.judging.proofs.first_of.Reads as first-of-reads
 use Rattle.judging.proofs.is_right.Reads as is-right-reads
 use Rattle.judging.proofs.read_attributes.Reads as read-attributes-reads
@@ -46,22 +48,28 @@ judge-items-below t =
     and 6 judge-items-kinds.ps (falls 6 judge-items-kinds.ps _<_ μ-judge-items t) judge-items.Pre
 
 abbrev item-told : ℕ → judge-item-lts.Claims
-item-told t = (byte-at-reads.Asked, byte-at-reads.Learnt, read-attributes-reads.Asked, read-attributes-reads.Learnt, judge-items-below t, judge-items.Post, is-right-reads.Asked, is-right-reads.Learnt)
+item-told t = (text-reads.Asked, text-reads.Learnt, byte-at-reads.Asked, byte-at-reads.Learnt, read-attributes-reads.Asked, read-attributes-reads.Learnt, judge-items-below t, judge-items.Post, is-right-reads.Asked, is-right-reads.Learnt, element-first-reads.Asked, element-first-reads.Learnt)
 
 abbrev items-told : ℕ → judge-items-lts.Claims
 items-told t = (judge-item-below t, judge-item.Post, add-content-reads.Asked, add-content-reads.Learnt, first-of-reads.Asked, first-of-reads.Learnt)
 
+judge-item-text-requires : (t : ℕ) → judge-item-lts.Need-text-requires (item-told t) (judge-item-at t) judge-item.Post
+judge-item-text-requires t c κs = tt
+
 judge-item-returns : (t : ℕ) → judge-item-lts.Need-returns (item-told t) (judge-item-at t) judge-item.Post
-judge-item-returns t c = (λ h. omega arith, (omega arith, λ D T. past-item D _ _ _ (c .if1 .taken)))
+judge-item-returns t c = rw (c .text .ensures) (λ h. omega arith, (omega arith, λ D T. past-item D _ _ _ (c .before .if1 .taken)))
 
 judge-item-shared-slice-read-if2 : (t : ℕ) → judge-item-lts.Need-shared-slice-read-if2 (item-told t) (judge-item-at t) judge-item.Post
 judge-item-shared-slice-read-if2 t c = search needs
 
-judge-item-add-t20 : (t : ℕ) → judge-item-lts.Need-add-t20 (item-told t) (judge-item-at t) judge-item.Post
-judge-item-add-t20 t c = search needs
+judge-item-add-text : (t : ℕ) → judge-item-lts.Need-add-text (item-told t) (judge-item-at t) judge-item.Post
+judge-item-add-text t c = search needs
+
+judge-item-text-requires-2 : (t : ℕ) → judge-item-lts.Need-text-requires-2 (item-told t) (judge-item-at t) judge-item.Post
+judge-item-text-requires-2 t c κs = tt
 
 judge-item-returns-2 : (t : ℕ) → judge-item-lts.Need-returns-2 (item-told t) (judge-item-at t) judge-item.Post
-judge-item-returns-2 t c = (λ h. omega arith, (omega arith, λ D T. text-item D _ _ (c .if2 .taken)))
+judge-item-returns-2 t c = rw (c .text2 .ensures) (λ h. omega arith, (omega arith, λ D T. text-item D _ _ (c .before .if2 .taken)))
 
 judge-item-add-byte-at : (t : ℕ) → judge-item-lts.Need-add-byte-at (item-told t) (judge-item-at t) judge-item.Post
 judge-item-add-byte-at t c = search needs
@@ -102,6 +110,9 @@ judge-item-element-copy-out-is-right-3 t c = search needs
 judge-item-is-right-requires : (t : ℕ) → judge-item-lts.Need-is-right-requires (item-told t) (judge-item-at t) judge-item.Post
 judge-item-is-right-requires t c κs = tt
 
+judge-item-element-first-requires : (t : ℕ) → judge-item-lts.Need-element-first-requires (item-told t) (judge-item-at t) judge-item.Post
+judge-item-element-first-requires t c κs = omega (arith, c .before .before .before .before .before .before .before .before .before .before .before .before .before .before .before .if1 .left, c .before .before .before .before .before .before .before .before .before .before .before .before .before .before .before .before .before .before .good .1 .1 .1 .1 .0)
+
 judge-item-returns-3 : (t : ℕ) → judge-item-lts.Need-returns-3 (item-told t) (judge-item-at t) judge-item.Post
 judge-item-returns-3 t c =
     let a = c .before .before .before .before .before .before .before .before .before .before .before .read-attributes in
@@ -112,24 +123,7 @@ judge-item-returns-3 t c =
         omega arith,
         λ D T.
             element-item D _ _ (g .attributes .now) (g .contents .now) (g .clauses .now) T _ _ (c .before .before .before .before .before .before .before .before .before .before .before .before .before .byte-at .ensures) (c .before .before .before .before .before .before .before .before .before .before .before .before .before .before .if2 .left) (a .result) _ (a .ensures .1) (l .result) _
-            (l .ensures .1 D T (no-content 64)) (c .before .is-right .result) (c .before .is-right .ensures) _ (rw (c .if3 .taken)),
-      ),
-    )
-
-judge-item-add-t16 : (t : ℕ) → judge-item-lts.Need-add-t16 (item-told t) (judge-item-at t) judge-item.Post
-judge-item-add-t16 t c = search needs
-
-judge-item-returns-4 : (t : ℕ) → judge-item-lts.Need-returns-4 (item-told t) (judge-item-at t) judge-item.Post
-judge-item-returns-4 t c =
-    let a = c .before .before .before .before .before .before .before .before .before .before .before .read-attributes in
-    let l = c .before .before .before .before .before .before .before .before .judge-items in
-    let g = c .before .before .before .before .before .before .before .before .before .before .before .before .before .before .before .before .before .before .before .args in (
-      λ _. omega (arith, l .ensures .0, a .ensures .0),
-      (
-        omega arith,
-        λ D T.
-            element-item D _ _ (g .attributes .now) (g .contents .now) (g .clauses .now) T _ _ (c .before .before .before .before .before .before .before .before .before .before .before .before .before .byte-at .ensures) (c .before .before .before .before .before .before .before .before .before .before .before .before .before .before .if2 .left) (a .result) _ (a .ensures .1) (l .result) _
-            (l .ensures .1 D T (no-content 64)) (c .before .is-right .result) (c .before .is-right .ensures) _ (rw (c .if3 .left) (found-at _)),
+            (l .ensures .1 D T (no-content 64)) (c .before .before .is-right .result) (c .before .before .is-right .ensures) _ (c .element-first .ensures),
       ),
     )
 
@@ -196,9 +190,11 @@ pub +judge-item+judge-items-spec : {M : Type 1} → statement M
 +judge-item+judge-items-spec = close μ-judge-item μ-judge-items (λ t. judge-item-lts.spec (item-told t)
     (judge-item-at t)
     judge-item.Post
+    (judge-item-text-requires t)
     (judge-item-returns t)
     (judge-item-shared-slice-read-if2 t)
-    (judge-item-add-t20 t)
+    (judge-item-add-text t)
+    (judge-item-text-requires-2 t)
     (judge-item-returns-2 t)
     (judge-item-add-byte-at t)
     (judge-item-byte-at-requires t)
@@ -213,9 +209,8 @@ pub +judge-item+judge-items-spec : {M : Type 1} → statement M
     (judge-item-mul-is-right-3 t)
     (judge-item-element-copy-out-is-right-3 t)
     (judge-item-is-right-requires t)
-    (judge-item-returns-3 t)
-    (judge-item-add-t16 t)
-    (judge-item-returns-4 t))
+    (judge-item-element-first-requires t)
+    (judge-item-returns-3 t))
     λ t. judge-items-lts.spec (items-told t)
     (judge-items-at t)
     judge-items.Post
