@@ -1,0 +1,5 @@
+pub mod Statements
+pub mod Steps
+pub mod Points
+pub mod Whole
+pub mod Laws

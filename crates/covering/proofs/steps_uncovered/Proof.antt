@@ -1,0 +1,79 @@
+-- The points passed are covered.
+use Prim.Native.Nat.{ℕ, _-_, _%_, _≤_, _<_}
+use mathlib.Core.Path.{_≡_, refl, sym, ap, _∙_}
+use mathlib.Core.List.{List}
+use native.Mathlib.Omega.{arith}
+use lib.ListN.{getD}
+use borrow.Author.Needs.{needs}
+use Rattle.jobs.specs.Job.{Job}
+use Rattle.covering.specs.Tables.{Tables, GapsTable}
+use Rattle.covering.specs.Promises.{PointCovers}
+use Rattle.covering.proofs.Whole.{Below, steps-fail, steps-go, steps-end}
+use Rattle.covering.proofs.steps_uncovered.Statement.{statement}
+use Rattle.covering.proofs.steps_uncovered.Tie as tie
+
+abbrev Inv-loop : tie.InvT-loop
+Inv-loop s gaps heads names places points p₀ p = (j : Job) (count : ℕ) (starts : List ℕ) → Tables j s count starts points places names heads → GapsTable gaps (j .templates) → Below j p
+
+abbrev μ-loop : tie.MeasureT-loop
+μ-loop s gaps heads names places points p₀ p = points - p
+
+-- What was found at the point.
+found : (c : tie.After-point-uncovered Inv-loop μ-loop) (j : Job) (count : ℕ) (starts : List ℕ) → Tables j (c .before .before .before .before .before .args .s .now) count starts (c .before .before .before .before .before .args .points) (c .before .before .before .before .before .args .places .now) (c .before .before .before .before .before .args .names) (c .before .before .before .before .before .args .heads .now) → GapsTable (c .before .before .before .before .before .args .gaps .now) (j .templates)
+    → PointCovers j (c .before .before .before .loop .p) (c .point-uncovered .result)
+found c j count starts T G =
+    let h = c .before .before .loop-test .taken in
+    let l = T .few-points in
+    let q : c .before .before .before .loop .p % 32 ≡ c .before .before .before .loop .p = omega arith in
+    c .point-uncovered .ensures j count starts (c .before .before .before .before .before .args .points) (c .before .before .before .before .before .args .places .now) T G h (rw q)
+
+loop-holds : tie.Need-loop-holds Inv-loop μ-loop
+loop-holds c j count starts T G q h = absurd (omega arith)
+
+mul-place : tie.Need-mul-place Inv-loop μ-loop
+mul-place c = search needs
+
+element-copy-out-place : tie.Need-element-copy-out-place Inv-loop μ-loop
+element-copy-out-place c = search needs
+
+point-uncovered-requires : tie.Need-point-uncovered-requires Inv-loop μ-loop
+point-uncovered-requires c κs = search needs
+
+enum-told : tie.Need-enum-told Inv-loop μ-loop
+enum-told c = search needs
+
+enum-told-2 : tie.Need-enum-told-2 Inv-loop μ-loop
+enum-told-2 c = search needs
+
+returns : tie.Need-returns Inv-loop μ-loop
+returns c j count starts T G = steps-fail j (c .before .before .before .before .before .loop .p) (c .before .before .point-uncovered .result) _ (c .enum-told2 .given .1) (found (c .before .before) j count starts T G) (c .before .before .before .before .before .loop .inv j count starts T G)
+
+add-p : tie.Need-add-p Inv-loop μ-loop
+add-p c = search needs
+
+loop-less : tie.Need-loop-less Inv-loop μ-loop
+loop-less c = search needs
+
+loop-again : tie.Need-loop-again Inv-loop μ-loop
+loop-again c j count starts T G = steps-go j (c .before .before .before .before .before .loop .p) (c .before .before .point-uncovered .result) (c .enum-told .given .1) (found (c .before .before) j count starts T G) (c .before .before .before .before .before .loop .inv j count starts T G)
+
+returns-2 : tie.Need-returns-2 Inv-loop μ-loop
+returns-2 c j count starts T G = steps-end j (c .before .before .before .args .points) (c .before .loop .p) (T .points-are) (c .loop-test .left) (c .before .loop .inv j count starts T G)
+
+pub steps-uncovered-spec : {M : Type 1} → statement M
+steps-uncovered-spec =
+    tie.close
+    (tie.spec
+    Inv-loop
+    μ-loop
+    loop-holds
+    mul-place
+    element-copy-out-place
+    point-uncovered-requires
+    enum-told
+    enum-told-2
+    returns
+    add-p
+    loop-less
+    loop-again
+    returns-2)

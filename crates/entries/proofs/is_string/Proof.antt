@@ -1,0 +1,20 @@
+-- Each test is the fact that the branch learnt.
+use borrow.Author.Needs.{needs}
+use borrow.Author.Tests.{eq-eqb, ne-eqb}
+use Rattle.commands.specs.Commands.{allowed}
+use Rattle.entries.proofs.is_string.Statement.{statement}
+use Rattle.entries.proofs.is_string.Tie as tie
+
+byte-at-requires : tie.Need-byte-at-requires
+byte-at-requires c κs = search needs
+
+returns : tie.Need-returns
+unfolding allowed
+returns c = rw (← c .before .byte-at .ensures, eq-eqb _ _ (c .if1 .taken))
+
+returns-2 : tie.Need-returns-2
+unfolding allowed
+returns-2 c = rw (← c .before .byte-at .ensures, ne-eqb _ _ (c .if1 .left))
+
+pub is-string-spec : {M : Type 1} → statement M
+is-string-spec = tie.close (tie.spec byte-at-requires returns returns-2)

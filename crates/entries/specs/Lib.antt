@@ -1,0 +1,4 @@
+pub mod Listed
+pub mod Words
+pub mod Passing
+pub mod Gaps

@@ -1,0 +1,438 @@
+// The entries of a proposal: what is held of a variable at a point, read again from the items under its head.
+ghost use mathlib.Core.Path.{_≡_};
+ghost use mathlib.Core.List.{List};
+ghost use mathlib.Core.Bool.{true, _||_};
+ghost use Prim.Native.Nat.{ℕ, _+_, _*_, _≤_, _<_};
+ghost use lib.ListN.{length, getD};
+ghost use Rattle.sets.specs.Sets.{member};
+ghost use Rattle.commands.specs.Commands.{byte, between, allowed};
+ghost use Rattle.pages.specs.Items.{Items};
+ghost use Rattle.programs.specs.Program.{templateAt};
+ghost use Rattle.summaries.specs.Proposal.{Claim, root, edge, string, gapFrom, attributeGapFrom, Fact, claim, anyAt};
+ghost use Rattle.summaries.specs.Summaries.{Summary, Within, fragment, plugSummary, plugStringSummary, saysClaim, saysString, held};
+ghost use Rattle.summaries.specs.Summaries as Summaries;
+ghost use Rattle.entries.specs.Listed.{ItemAt, over, Listed};
+ghost use Rattle.entries.specs.Words.{SlotAt, holds, Keeps};
+ghost use Rattle.entries.specs.Passing.{isOf, passed, Decides};
+ghost use Rattle.entries.specs.Gaps.{GapsAre, ItemsStand, StartsAt, InnerAt, GapsMore};
+use commands::Context;
+use commands::Position;
+
+// The strings of a string variable: some of the named ones, or any string.
+pub struct Strings {
+    pub named: u64,
+    pub any: bool,
+}
+
+// What of an entry passes into the value that a statement makes: its roots or not; the gap that is plugged, with the roots that
+// are plugged in; the attribute gap that is filled, with its strings. Gap 8 is none.
+pub struct Passing {
+    pub roots: bool,
+    pub gap: u8,
+    pub plugged: u64,
+    pub attribute: u8,
+    pub strings: Strings,
+}
+
+// Where an item stands among the words of an entry.
+struct Slot {
+    word: usize,
+    bit: u8,
+}
+
+// Whether an item of a template variable, or of a string variable, stands at an offset.
+fn is_item(s: &[u8], at: usize) -> bool
+    ensures { λ r. ⌜ r ≡ allowed Context.TemplateFacts (byte (now (s .entry)) at) ⌝ }
+{
+    let code = commands::byte_at(s, at);
+    0x41 <= code && code <= 0x46
+}
+
+fn is_string(s: &[u8], at: usize) -> bool
+    ensures { λ r. ⌜ r ≡ allowed Context.StringFacts (byte (now (s .entry)) at) ⌝ }
+{
+    let code = commands::byte_at(s, at);
+    code == 0x47 || code == 0x48
+}
+
+// The word of a template and a gap, from a first word on.
+fn word_at(first: usize, n: u8, g: u8) -> usize
+    requires { ⌜ first < 289 ⌝ }
+    ensures { λ r. ⌜ (r < 544) × (n < 32 → g < 8 → r ≡ first + n * 8 + g) ⌝ }
+{
+    first + (n % 32) as usize * 8 + (g % 8) as usize
+}
+
+// The slot of the item at an offset.
+fn slot_of(s: &[u8], at: usize) -> Slot
+    ensures { λ r. ⌜ SlotAt (now (s .entry)) at (r .word) (r .bit) ⌝ }
+{
+    let here = Position { at };
+    let a = here.operand(s, 1);
+    let b = here.operand(s, 2);
+    match commands::byte_at(s, at) {
+        0x42 => Slot {
+            word: word_at(32, a, b),
+            bit: here.operand(s, 3) % 64,
+        },
+        0x43 => Slot {
+            word: word_at(288, a, b),
+            bit: here.operand(s, 3) % 64,
+        },
+        0x44 => Slot {
+            word: 17 + (b % 8) as usize,
+            bit: a % 64,
+        },
+        0x45 => Slot {
+            word: 1 + (a % 8) as usize,
+            bit: b % 64,
+        },
+        0x46 => Slot {
+            word: 9 + (a % 8) as usize,
+            bit: b % 64,
+        },
+        _ => Slot {
+            word: 0,
+            bit: a % 64,
+        },
+    }
+}
+
+// The offset after the command at an offset.
+fn over(s: &[u8], at: usize) -> usize
+    requires { ⌜ at < length (now s) ⌝ }
+    ensures { λ r. ⌜ r ≡ over (now (s .entry)) at ⌝ }
+{
+    at + 1 + commands::operand_bytes(commands::byte_at(s, at))
+}
+
+// The items under a head as words.
+pub fn load(s: &[u8], from: usize) -> [u64; 544]
+    ensures { λ r. ⌜ ((xs : List Fact) → Listed Context.TemplateFacts (now (s .entry)) from xs → Keeps r (held saysClaim xs)) ⌝ }
+{
+    let mut words = [0u64; 544];
+    let mut at = from;
+    while is_item(s, at) {
+        let slot = slot_of(s, at);
+        let i = slot.word;
+        words[i] = sets::with(words[i], slot.bit);
+        at = over(s, at);
+    }
+    words
+}
+
+// Whether every string of the one set is one of the other. Only any string covers any string: other strings than the named ones exist.
+pub fn strings_within(a: Strings, b: Strings) -> bool
+    ensures { λ r. ⌜ Decides r (Within (isOf a) (isOf b)) ⌝ }
+{
+    if b.any {
+        return true;
+    }
+    if a.any {
+        return false;
+    }
+    sets::is_within(a.named, b.named)
+}
+
+fn is_set(words: &[u64; 544], word: usize, bit: u8) -> bool
+    requires { ⌜ (word < 544) × (bit < 64) ⌝ }
+    ensures { λ r. ⌜ r ≡ member (getD (now (words .entry)) word 0) bit ⌝ }
+{
+    sets::has(words[word], bit)
+}
+
+// The strings that the words hold at a template's attribute gap.
+fn strings_at(words: &[u64; 544], n: u8, h: u8) -> Strings
+    ensures { λ r. ⌜ (n < 32 → h < 8 → (t : ℕ) → isOf r t ≡ holds (now (words .entry)) (string n h t)) ⌝ }
+{
+    let word = word_at(288, n, h);
+    Strings {
+        named: words[word],
+        any: is_set(words, 17 + (h % 8) as usize, n % 64),
+    }
+}
+
+// Whether a root passes into the entry whose words are given.
+fn root_holds(words: &[u64; 544], n: u8, how: Passing) -> bool
+    ensures { λ r. ⌜ ((R : Summary) → Keeps (now (words .entry)) R → n < 32 → Decides r (Within (passed how (saysClaim (claim (root n)))) R)) ⌝ }
+{
+    if !how.roots {
+        return true;
+    }
+    is_set(words, 0, n % 64)
+}
+
+fn edge_holds(words: &[u64; 544], n: u8, g: u8, m: u8, how: Passing) -> bool
+    ensures { λ r. ⌜ ((R : Summary) → Keeps (now (words .entry)) R → (n < 32) × (g < 8) × (m < 32) → Decides r (Within (passed how (saysClaim (claim (edge n g m)))) R)) ⌝ }
+{
+    is_set(words, word_at(32, n, g), m % 64)
+}
+
+fn string_holds(words: &[u64; 544], n: u8, h: u8, t: u8, how: Passing) -> bool
+    ensures { λ r. ⌜ ((R : Summary) → Keeps (now (words .entry)) R → (n < 32) × (h < 8) × (t < 64) → Decides r (Within (passed how (saysClaim (claim (string n h t)))) R)) ⌝ }
+{
+    is_set(words, 17 + (h % 8) as usize, n % 64) || is_set(words, word_at(288, n, h), t % 64)
+}
+
+fn any_holds(words: &[u64; 544], n: u8, h: u8, how: Passing) -> bool
+    ensures { λ r. ⌜ ((R : Summary) → Keeps (now (words .entry)) R → (n < 32) × (h < 8) → Decides r (Within (passed how (saysClaim (anyAt n h))) R)) ⌝ }
+{
+    is_set(words, 17 + (h % 8) as usize, n % 64)
+}
+
+// An origin of the gap that is plugged stands for edges to the roots that are plugged in.
+fn gap_holds(words: &[u64; 544], g: u8, n: u8, how: Passing) -> bool
+    ensures { λ r. ⌜ ((R : Summary) → Keeps (now (words .entry)) R → (g < 8) × (n < 32) → Decides r (Within (passed how (saysClaim (claim (gapFrom g n)))) R)) ⌝ }
+{
+    if g == how.gap {
+        let edges = word_at(32, n, g);
+        return sets::is_within(how.plugged, words[edges]);
+    }
+    is_set(words, 1 + (g % 8) as usize, n % 64)
+}
+
+// An origin of the attribute gap that is filled stands for its strings.
+fn attribute_holds(words: &[u64; 544], h: u8, n: u8, how: Passing) -> bool
+    ensures { λ r. ⌜ ((R : Summary) → Keeps (now (words .entry)) R → (h < 8) × (n < 32) → Decides r (Within (passed how (saysClaim (claim (attributeGapFrom h n)))) R)) ⌝ }
+{
+    if h == how.attribute {
+        return strings_within(how.strings, strings_at(words, n, h));
+    }
+    is_set(words, 9 + (h % 8) as usize, n % 64)
+}
+
+// Whether the item at an offset passes into the entry whose words are given.
+fn item_holds(s: &[u8], at: usize, words: &[u64; 544], how: Passing) -> bool
+    ensures { λ r. ⌜ ((y : Fact) (R : Summary) → ItemAt Context.TemplateFacts (now (s .entry)) at y → Keeps (now (words .entry)) R → Decides r (Within (passed how (saysClaim y)) R)) ⌝ }
+{
+    let here = Position { at };
+    let a = here.operand(s, 1);
+    let b = here.operand(s, 2);
+    let c = here.operand(s, 3);
+    match commands::byte_at(s, at) {
+        0x42 => edge_holds(words, a, b, c, how),
+        0x43 => string_holds(words, a, b, c, how),
+        0x44 => any_holds(words, a, b, how),
+        0x45 => gap_holds(words, a, b, how),
+        0x46 => attribute_holds(words, a, b, how),
+        _ => root_holds(words, a, how),
+    }
+}
+
+// Whether all that passes of the items from an offset on lies within the entry whose words are given.
+pub fn items_hold(s: &[u8], from: usize, words: &[u64; 544], how: Passing) -> bool
+    ensures { λ r. ⌜ ((xs : List Fact) (R : Summary) → Listed Context.TemplateFacts (now (s .entry)) from xs → Keeps (now (words .entry)) R → Decides r (Within (passed how (held saysClaim xs)) R)) ⌝ }
+{
+    let mut at = from;
+    while is_item(s, at) {
+        if !item_holds(s, at, words, how) {
+            return false;
+        }
+        at = over(s, at);
+    }
+    true
+}
+
+// A set of templates, with the item at an offset if it is a root.
+fn with_root(s: &[u8], at: usize, roots: u64) -> u64
+    ensures { λ r. ⌜ ((y : Fact) → ItemAt Context.TemplateFacts (now (s .entry)) at y → (n : ℕ) → member r n ≡ (saysClaim y (root n) || member roots n)) ⌝ }
+{
+    if commands::byte_at(s, at) != 0x41 {
+        return roots;
+    }
+    let here = Position { at };
+    sets::with(roots, here.operand(s, 1) % 64)
+}
+
+// The roots among the items from an offset on.
+pub fn roots_of(s: &[u8], from: usize) -> u64
+    ensures { λ r. ⌜ ((xs : List Fact) → Listed Context.TemplateFacts (now (s .entry)) from xs → (n : ℕ) → held saysClaim xs (root n) ≡ member r n) ⌝ }
+{
+    let mut roots: u64 = 0;
+    let mut at = from;
+    while is_item(s, at) {
+        roots = with_root(s, at, roots);
+        at = over(s, at);
+    }
+    roots
+}
+
+// A set of strings, with what the item at an offset says.
+fn with_string(s: &[u8], at: usize, strings: Strings) -> Strings
+    ensures { λ r. ⌜ ((y : Fact) → ItemAt Context.StringFacts (now (s .entry)) at y → (t : ℕ) → isOf r t ≡ (saysString y t || isOf strings t)) ⌝ }
+{
+    if commands::byte_at(s, at) == 0x48 {
+        return Strings {
+            named: strings.named,
+            any: true,
+        };
+    }
+    let here = Position { at };
+    Strings {
+        named: sets::with(strings.named, here.operand(s, 1) % 64),
+        any: strings.any,
+    }
+}
+
+// The strings that the items from an offset on say.
+pub fn strings_of(s: &[u8], from: usize) -> Strings
+    ensures { λ r. ⌜ ((xs : List Fact) → Listed Context.StringFacts (now (s .entry)) from xs → (t : ℕ) → held saysString xs t ≡ isOf r t) ⌝ }
+{
+    let mut strings = Strings {
+        named: 0,
+        any: false,
+    };
+    let mut at = from;
+    while is_string(s, at) {
+        strings = with_string(s, at, strings);
+        at = over(s, at);
+    }
+    strings
+}
+
+// Whether a command inside a template stands at an offset.
+fn is_inner(s: &[u8], at: usize) -> bool
+    ensures { λ r. ⌜ r ≡ between 0x21 0x26 (byte (now (s .entry)) at) ⌝ }
+{
+    let code = commands::byte_at(s, at);
+    0x21 <= code && code <= 0x26
+}
+
+// The gaps of a word, with that of the command at an offset.
+fn with_gap(s: &[u8], at: usize, gaps: u64) -> u64
+    ensures { λ r. ⌜ (InnerAt (now (s .entry)) at → GapsMore (now (s .entry)) at gaps r) ⌝ }
+{
+    let here = Position { at };
+    match commands::byte_at(s, at) {
+        0x22 => sets::with(gaps, here.operand(s, 1) % 8),
+        0x25 => sets::with(gaps, 8 + here.operand(s, 2) % 8),
+        _ => gaps,
+    }
+}
+
+// The gaps of the template whose items stand at an offset. No command inside a template is `27`, so the first one ends it.
+pub fn gaps_at(s: &[u8], from: usize) -> u64
+    ensures { λ r. ⌜ ((φ : Items) → ItemsStand (now (s .entry)) from φ → GapsAre r φ) ⌝ }
+{
+    let mut gaps: u64 = 0;
+    let mut at = from;
+    while is_inner(s, at) {
+        gaps = with_gap(s, at, gaps);
+        at = over(s, at);
+    }
+    gaps
+}
+
+// The gaps of every template. Template 0 has none.
+pub fn gaps_of(s: &[u8], starts: &[usize; 32], count: usize) -> [u64; 32]
+    ensures { λ r. ⌜ ((φs : List Items) → StartsAt (now (s .entry)) φs (now (starts .entry)) → count ≡ length φs → (t : ℕ) → t ≤ count → t < 32 → GapsAre (getD r t 0) (templateAt φs t)) ⌝ }
+{
+    let mut table = [0u64; 32];
+    let mut t = 1;
+    while t < 32 {
+        if count < t {
+            return table;
+        }
+        table[t] = gaps_at(s, starts[t]);
+        t += 1;
+    }
+    table
+}
+
+// Whether a template is an origin of a gap, if it has the gap: gap k is bit k, attribute gap h is bit 8 + h.
+fn origin_holds(words: &[u64; 544], k: u8, n: u8, gaps: u64) -> bool
+    requires { ⌜ (k < 16) × (n < 64) ⌝ }
+    ensures { λ r. ⌜ Decides r (member gaps k ≡ true → member (getD (now (words .entry)) (1 + k) 0) n ≡ true) ⌝ }
+{
+    if !sets::has(gaps, k) {
+        return true;
+    }
+    is_set(words, 1 + k as usize, n)
+}
+
+// Whether what is held of a template that is just loaded lies within the entry whose words are given.
+pub fn fragment_holds(words: &[u64; 544], t: u8, gaps: u64) -> bool
+    ensures { λ r. ⌜ ((φ : Items) (R : Summary) → GapsAre gaps φ → t < 32 → Keeps (now (words .entry)) R → Decides r (Within (fragment t φ) R)) ⌝ }
+{
+    let n = t % 64;
+    if !is_set(words, 0, n) {
+        return false;
+    }
+    let mut k: u8 = 0;
+    while k < 16 {
+        if !origin_holds(words, k, n, gaps) {
+            return false;
+        }
+        k += 1;
+    }
+    true
+}
+
+const NO_GAP: u8 = 8;
+
+// Whether one entry, the items from an offset on, lies within another, whose words are given.
+pub fn copy_holds(s: &[u8], from: usize, words: &[u64; 544]) -> bool
+    ensures { λ r. ⌜ ((xs : List Fact) (R : Summary) → Listed Context.TemplateFacts (now (s .entry)) from xs → Keeps (now (words .entry)) R → Decides r (Within (held saysClaim xs) R)) ⌝ }
+{
+    let how = Passing {
+        roots: true,
+        gap: NO_GAP,
+        plugged: 0,
+        attribute: NO_GAP,
+        strings: Strings {
+            named: 0,
+            any: false,
+        },
+    };
+    items_hold(s, from, words, how)
+}
+
+// Whether the plug of the second entry into a gap of the first lies within the entry whose words are given.
+pub fn plug_holds(s: &[u8], first: usize, gap: u8, second: usize, words: &[u64; 544]) -> bool
+    ensures { λ r. ⌜ ((xs ys : List Fact) (R : Summary) → Listed Context.TemplateFacts (now (s .entry)) first xs → Listed Context.TemplateFacts (now (s .entry)) second ys → Keeps (now (words .entry)) R → Decides r (Within (plugSummary gap (held saysClaim xs) (held saysClaim ys)) R)) ⌝ }
+{
+    let plugging = Passing {
+        roots: true,
+        gap,
+        plugged: roots_of(s, second),
+        attribute: NO_GAP,
+        strings: Strings {
+            named: 0,
+            any: false,
+        },
+    };
+    if !items_hold(s, first, words, plugging) {
+        return false;
+    }
+    let without_roots = Passing {
+        roots: false,
+        gap: NO_GAP,
+        plugged: 0,
+        attribute: NO_GAP,
+        strings: Strings {
+            named: 0,
+            any: false,
+        },
+    };
+    items_hold(s, second, words, without_roots)
+}
+
+// Whether the plug of strings into an attribute gap of an entry lies within the entry whose words are given.
+pub fn fill_holds(
+    s: &[u8],
+    from: usize,
+    attribute: u8,
+    strings: Strings,
+    words: &[u64; 544],
+) -> bool
+    ensures { λ r. ⌜ ((xs : List Fact) (Y : Summaries.Strings) (R : Summary) → Listed Context.TemplateFacts (now (s .entry)) from xs → ((t : ℕ) → Y t ≡ isOf strings t) → Keeps (now (words .entry)) R → Decides r (Within (plugStringSummary attribute (held saysClaim xs) Y) R)) ⌝ }
+{
+    let how = Passing {
+        roots: true,
+        gap: NO_GAP,
+        plugged: 0,
+        attribute,
+        strings,
+    };
+    items_hold(s, from, words, how)
+}
