@@ -4,7 +4,7 @@ ghost use mathlib.Core.Path.{_≡_};
 ghost use mathlib.Core.Bool.{_&&_};
 ghost use Prim.Native.Nat.{_+_, _*_, _^_, _<_};
 ghost use lib.Dec.{leb};
-ghost use Rattle.commands.specs.Commands.{byte, setAt, either, between, allowed, operandsOf, operandBytes, inRange, element, attribute, strings-set, allInRange, command};
+ghost use Rattle.commands.specs.Commands.{byte, spelt, setAt, either, between, allowed, operandsOf, operandBytes, inRange, element, attribute, strings-set, allInRange, command};
 use verdicts::Form;
 
 // Where reading stands: an offset of the bytes.
@@ -161,12 +161,31 @@ fn is_element(s: &[u8], i: usize) -> bool
     is_between(1, 63, byte_at(s, i))
 }
 
+// Four bytes of a set, highest first.
+fn half_at(s: &[u8], i: usize) -> u64
+    requires { ⌜ i + 3 < 2 ^ 64 ⌝ }
+    ensures { λ r. ⌜ r ≡ spelt 4 (now (s .entry)) i 0 ⌝ }
+{
+    let b0 = with_byte(0, s, i);
+    let b1 = with_byte(b0, s, i + 1);
+    let b2 = with_byte(b1, s, i + 2);
+    with_byte(b2, s, i + 3)
+}
+
+// A set that is not empty: half by half takes fewer registers than the whole.
+fn is_set(s: &[u8], i: usize) -> bool
+    requires { ⌜ i + 7 < 2 ^ 64 ⌝ }
+    ensures { λ r. ⌜ r ≡ inRange strings-set (now (s .entry)) i ⌝ }
+{
+    half_at(s, i) != 0 || half_at(s, i + 4) != 0
+}
+
 // An attribute, and a set that is not empty.
 fn is_value(s: &[u8], i: usize) -> bool
-    requires { ⌜ i + 1 < 2 ^ 64 ⌝ }
+    requires { ⌜ i + 8 < 2 ^ 64 ⌝ }
     ensures { λ r. ⌜ r ≡ (inRange attribute (now (s .entry)) i && inRange strings-set (now (s .entry)) (i + 1)) ⌝ }
 {
-    is_most(s, i, 31) && set_at(s, i + 1) != 0
+    is_most(s, i, 31) && is_set(s, i + 1)
 }
 
 // Two variables, a gap and a variable.
@@ -226,6 +245,9 @@ impl Position {
         let more = operand_bytes(code);
         if s.len() - at <= more {
             return Decoded::Refused(Form::Ended, at);
+        }
+        if more == 0 {
+            return Decoded::Moved(code, Position { at: at + 1 });
         }
         if !in_range(s, at, code) {
             return Decoded::Refused(Form::OutOfRange, at);
