@@ -30,7 +30,7 @@ second : (a b : Bool) → T (a && b) → T b
 second true b t = t
 second false b t = absurd t
 
-below : (n : ℕ) (p : ℕ → Bool) → T (allBelow n p) → (x : ℕ) → x < n → T (p x)
+pub below : (n : ℕ) (p : ℕ → Bool) → T (allBelow n p) → (x : ℕ) → x < n → T (p x)
 below zero p t x h = absurd (omega arith)
 below (suc n) p t x h = elim (eq-or-lt-of-le (le-of-suc-le-suc h)) [
   | inl e ↦ subst (λ (k : ℕ). T (p k)) (sym e) (first (p n) (allBelow n p) t)

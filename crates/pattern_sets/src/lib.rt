@@ -46,7 +46,7 @@ pub fn union(a: [u64; 4], b: [u64; 4]) -> [u64; 4]
     ]
 }
 
-fn common(a: u64, b: u64) -> u64
+pub fn common(a: u64, b: u64) -> u64
     ensures { λ r. ⌜ ((k : ℕ) → member r k ≡ (member a k && member b k)) ⌝ }
 {
     a & b
@@ -64,7 +64,7 @@ pub fn intersection(a: [u64; 4], b: [u64; 4]) -> [u64; 4]
 }
 
 // The members of `a` that `b` lacks.
-fn without(a: u64, b: u64) -> u64
+pub fn without(a: u64, b: u64) -> u64
     ensures { λ r. ⌜ ((k : ℕ) → member r k ≡ (member a k && not (member b k))) ⌝ }
 {
     a ^ (a & b)
@@ -200,7 +200,7 @@ pub fn joined_sets(a: [u64; 4], b: [u64; 4], firsts: [u8; 8], seconds: [u8; 8]) 
 }
 
 // The first member of a word at a place or after it, or 64 where there is none.
-fn first_member(word: u64, from: u32) -> u32
+pub fn first_member(word: u64, from: u32) -> u32
     requires { ⌜ from < 64 ⌝ }
     ensures { λ r. ⌜ FirstMember word from r ⌝ }
 {

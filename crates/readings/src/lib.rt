@@ -52,7 +52,7 @@ fn stands_at(facts: Facts, i: usize, kind: u8, first: u64, second: u64) -> bool
 }
 
 // The place of a fact, or the number of facts where it is not there.
-fn place_of(facts: Facts, kind: u8, first: u64, second: u64) -> u8
+pub fn place_of(facts: Facts, kind: u8, first: u64, second: u64) -> u8
     ensures { λ r. ⌜ Places facts kind first second r ⌝ }
 {
     let count = facts.count;

@@ -1,0 +1,3 @@
+pub mod AttributeFlags
+pub mod StringSets
+pub mod TrueForms
