@@ -26,7 +26,7 @@ use Rattle.vocabularies.specs.Promises.{partOf, FormulaReads}
 use Rattle.vocabularies.proofs.Parts.{agrees-whole, agrees-refused, last-agrees, last-whole, plenty, is-plenty, Finished, last-finishes, andThen-finishes, when-finishes}
 
 -- What a formula's first command, of a given shape, makes of the reading.
-unfoldable shaped : ℕ → List ℕ → ℕ → ℕ → ℕ → Shape → Read Formula
+unfoldable pub shaped : ℕ → List ℕ → ℕ → ℕ → ℕ → Shape → Read Formula
 shaped f s depth at next shape = elim shape [
   | binary two ↦ when (ltb depth formulaNesting)
       (λ _. andThen (formula f s (depth + 1) next) λ ψ₁ middle. andThen (formula f s (depth + 1) middle) λ ψ₂ end. whole (two ψ₁ ψ₂) end)
@@ -37,7 +37,7 @@ shaped f s depth at next shape = elim shape [
   | leaf ψ ↦ whole ψ next
 ]
 
-step : (f : ℕ) (s : List ℕ) (depth at code : ℕ) (next : Position) → command Formulas s at ≡ Decodeds.Moved code next
+pub step : (f : ℕ) (s : List ℕ) (depth at code : ℕ) (next : Position) → command Formulas s at ≡ Decodeds.Moved code next
     → formula (suc f) s depth at ≡ shaped f s depth at (next .at) (shapeAt s at code)
 unfolding formula shaped
 step f s depth at code next c = rw c

@@ -7,3 +7,4 @@ pub mod Clauses
 pub mod Rules
 pub mod Vocabularies
 pub mod Laws
+pub mod ShortFormulas

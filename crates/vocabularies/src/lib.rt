@@ -1,10 +1,12 @@
 // The vocabulary of the panel: its rules, their clauses, and how they are read.
-ghost use Prim.Native.Nat.{ℕ, _^_, _≤_, _<_};
+ghost use Prim.Native.Nat.{ℕ, _+_, _^_, _≤_, _<_};
 ghost use mathlib.Core.Path.{_≡_};
 ghost use mathlib.Core.List.{List, []};
 ghost use mathlib.Core.Logic.{_⊎_};
+ghost use lib.ListN.{length};
+ghost use Rattle.commands.specs.Commands.{byte, setAt};
 ghost use Rattle.vocabularies.specs.Vocabulary.{order};
-ghost use Rattle.vocabularies.specs.Promises.{partOf, FormulaReads, Represents, TellsSame, TellsAmong, Adds, FactsWith, LeafAdds, Gathers, NamesRead, ClausesRead, RuleReads, DescribesRules, AddsRule, rooted, VocabularyReads};
+ghost use Rattle.vocabularies.specs.Promises.{partOf, StepsOver, partsOf, opensOf, AddsMost, ReadsShort, FormulaReads, Represents, TellsSame, TellsAmong, Adds, FactsWith, LeafAdds, Gathers, NamesRead, ClausesRead, RuleReads, DescribesRules, AddsRule, rooted, VocabularyReads};
 use commands::Context;
 use commands::Decoded;
 use commands::Part;
@@ -106,6 +108,140 @@ pub fn read_formula(s: &[u8], here: Position, depth: usize) -> Part
         }
         _ => Part::Whole(next),
     }
+}
+
+// The offset after a command here with one operand of at most `most`, or 0.
+fn after_name(s: &[u8], at: usize, most: u8) -> usize
+    requires { ⌜ at < length (now s) ⌝ }
+    ensures { λ r. ⌜ (0 < r → (r ≡ at + 2) × (r ≤ length (now (s .entry))) × (byte (now (s .entry)) (at + 1) ≤ most)) ⌝ }
+{
+    if s.len() - at < 2 {
+        return 0;
+    }
+    if most < s[at + 1] {
+        return 0;
+    }
+    at + 2
+}
+
+// The same for two contents.
+fn after_pair(s: &[u8], at: usize) -> usize
+    requires { ⌜ at < length (now s) ⌝ }
+    ensures { λ r. ⌜ (0 < r → (r ≡ at + 3) × (r ≤ length (now (s .entry))) × (byte (now (s .entry)) (at + 1) ≤ 63) × (byte (now (s .entry)) (at + 2) ≤ 63)) ⌝ }
+{
+    if s.len() - at < 3 {
+        return 0;
+    }
+    if 63 < s[at + 1] {
+        return 0;
+    }
+    if 63 < s[at + 2] {
+        return 0;
+    }
+    at + 3
+}
+
+// The same for an attribute and a set of strings.
+fn after_value(s: &[u8], at: usize) -> usize
+    requires { ⌜ at < length (now s) ⌝ }
+    ensures { λ r. ⌜ (0 < r → (r ≡ at + 10) × (r ≤ length (now (s .entry))) × (byte (now (s .entry)) (at + 1) ≤ 31) × (0 < setAt (now (s .entry)) (at + 2))) ⌝ }
+{
+    if s.len() - at < 10 {
+        return 0;
+    }
+    if 31 < s[at + 1] {
+        return 0;
+    }
+    if set_at(s, at + 2) == 0 {
+        return 0;
+    }
+    at + 10
+}
+
+// The offset after the command of a formula here; 0 where `command` is to tell what is wrong with it.
+fn after_command(s: &[u8], at: usize) -> usize
+    ensures { λ r. ⌜ (0 < r → StepsOver (now (s .entry)) at r) ⌝ }
+{
+    if s.len() <= at {
+        return 0;
+    }
+    match s[at] {
+        0x10 => at + 1,
+        0x11 => at + 1,
+        0x12 => at + 1,
+        0x13 => at + 1,
+        0x14 => after_name(s, at, 31),
+        0x15 => after_name(s, at, 63),
+        0x16 => after_pair(s, at),
+        0x17 => after_value(s, at),
+        _ => 0,
+    }
+}
+
+// How many formulas follow a command of a formula.
+fn parts_of(code: u8) -> usize
+    ensures few { λ r. ⌜ r ≤ 2 ⌝ }
+    ensures parts { λ r. ⌜ r ≡ partsOf code ⌝ }
+{
+    if code < 0x12 {
+        return 2;
+    }
+    if code == 0x12 {
+        return 1;
+    }
+    0
+}
+
+// How many connectives a command of a formula is.
+fn opens_of(code: u8) -> usize
+    ensures few { λ r. ⌜ r ≤ 1 ⌝ }
+    ensures opens { λ r. ⌜ r ≡ opensOf code ⌝ }
+{
+    if code <= 0x12 {
+        return 1;
+    }
+    0
+}
+
+// How many facts a formula that is one command has at most.
+fn facts_of(code: u8) -> usize
+    ensures few { λ r. ⌜ r ≤ 3 ⌝ }
+    ensures most { λ r. ⌜ AddsMost code r ⌝ }
+{
+    match code {
+        0x15 => 1,
+        0x16 => 3,
+        0x17 => 1,
+        _ => 0,
+    }
+}
+
+// The offset after the formula here, where it is seen at once to be whole, with at most 16 connectives and at most 8 facts; or 0.
+fn short_formula(s: &[u8], here: usize) -> usize
+    ensures { λ r. ⌜ (0 < r → ReadsShort (now (s .entry)) here r) ⌝ }
+{
+    let mut at = here;
+    let mut left: usize = 1;
+    let mut opened: usize = 0;
+    let mut facts: usize = 0;
+    while left != 0 {
+        let next = after_command(s, at);
+        if next == 0 {
+            return 0;
+        }
+        let code = s[at];
+        left = left + parts_of(code) - 1;
+        opened += opens_of(code);
+        facts += facts_of(code);
+        if FORMULA_NESTING < opened {
+            return 0;
+        }
+        if MOST_FACTS < facts {
+            return 0;
+        }
+        at = next;
+    }
+    at
 }
 
 pub fn no_facts() -> Facts
@@ -262,15 +398,20 @@ pub fn read_clauses(s: &[u8], here: Position) -> Part
             return Part::Whole(place);
         }
         let start = Position { at: at + 1 };
-        let part = read_formula(s, start, 0);
-        let Part::Whole(next) = part else {
-            return part;
-        };
-        let facts = gather(s, start, no_facts()).facts;
-        if MOST_FACTS < facts.count {
-            return Part::Refused(Form::TooManyFacts, at);
+        let end = short_formula(s, at + 1);
+        if end != 0 {
+            place = Position { at: end };
+        } else {
+            let part = read_formula(s, start, 0);
+            let Part::Whole(next) = part else {
+                return part;
+            };
+            let facts = gather(s, start, no_facts()).facts;
+            if MOST_FACTS < facts.count {
+                return Part::Refused(Form::TooManyFacts, at);
+            }
+            place = next;
         }
-        place = next;
     }
 }
 

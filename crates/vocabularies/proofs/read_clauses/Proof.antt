@@ -2,7 +2,7 @@
 use Prim.Native.Nat.{_-_}
 use lib.ListN.{length}
 use borrow.Author.Needs.{needs}
-use Rattle.vocabularies.proofs.Clauses.{ClausesContinue, clauses-start, clauses-end, clauses-refused, clauses-many, clauses-more, clause-falls, clause-fits}
+use Rattle.vocabularies.proofs.Clauses.{ClausesContinue, clauses-start, clauses-end, clauses-short, short-falls, clauses-refused, clauses-many, clauses-more, clause-falls, clause-fits}
 use Rattle.vocabularies.proofs.read_clauses.Statement.{statement}
 use Rattle.vocabularies.proofs.read_clauses.Tie as tie
 
@@ -21,8 +21,20 @@ byte-at-requires c κs = search needs
 returns : tie.Need-returns Inv-loop μ-loop
 returns c = search clauses-end
 
-add-t11 : tie.Need-add-t11 Inv-loop μ-loop
-add-t11 c = record { fits = search clause-fits }
+add-short-formula : tie.Need-add-short-formula Inv-loop μ-loop
+add-short-formula c = record { fits = search clause-fits }
+
+add-short-formula-2 : tie.Need-add-short-formula-2 Inv-loop μ-loop
+add-short-formula-2 c = record { fits = search clause-fits }
+
+short-formula-requires : tie.Need-short-formula-requires Inv-loop μ-loop
+short-formula-requires c κs = search needs
+
+loop-less : tie.Need-loop-less Inv-loop μ-loop
+loop-less c = search (short-falls, c .before .short-formula .ensures)
+
+loop-again : tie.Need-loop-again Inv-loop μ-loop
+loop-again c = search (clauses-short, c .before .short-formula .ensures)
 
 read-formula-requires : tie.Need-read-formula-requires Inv-loop μ-loop
 read-formula-requires c κs = search needs
@@ -45,11 +57,11 @@ gather-requires c κs = search needs
 returns-3 : tie.Need-returns-3 Inv-loop μ-loop
 returns-3 c = search clauses-many
 
-loop-less : tie.Need-loop-less Inv-loop μ-loop
-loop-less c = search clause-falls
+loop-less-2 : tie.Need-loop-less-2 Inv-loop μ-loop
+loop-less-2 c = search clause-falls
 
-loop-again : tie.Need-loop-again Inv-loop μ-loop
-loop-again c = search clauses-more
+loop-again-2 : tie.Need-loop-again-2 Inv-loop μ-loop
+loop-again-2 c = search clauses-more
 
 pub read-clauses-spec : {M : Type 1} → statement M
 read-clauses-spec =
@@ -60,7 +72,11 @@ read-clauses-spec =
     loop-holds
     byte-at-requires
     returns
-    add-t11
+    add-short-formula
+    add-short-formula-2
+    short-formula-requires
+    loop-less
+    loop-again
     read-formula-requires
     enum-known-part
     enum-told
@@ -68,5 +84,5 @@ read-clauses-spec =
     no-facts-requires
     gather-requires
     returns-3
-    loop-less
-    loop-again)
+    loop-less-2
+    loop-again-2)
