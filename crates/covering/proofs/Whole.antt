@@ -62,7 +62,7 @@ module _ (s heads : List ℕ) (hs : List Head) (entry : EntriesAt s heads hs 0) 
       (zero-decides (held saysString (under hs 0 (strings (v - 4)))) r (h (under hs 0 (strings (v - 4))) (string-listed s heads hs 0 (omega arith) entry (v - 4) from (omega arith) from-is) 0 ∙ is))
 
 -- No statement stands past the last point.
-past-stops : (ts : List Statement) (p : ℕ) → length ts ≤ p → statementAt ts p ≡ stop
+pub past-stops : (ts : List Statement) (p : ℕ) → length ts ≤ p → statementAt ts p ≡ stop
 unfolding statementAt
 past-stops [] p h = refl
 past-stops (t ∷ ts) zero h = absurd (omega arith)

@@ -25,7 +25,7 @@ pub enum Covering {
 }
 
 // The offset at which the items under the head of a template variable at a point stand, and of a string variable.
-fn template_head(heads: &[usize; 256], p: usize, x: usize) -> usize
+pub fn template_head(heads: &[usize; 256], p: usize, x: usize) -> usize
     ensures { λ r. ⌜ (p < 32 → x < 4 → r ≡ getD (now (heads .entry)) (p * 8 + x) 0) ⌝ }
 {
     heads[(p % 32) * 8 + x % 4]

@@ -142,7 +142,7 @@ fn is_set(words: &[u64; 544], word: usize, bit: u8) -> bool
 }
 
 // The strings that the words hold at a template's attribute gap.
-fn strings_at(words: &[u64; 544], n: u8, h: u8) -> Strings
+pub fn strings_at(words: &[u64; 544], n: u8, h: u8) -> Strings
     ensures { λ r. ⌜ (n < 32 → h < 8 → (t : ℕ) → isOf r t ≡ holds (now (words .entry)) (string n h t)) ⌝ }
 {
     let word = word_at(288, n, h);

@@ -25,4 +25,3 @@ pub mod ReadJobs
 pub mod JobShows
 pub mod Bits
 pub mod Products
-pub mod WorkedJ1

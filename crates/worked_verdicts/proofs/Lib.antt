@@ -1,0 +1,9 @@
+pub mod Counting
+pub mod Comparing
+pub mod Transferred
+pub mod Statements
+pub mod Covering
+pub mod Tables
+pub mod Shows
+pub mod Verdicts
+pub mod Rows

@@ -1,0 +1,70 @@
+-- Every row of the table has the verdict that it says, and that verdict prints the row's four numbers. Two rounds of pattern sets are
+-- enough for every row.
+use Prim.Native.Nat.{ℕ, zero, suc}
+use native.Mathlib.Omega.{arith}
+use mathlib.Core.Path.{_≡_, refl, sym, ap, subst}
+use mathlib.Core.List.{List, [], _∷_, map, List·Memᴰ·cases-cons, List·Memᴰ·not-nil}
+use mathlib.Core.Bool.{Bool, true, _&&_}
+use mathlib.Core.Option.{Option, some}
+use mathlib.Core.Logic.{⊎-elim}
+use lib.Dec.{ltb}
+use borrow.Author.Tests.{ltb-true}
+use Rattle.verdicts.specs.declared.Verdict.{Verdict}
+use Rattle.verdicts.specs.declared.Numbers.{Numbers}
+use Rattle.verdicts.specs.Printed.{numbersOf}
+use Rattle.commands.specs.Commands.{command}
+use Rattle.vocabularies.specs.Vocabulary.{ruleOf, isIn}
+use Rattle.vocabularies.specs.Facts.{withFacts}
+use Rattle.pages.specs.Items.{gapIn}
+use Rattle.pages.specs.RightPages.{_∈_}
+use Rattle.judging.specs.Judgement.{precedes, holdsValue, truthOf}
+use Rattle.programs.specs.Program.{templateAt}
+use Rattle.summaries.specs.Summaries.{sameNumbers, held}
+use Rattle.patterns.specs.Patterns.{patternOf, join}
+use Rattle.patterns.specs.Morphisms.{kindOf}
+use Rattle.patterns.specs.Elements.{wrongUnder}
+use Rattle.patterns.proofs.ReadVocabularies.{Bytes}
+use Rattle.entries.proofs.Tests.{and-left, and-right}
+use Rattle.worked_verdicts.specs.Table.{Row, RowHolds, table}
+use Rattle.worked_verdicts.proofs.Verdicts.{verdictBy, verdict-by}
+
+abbrev areBytes : List ℕ → Bool
+areBytes [] = true
+areBytes (a ∷ s) = ltb a 256 && areBytes s
+
+are-bytes : (s : List ℕ) → areBytes s ≡ true → Bytes s
+are-bytes [] e i = omega arith
+are-bytes (a ∷ s) e zero = ltb-true a 256 (and-left _ _ e)
+are-bytes (a ∷ s) e (suc i) = are-bytes s (and-right (ltb a 256) _ e) i
+
+-- What is computed of a row.
+record Answer : Type 0 where
+  bytes : Bool
+  verdict : Option Verdict
+  numbers : Numbers
+
+abbrev computed : Row → Answer
+computed r = record { bytes = areBytes (r .bytes); verdict = verdictBy 2 (r .bytes); numbers = numbersOf (r .verdict) }
+
+abbrev stated : Row → Answer
+stated r = record { bytes = true; verdict = some (r .verdict); numbers = r .numbers }
+
+answers : map computed table ≡ map stated table
+unfolding verdictBy command ruleOf withFacts gapIn templateAt sameNumbers held wrongUnder kindOf join patternOf isIn precedes holdsValue truthOf
+answers = refl
+
+same-at : {A B : Type 0} (f g : A → B) (xs : List A) → map f xs ≡ map g xs → (a : A) → a ∈ xs → f a ≡ g a
+same-at f g [] e a i = absurd (List·Memᴰ·not-nil i)
+same-at f g (x ∷ xs) e a i =
+    let first : f x ≡ g x = cc in
+    let rest : map f xs ≡ map g xs = cc in
+    ⊎-elim (λ q. subst (λ b. f b ≡ g b) (sym q) first) (same-at f g xs rest a) (List·Memᴰ·cases-cons i)
+
+-- The theorem for all rows.
+pub rows-hold : (r : Row) → r ∈ table → RowHolds r
+rows-hold r i =
+    let e : computed r ≡ stated r = same-at computed stated table answers r i in
+    record {
+      verdict = verdict-by 2 (r .bytes) (are-bytes (r .bytes) (ap (λ (a : Answer). a .bytes) e)) (r .verdict) (ap (λ (a : Answer). a .verdict) e);
+      numbers = ap (λ (a : Answer). a .numbers) e;
+    }

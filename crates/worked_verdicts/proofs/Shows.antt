@@ -1,0 +1,182 @@
+-- The shows of a job, decided by tables of t rounds: point by point, the lowest first, 11 before 12.
+use Prim.Native.Nat.{ℕ, zero, suc, _+_, _≤_, _<_}
+use native.Mathlib.Nat.{le-of-suc-le-suc}
+use native.Mathlib.Omega.{arith}
+use mathlib.Core.Path.{_≡_, refl, ap, subst}
+use mathlib.Core.List.{List}
+use mathlib.Core.Bool.{Bool, true, false, false≢true}
+use mathlib.Core.Option.{Option, some, none}
+use lib.ListN.{length}
+use lib.Dec.{eqb, ltb}
+use borrow.Author.Tests.{eqb-true, ltb-true, ltb-false}
+use Rattle.verdicts.specs.declared.Fault.the-variants.{NotRoot, WrongElement}
+use Rattle.verdicts.specs.declared.Refusal.the-variants as Refusals
+use Rattle.verdicts.specs.declared.Verdict.{Verdict}
+use Rattle.verdicts.specs.declared.Verdict.the-variants.{Accepted, Refused}
+use Rattle.commands.specs.Reading.{whole}
+use Rattle.summaries.specs.Summaries.{Summary}
+use Rattle.summaries.specs.Languages.{graphShown}
+use Rattle.jobs.specs.Job.{Job, job}
+use Rattle.jobs.specs.JobVerdict.{AllCovered, ShowHolds, NotRootAt, WrongIn, JobVerdict, not-root, wrong-element, accepted}
+use Rattle.covering.proofs.Whole.{past-stops}
+use Rattle.patterns.specs.Shows.{Tables, ExactTables, Least, onlyIf, lowestOver, lowestRoot, lowestWrongIn, lowestWrong}
+use Rattle.patterns.proofs.Lowest.{least-of, least-below, none-of, least-test, least-over}
+use Rattle.patterns.proofs.ReadJobs.{GivenJob}
+use Rattle.patterns.proofs.JobShows.{nothing-shown, lowest-not-root, lowest-wrong-element, wrong-in, show-holds}
+use Rattle.worked_verdicts.proofs.Counting.{one-more}
+use Rattle.worked_verdicts.proofs.Tables.{tablesBy, enoughRounds, tables-exact}
+
+-- What is found at a point: all pages are right; a root template with another page; an element that is wrong, by template and offset;
+-- or the rounds are too few to tell.
+pub data Found : Type 0 where
+  right : Found
+  other-page : ℕ → Found
+  wrong : ℕ → ℕ → Found
+  undecided : Found
+
+abbrev isAt : Option ℕ → ℕ → Bool
+isAt none at = false
+isAt (some b) at = eqb b at
+
+is-at : (o : Option ℕ) (at : ℕ) → isAt o at ≡ true → o ≡ some at
+is-at none at e = absurd (false≢true e)
+is-at (some b) at e = ap some (eqb-true b at e)
+
+-- The lowest number below N at which f gives `at`.
+unfoldable pub placeOf : ℕ → (ℕ → Option ℕ) → ℕ → Option ℕ
+unfolding lowestOver
+placeOf N f at = lowestOver N (λ n. onlyIf (isAt (f n) at) n)
+
+place-of : (N : ℕ) (f : ℕ → Option ℕ) (at n : ℕ) → placeOf N f at ≡ some n → (n < N) × (f n ≡ some at)
+unfolding placeOf
+place-of N f at n e =
+    let (i, h, (q, p)) = least-of (subst (Least _) e (least-over N (λ i a. (i ≡ a) × (isAt (f i) at ≡ true)) (λ i. onlyIf (isAt (f i) at) i) (λ i _. least-test (isAt (f i) at) i))) in
+    (rw (← q) h, rw (← q) (is-at (f i) at p))
+
+abbrev wrongIn : Option ℕ → ℕ → Found
+wrongIn none at = undecided
+wrongIn (some n) at = wrong n at
+
+abbrev byLowest : Option ℕ → Option ℕ → (ℕ → Option ℕ) → Found
+byLowest (some r) o place = other-page r
+byLowest none none place = right
+byLowest none (some at) place = wrongIn (place at) at
+
+abbrev onlyEnough : Bool → Found → Found
+onlyEnough true f = f
+onlyEnough false f = undecided
+
+module _ (t : ℕ) (j : Job) where
+  abbrev inGraph : Option Summary → Found
+  inGraph none = right
+  inGraph (some G) = onlyEnough (enoughRounds (j .templates) G t (j .vocabulary))
+      (byLowest (lowestRoot (j .templates) G (j .vocabulary) (tablesBy (j .templates) G t (j .vocabulary)))
+      (lowestWrong (j .templates) G (j .vocabulary) (tablesBy (j .templates) G t (j .vocabulary)))
+      (placeOf (suc (length (j .templates))) (lowestWrongIn (j .templates) G (j .vocabulary) (tablesBy (j .templates) G t (j .vocabulary)))))
+
+  unfoldable pub showBy : ℕ → Found
+  unfolding enoughRounds tablesBy lowestRoot lowestWrong placeOf graphShown
+  showBy p = inGraph (graphShown (j .program) (j .proposal) p)
+
+-- What it means that this is found.
+module _ (j : Job) (p : ℕ) where
+  pub record OtherPage (r : ℕ) : Type 0 where
+    pub page : NotRootAt j p r
+    pub lowest : (r′ : ℕ) → NotRootAt j p r′ → r ≤ r′
+
+  pub record WrongFound (n at : ℕ) : Type 0 where
+    pub no-other : (r : ℕ) → NotRootAt j p r → ⊥
+    pub element : WrongIn j p n at
+    pub lowest : (n′ at′ : ℕ) → WrongIn j p n′ at′ → at ≤ at′
+
+  abbrev pub FoundAt : Found → Type 0
+  FoundAt right = ShowHolds j p
+  FoundAt (other-page r) = OtherPage r
+  FoundAt (wrong n at) = WrongFound n at
+  FoundAt undecided = Unit {0}
+
+module _ (t : ℕ) (j : Job) (read : GivenJob j) (p : ℕ) where
+  module _ (G : Summary) (shows : graphShown (j .program) (j .proposal) p ≡ some G) (T : Tables)
+      (exact : ExactTables (j .templates) G (j .vocabulary) T) where
+    by-lowest : (a b : Option ℕ) → lowestRoot (j .templates) G (j .vocabulary) T ≡ a → lowestWrong (j .templates) G (j .vocabulary) T ≡ b
+        → FoundAt j p (byLowest a b (placeOf (suc (length (j .templates))) (lowestWrongIn (j .templates) G (j .vocabulary) T)))
+    by-lowest (some r) b e f =
+        let l = subst (Least _) e (lowest-not-root j read p G shows T exact) in
+        record { page = least-of l; lowest = least-below l }
+    by-lowest none none e f = show-holds j read p G shows T exact .1 (e, f)
+    by-lowest none (some at) e f = go (placeOf (suc (length (j .templates))) (lowestWrongIn (j .templates) G (j .vocabulary) T) at) refl
+      where
+        go : (o : Option ℕ) → placeOf (suc (length (j .templates))) (lowestWrongIn (j .templates) G (j .vocabulary) T) at ≡ o → FoundAt j p (wrongIn o at)
+        go none q = tt
+        go (some n) q =
+            let (h, i) = place-of (suc (length (j .templates))) (lowestWrongIn (j .templates) G (j .vocabulary) T) at n q in
+            let l = subst (Least _) f (lowest-wrong-element j read p G shows T exact) in
+            record {
+              no-other = none-of (subst (Least _) e (lowest-not-root j read p G shows T exact));
+              element = wrong-in j read p G shows T exact n at (le-of-suc-le-suc h) i;
+              lowest = λ n′ at′ w. least-below l at′ (n′, w);
+            }
+
+  pub show-by : FoundAt j p (showBy t j p)
+  unfolding showBy
+  show-by = go (graphShown (j .program) (j .proposal) p) refl
+    where
+      enough-or : (G : Summary) → graphShown (j .program) (j .proposal) p ≡ some G → (b : Bool) → enoughRounds (j .templates) G t (j .vocabulary) ≡ b
+          → (f : Found) → (ExactTables (j .templates) G (j .vocabulary) (tablesBy (j .templates) G t (j .vocabulary)) → FoundAt j p f) → FoundAt j p (onlyEnough b f)
+      enough-or G shows true e f h = h (tables-exact (j .templates) G t (j .vocabulary) (read .graphs p G shows) (read .templates) e)
+      enough-or G shows false e f h = tt
+
+      go : (o : Option Summary) → graphShown (j .program) (j .proposal) p ≡ o → FoundAt j p (inGraph t j o)
+      go none e = nothing-shown j p e
+      go (some G) e = enough-or G e _ refl _ (λ exact. by-lowest G e _ exact _ _ refl refl)
+
+-- Point by point.
+abbrev pageVerdict : ℕ → Found → Option Verdict → Option Verdict
+pageVerdict p right rest = rest
+pageVerdict p (other-page r) rest = some (Refused (Refusals.Page (NotRoot p r)))
+pageVerdict p (wrong n at) rest = some (Refused (Refusals.Page (WrongElement p n at)))
+pageVerdict p undecided rest = none
+
+unfoldable pub showsFrom : ℕ → Job → ℕ → ℕ → Option Verdict
+unfolding showBy
+showsFrom t j zero p = some Accepted
+showsFrom t j (suc k) p = pageVerdict p (showBy t j p) (showsFrom t j k (suc p))
+
+unfoldable pub showsBy : ℕ → Job → Option Verdict
+unfolding showsFrom
+showsBy t j = showsFrom t j (length (j .program)) 0
+
+module _ (t : ℕ) (s : List ℕ) (j : Job) (end : ℕ) (reads : job s ≡ whole j end) (read : GivenJob j) (covered : AllCovered j) where
+  past-shows : (p : ℕ) → length (j .program) ≤ p → ShowHolds j p
+  unfolding graphShown
+  past-shows p h = nothing-shown j p (rw (past-stops (j .program) p h))
+
+  all-shows : (p : ℕ) → length (j .program) ≤ p → ((q : ℕ) → q < p → ShowHolds j q) → (q : ℕ) → ShowHolds j q
+  all-shows p h below q = go (ltb q p) refl
+    where
+      go : (b : Bool) → ltb q p ≡ b → ShowHolds j q
+      go true e = below q (ltb-true q p e)
+      go false e = let l = ltb-false q p e in past-shows q (omega arith)
+
+  page-verdict : (p : ℕ) → ((q : ℕ) → q < p → ShowHolds j q) → (f : Found) → FoundAt j p f → (rest : Option Verdict)
+      → (ShowHolds j p → (v : Verdict) → rest ≡ some v → JobVerdict s v) → (v : Verdict) → pageVerdict p f rest ≡ some v → JobVerdict s v
+  page-verdict p below right h rest goes v e = goes h v e
+  page-verdict p below (other-page r) h rest goes v e =
+      let is : Refused (Refusals.Page (NotRoot p r)) ≡ v = cc in
+      subst (JobVerdict s) is (not-root reads covered below (h .page) (h .lowest))
+  page-verdict p below (wrong n at) h rest goes v e =
+      let is : Refused (Refusals.Page (WrongElement p n at)) ≡ v = cc in
+      subst (JobVerdict s) is (wrong-element reads covered below (h .no-other) (h .element) (h .lowest))
+  page-verdict p below undecided h rest goes v e = absurd (let z : _≡_ {A = ℕ} 0 1 = cc in omega arith)
+
+  shows-from : (k p : ℕ) → p + k ≡ length (j .program) → ((q : ℕ) → q < p → ShowHolds j q) → (v : Verdict) → showsFrom t j k p ≡ some v → JobVerdict s v
+  unfolding showsFrom
+  shows-from zero p e below v i =
+      let is : Accepted ≡ v = cc in
+      subst (JobVerdict s) is (accepted reads covered (all-shows p (omega arith) below))
+  shows-from (suc k) p e below v i = page-verdict p below (showBy t j p) (show-by t j read p) (showsFrom t j k (suc p))
+      (λ here. shows-from k (suc p) (omega arith) (one-more (ShowHolds j) p below here)) v i
+
+  pub shows-by : (v : Verdict) → showsBy t j ≡ some v → JobVerdict s v
+  unfolding showsBy
+  shows-by v = shows-from (length (j .program)) 0 (omega arith) (λ q h. absurd (omega arith)) v

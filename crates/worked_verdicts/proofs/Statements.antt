@@ -1,0 +1,116 @@
+-- Whether the start and a step are covered at a variable, by the items of the entries.
+use Prim.Native.Nat.{ℕ}
+use mathlib.Core.Path.{_≡_, refl}
+use mathlib.Core.List.{List, [], _∷_}
+use mathlib.Core.Bool.{Bool, true, false, cond, not, _||_, false≢true}
+use lib.Dec.{eqb}
+use Rattle.commands.specs.Commands.{emptyString}
+use Rattle.pages.specs.Items.{Items}
+use Rattle.pages.specs.Items as Items
+use Rattle.programs.specs.Program.{Act, copyTemplate, setTemplate, copyString, setString, anyString, plug, plugString, show, Statement, step, Variable, templates, strings, templateAt, named}
+use Rattle.summaries.specs.Proposal.{Fact, oneString, Head}
+use Rattle.summaries.specs.Proposal as Proposal
+use Rattle.summaries.specs.Summaries.{fragment, transfer, transferTemplate, transferString, saysClaim, saysString, held, under, entries}
+use Rattle.summaries.specs.Covering.{WithinAt, startEnvironment, StartCovered, StepCovered}
+use Rattle.entries.specs.Passing.{Decides}
+use Rattle.entries.proofs.Tests.{or-left, decides-map}
+use Rattle.worked_verdicts.proofs.Comparing.{either-lists, WholeTemplate, ListsTemplate, entry-lists, templateWithin, template-within, WholeString, ListsString, strings-list, stringWithin, string-within}
+use Rattle.worked_verdicts.proofs.Transferred.{fragmentItems, fragment-lists, plugItems, plug-lists, fillItems, fill-lists}
+
+-- One string, and any.
+one-lists : (s : ℕ) → ListsString (λ t. eqb t s) (oneString s ∷ [])
+unfolding held
+one-lists s = record { complete = λ t e. or-left _ _ e; whole = (tt, tt) }
+
+any-lists : ListsString (λ t. true) (Proposal.anyString ∷ [])
+unfolding held
+any-lists = record { complete = λ t e. refl; whole = ((λ t. refl), tt) }
+
+-- What a statement gives a variable, from the items of all entries.
+abbrev templateItems : List Items → Act → (Variable → List Fact) → ℕ → List Fact
+templateItems φs (copyTemplate x x′) E v = cond (eqb v x) (E (templates x′)) (E (templates v))
+templateItems φs (setTemplate x t) E v = cond (eqb v x) (fragmentItems t (templateAt φs t)) (E (templates v))
+templateItems φs (copyString y y′) E v = E (templates v)
+templateItems φs (setString y s) E v = E (templates v)
+templateItems φs (anyString y) E v = E (templates v)
+templateItems φs (plug x x′ g x″) E v = cond (eqb v x) (plugItems (E (templates x′)) (E (templates x″))) (E (templates v))
+templateItems φs (plugString x x′ h y) E v = cond (eqb v x) (fillItems h (E (templates x′)) (E (strings y))) (E (templates v))
+templateItems φs (show x) E v = E (templates v)
+
+abbrev stringItems : Act → (Variable → List Fact) → ℕ → List Fact
+stringItems (copyTemplate x x′) E v = E (strings v)
+stringItems (setTemplate x t) E v = E (strings v)
+stringItems (copyString y y′) E v = cond (eqb v y) (E (strings y′)) (E (strings v))
+stringItems (setString y s) E v = cond (eqb v y) (oneString s ∷ []) (E (strings v))
+stringItems (anyString y) E v = cond (eqb v y) (Proposal.anyString ∷ []) (E (strings v))
+stringItems (plug x x′ g x″) E v = E (strings v)
+stringItems (plugString x x′ h y) E v = E (strings v)
+stringItems (show x) E v = E (strings v)
+
+module _ (φs : List Items) (hs : List Head) (p : ℕ) where
+  abbrev E : Variable → List Fact
+  E v = under hs p v
+
+  templates-list : (a : Act) (v : ℕ) → ListsTemplate (transferTemplate φs a (entries hs p) v) (templateItems φs a E v)
+  unfolding entries
+  templates-list (copyTemplate x x′) v = either-lists saysClaim WholeTemplate (eqb v x) _ _ _ _ (entry-lists (E (templates x′))) (entry-lists (E (templates v)))
+  templates-list (setTemplate x t) v = either-lists saysClaim WholeTemplate (eqb v x) _ _ _ _ (fragment-lists t (templateAt φs t)) (entry-lists (E (templates v)))
+  templates-list (copyString y y′) v = entry-lists (E (templates v))
+  templates-list (setString y s) v = entry-lists (E (templates v))
+  templates-list (anyString y) v = entry-lists (E (templates v))
+  templates-list (plug x x′ g x″) v = either-lists saysClaim WholeTemplate (eqb v x) _ _ _ _ (plug-lists g (E (templates x′)) (E (templates x″))) (entry-lists (E (templates v)))
+  templates-list (plugString x x′ h y) v = either-lists saysClaim WholeTemplate (eqb v x) _ _ _ _ (fill-lists h (E (templates x′)) (E (strings y))) (entry-lists (E (templates v)))
+  templates-list (show x) v = entry-lists (E (templates v))
+
+  strings-listed : (a : Act) (v : ℕ) → ListsString (transferString a (entries hs p) v) (stringItems a E v)
+  unfolding entries
+  strings-listed (copyTemplate x x′) v = strings-list (E (strings v))
+  strings-listed (setTemplate x t) v = strings-list (E (strings v))
+  strings-listed (copyString y y′) v = either-lists saysString WholeString (eqb v y) _ _ _ _ (strings-list (E (strings y′))) (strings-list (E (strings v)))
+  strings-listed (setString y s) v = either-lists saysString WholeString (eqb v y) _ _ _ _ (one-lists s) (strings-list (E (strings v)))
+  strings-listed (anyString y) v = either-lists saysString WholeString (eqb v y) _ _ _ _ any-lists (strings-list (E (strings v)))
+  strings-listed (plug x x′ g x″) v = strings-list (E (strings v))
+  strings-listed (plugString x x′ h y) v = strings-list (E (strings v))
+  strings-listed (show x) v = strings-list (E (strings v))
+
+  -- The step to a next point.
+  abbrev stepWithin : Act → ℕ → Variable → Bool
+  stepWithin a next (templates x) = templateWithin (transferTemplate φs a (entries hs p) x) (templateItems φs a E x) (under hs next (templates x))
+  stepWithin a next (strings y) = stringWithin (transferString a (entries hs p) y) (stringItems a E y) (under hs next (strings y))
+
+  step-within : (a : Act) (next : ℕ) (v : Variable) → Decides (stepWithin a next v) (WithinAt v (transfer φs a (entries hs p)) (entries hs next))
+  unfolding entries
+  step-within a next (templates x) = template-within _ (templateItems φs a E x) (under hs next (templates x)) (templates-list a x)
+  step-within a next (strings y) = string-within _ (stringItems a E y) (under hs next (strings y)) (strings-listed a y)
+
+-- The start.
+abbrev startWithin : List Head → Variable → Bool
+startWithin hs (templates x) = templateWithin (fragment 0 Items.none) (fragmentItems 0 Items.none) (under hs 0 (templates x))
+startWithin hs (strings y) = stringWithin (λ t. eqb t emptyString) (oneString emptyString ∷ []) (under hs 0 (strings y))
+
+start-within : (hs : List Head) (v : Variable) → Decides (startWithin hs v) (WithinAt v startEnvironment (entries hs 0))
+unfolding entries
+start-within hs (templates x) = template-within (fragment 0 Items.none) (fragmentItems 0 Items.none) (under hs 0 (templates x)) (fragment-lists 0 Items.none)
+start-within hs (strings y) = string-within (λ t. eqb t emptyString) (oneString emptyString ∷ []) (under hs 0 (strings y)) (one-lists emptyString)
+
+-- Variables that no statement names are not looked at.
+named-decides : (n b : Bool) (P : Type 0) → Decides b P → Decides (not n || b) (n ≡ true → P)
+named-decides true b P d = decides-map b (λ p e. p) (λ f. f refl) d
+named-decides false b P d = λ e. absurd (false≢true e)
+
+module _ (φs : List Items) (program : List Statement) (hs : List Head) where
+  unfoldable pub startCovered : Variable → Bool
+  unfolding named templateWithin stringWithin fragmentItems under
+  startCovered v = not (named program v) || startWithin hs v
+
+  pub start-covered : (v : Variable) → Decides (startCovered v) (StartCovered φs program hs v)
+  unfolding startCovered
+  start-covered v = named-decides (named program v) (startWithin hs v) _ (start-within hs v)
+
+  unfoldable pub stepCovered : ℕ → Act → ℕ → Variable → Bool
+  unfolding named templateWithin stringWithin fragmentItems plugItems fillItems under entries
+  stepCovered p a next v = not (named program v) || stepWithin φs hs p a next v
+
+  pub step-covered : (p : ℕ) (a : Act) (next : ℕ) (v : Variable) → Decides (stepCovered p a next v) (StepCovered φs program hs p a next v)
+  unfolding stepCovered
+  step-covered p a next v = named-decides (named program v) (stepWithin φs hs p a next v) _ (step-within φs hs p a next v)

@@ -1,0 +1,59 @@
+-- The verdict of a job by computation: `none` where t rounds of pattern sets are too few to tell. What it answers is the verdict that
+-- the definitions give.
+use Prim.Native.Nat.{ℕ}
+use native.Mathlib.Omega.{arith}
+use mathlib.Core.Path.{_≡_, refl, subst}
+use mathlib.Core.List.{List}
+use mathlib.Core.Option.{Option, some, none}
+use Rattle.verdicts.specs.declared.Cover.{Cover}
+use Rattle.verdicts.specs.declared.Cover.the-variants.{Start, Step}
+use Rattle.verdicts.specs.declared.Refusal.the-variants as Refusals
+use Rattle.verdicts.specs.declared.Verdict.{Verdict}
+use Rattle.verdicts.specs.declared.Verdict.the-variants.{Refused}
+use Rattle.commands.specs.Reading.{Read, whole, refused, unfinished}
+use Rattle.jobs.specs.Job.{Job, job}
+use Rattle.jobs.specs.JobVerdict.{JobVerdict, unreadable, start-uncovered, step-uncovered}
+use Rattle.covering.specs.declared.Covering.{Covering}
+use Rattle.covering.specs.declared.Covering.the-variants.{Covered, Uncovered}
+use Rattle.covering.specs.Promises.{Covers, CoverFails}
+use Rattle.patterns.proofs.ReadVocabularies.{Bytes}
+use Rattle.patterns.proofs.ReadJobs.{job-given}
+use Rattle.worked_verdicts.proofs.Covering.{coverBy, cover-by}
+use Rattle.worked_verdicts.proofs.Shows.{showsBy, shows-by}
+
+abbrev uncoveredOr : Covering → Option Verdict → Option Verdict
+uncoveredOr Covered rest = rest
+uncoveredOr (Uncovered c) rest = some (Refused (Refusals.Cover c))
+
+abbrev ofReading : ℕ → Read Job → Option Verdict
+ofReading t (whole j end) = uncoveredOr (coverBy j) (showsBy t j)
+ofReading t (refused f at) = some (Refused (Refusals.Form f (record { at = at; slice = 0 })))
+ofReading t unfinished = none
+
+unfoldable pub verdictBy : ℕ → List ℕ → Option Verdict
+unfolding job coverBy showsBy
+verdictBy t s = ofReading t (job s)
+
+module _ (t : ℕ) (s : List ℕ) (bytes : Bytes s) (v : Verdict) where
+  module _ (j : Job) (end : ℕ) (reads : job s ≡ whole j end) where
+    of-cover : (c : Cover) → CoverFails j c → JobVerdict s (Refused (Refusals.Cover c))
+    of-cover (Start x) h = start-uncovered reads (h .variable) (h .fails) (h .before)
+    of-cover (Step p next x) h =
+        rw (h .next-is) (step-uncovered (h .second) reads (h .start) (h .variable) (h .fails) (h .before))
+
+    of-covering : (r : Covering) → Covers j r → uncoveredOr r (showsBy t j) ≡ some v → JobVerdict s v
+    of-covering Covered h e = shows-by t s j end reads (job-given s bytes j end reads) h v e
+    of-covering (Uncovered c) h e =
+        let is : Refused (Refusals.Cover c) ≡ v = cc in
+        subst (JobVerdict s) is (of-cover c h)
+
+  of-reading : (r : Read Job) → job s ≡ r → ofReading t r ≡ some v → JobVerdict s v
+  of-reading (whole j end) reads e = of-covering j end reads (coverBy j) (cover-by j) e
+  of-reading (refused f at) reads e =
+      let is : Refused (Refusals.Form f (record { at = at; slice = 0 })) ≡ v = cc in
+      subst (JobVerdict s) is (unreadable reads)
+  of-reading unfinished reads e = absurd (let z : _≡_ {A = ℕ} 0 1 = cc in omega arith)
+
+  pub verdict-by : verdictBy t s ≡ some v → JobVerdict s v
+  unfolding verdictBy
+  verdict-by e = of-reading (job s) refl e
