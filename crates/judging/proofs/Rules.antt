@@ -36,7 +36,7 @@ module _ (allowed : List ℕ) where
         (λ e. and-false-right (isIn n allowed) (allIn ns allowed) (not-all-in ns (or-right (eqb k n) (isIn k ns) e i)))
 
 -- A set within another, as lists.
-within-lists : (a b : ℕ) (ns allowed : List ℕ) → ((k : ℕ) → member a k ≡ isIn k ns) → ((k : ℕ) → member b k ≡ isIn k allowed)
+pub within-lists : (a b : ℕ) (ns allowed : List ℕ) → ((k : ℕ) → member a k ≡ isIn k ns) → ((k : ℕ) → member b k ≡ isIn k allowed)
     → (t : Bool) → Within a b t → allIn ns allowed ≡ t
 within-lists a b ns allowed is is′ true w = all-in allowed ns (λ k i. sym (is′ k) ∙ w k (is k ∙ i))
 within-lists a b ns allowed is is′ false w = not-all-in allowed (w .0) (sym (is′ (w .0)) ∙ w .3) ns (sym (is (w .0)) ∙ w .2)

@@ -37,7 +37,7 @@ double-tail false n k = member-tail (0 + 2 * n) k ∙ ap (λ (m : ℕ). member m
 
 -- ---- trailing zeros
 
-trailing-held : (k n : ℕ) → trailingZeros k n < k → member n (trailingZeros k n) ≡ true
+pub trailing-held : (k n : ℕ) → trailingZeros k n < k → member n (trailingZeros k n) ≡ true
 unfolding trailingZeros
 trailing-held zero n h = absurd (omega arith)
 trailing-held (suc k) n h = go (λ l. trailing-held k (n / 2) l) (n % 2) refl (mod-lt n (lit< tt)) h

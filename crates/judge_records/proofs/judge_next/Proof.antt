@@ -1,18 +1,10 @@
 -- The bytes that are judged are those that were kept, and no more were kept than a buffer holds.
-use Prim.Native.Nat.{ℕ, _≤_}
-use mathlib.Core.Path.{_≡_, sym, subst}
-use mathlib.Core.List.{List}
-use lib.ListN.{length}
+use mathlib.Core.Path.{sym}
 use lib.Seq.{length-take-le}
-use Rattle.records.specs.declared.Slice.{Slice}
-use Rattle.records.specs.declared.Slice.the-variants.{Kept}
-use Rattle.records.specs.Kept.{KeptIn}
+use Rattle.records.proofs.Laws.{kept}
 use borrow.Author.Needs.{needs}
 use Rattle.judge_records.proofs.judge_next.Statement.{statement}
 use Rattle.judge_records.proofs.judge_next.Tie as tie
-
-kept : (r : Slice) (l : List ℕ) {n : ℕ} → r ≡ Kept n → KeptIn r l → n ≤ length l
-kept r l e k = subst (λ (x : Slice). KeptIn x l) e k
 
 read-slice-requires : tie.Need-read-slice-requires
 read-slice-requires c κs = search needs

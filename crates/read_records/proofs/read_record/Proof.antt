@@ -1,18 +1,10 @@
 -- What is lent to the reading lies within the buffer.
-use Prim.Native.Nat.{ℕ, _≤_}
-use mathlib.Core.Path.{_≡_, sym, subst}
-use mathlib.Core.List.{List}
-use lib.ListN.{length}
+use mathlib.Core.Path.{sym}
 use lib.Seq.{length-take-le}
-use Rattle.records.specs.declared.Slice.{Slice}
-use Rattle.records.specs.declared.Slice.the-variants.{Kept}
-use Rattle.records.specs.Kept.{KeptIn}
+use Rattle.records.proofs.Laws.{kept}
 use borrow.Author.Needs.{needs}
 use Rattle.read_records.proofs.read_record.Statement.{statement}
 use Rattle.read_records.proofs.read_record.Tie as tie
-
-kept-in : (r : Slice) (n : ℕ) (buffer : List ℕ) → r ≡ Kept n → KeptIn r buffer → n ≤ length buffer
-kept-in r n buffer e h = subst (λ (q : Slice). KeptIn q buffer) e h
 
 read-slice-requires : tie.Need-read-slice-requires
 read-slice-requires c κs = search needs
@@ -30,7 +22,7 @@ returns : tie.Need-returns
 returns c = search needs
 
 slice-reshare-prefix-read-job : tie.Need-slice-reshare-prefix-read-job
-slice-reshare-prefix-read-job c = kept-in _ _ _ (c .before .slice .given .1) (c .before .before .before .before .before .read-slice .ensures)
+slice-reshare-prefix-read-job c = kept _ _ (c .before .slice .given .1) (c .before .before .before .before .before .read-slice .ensures)
 
 slice-aggregate-read-job : tie.Need-slice-aggregate-read-job
 slice-aggregate-read-job c = sym (length-take-le _ _ (slice-reshare-prefix-read-job (c .before)))

@@ -1,0 +1,6 @@
+pub mod Uses
+pub mod Closing
+pub mod GapSets
+pub mod AttributeLaws
+pub mod ItemLaws
+pub mod RoundLaws

@@ -1,0 +1,22 @@
+-- By the test.
+use borrow.Author.Tests.{lt-ltb, le-ltb}
+use borrow.Author.Needs.{needs}
+use Rattle.languages.proofs.first_word.Statement.{statement}
+use Rattle.languages.proofs.first_word.Tie as tie
+use Rattle.languages.proofs.first_word.Reads as reads
+use Rattle.languages.proofs.first_word.Lts as lts
+
+add-result : tie.Need-add-result
+add-result c = search needs
+
+returns : tie.Need-returns
+returns c = rw (lt-ltb _ _ (c .if1 .taken))
+
+add-result-2 : tie.Need-add-result-2
+add-result-2 c = search needs
+
+returns-2 : tie.Need-returns-2
+returns-2 c = rw (le-ltb _ _ (c .if1 .left))
+
+pub first-word-spec : {M : Type 1} → statement M
+first-word-spec = tie.close (tie.spec add-result returns add-result-2 returns-2)

@@ -1,0 +1,54 @@
+-- Pattern sets as code keeps them (document 01, "for each template the set of fact patterns its contents can have"): four words for a
+-- template, and for the walk over one template's items a table of what each of its gaps takes. The sets themselves, and what it means
+-- that they are exact, are defined in `patterns`, Rounds and Exactness.
+use Prim.Native.Nat.{ℕ, _+_, _*_, _≤_, _<_}
+use mathlib.Core.List.{List, [], _∷_}
+use mathlib.Core.Bool.{_&&_}
+use lib.ListN.{length, getD}
+use Rattle.vocabularies.specs.Vocabulary.{Formula}
+use Rattle.vocabularies.specs.Facts.{factsOf}
+use Rattle.pages.specs.Items.{Items}
+use Rattle.summaries.specs.Proposal.{edge}
+use Rattle.summaries.specs.Summaries.{Summary}
+use Rattle.patterns.specs.Morphisms as Morphisms
+use Rattle.patterns.specs.Morphisms.{factMorphism, rootMorphism}
+use Rattle.patterns.specs.Given.{Bounded}
+use Rattle.patterns.specs.Rounds.{Sets, anyTemplate}
+use Rattle.readings.specs.declared.Reading.{Reading}
+use Rattle.readings.specs.Readings.{Reads, Is}
+use Rattle.entries.specs.Words.{Keeps}
+use Rattle.entries.specs.Gaps.{StartsAt}
+
+-- The morphisms by which the check reads words: of the facts of a clause, and of the root.
+pub data Used : Morphisms.Morphism → Type 0 where
+  of-clause : (ψ : Formula) → Used (factMorphism (factsOf ψ))
+  of-root : (root : ℕ) → Used (rootMorphism root)
+
+-- The sets of all templates that are there, a row for each.
+abbrev pub SetsAre : List Items → Morphisms.Morphism → Sets → List (List ℕ) → Type 0
+SetsAre φs M X sets = (n : ℕ) → n ≤ length φs → Is M (getD sets n []) (X n)
+
+-- The four words of a gap.
+abbrev pub gapWords : List ℕ → ℕ → List ℕ
+gapWords takes g = getD takes (g * 4) 0 ∷ getD takes (g * 4 + 1) 0 ∷ getD takes (g * 4 + 2) 0 ∷ getD takes (g * 4 + 3) 0 ∷ []
+
+-- What each gap of template n takes, from the sets of all templates.
+abbrev pub GapSetsAre : List Items → Summary → Morphisms.Morphism → Sets → ℕ → List ℕ → Type 0
+GapSetsAre φs G M X n takes = (g : ℕ) → g < 8 → Is M (gapWords takes g) (λ x. anyTemplate φs (λ m. G (edge n g m) && X m x))
+
+-- What is lent to the walk over items of template n: a reading, a graph as words, and the table of the template's gaps.
+pub record Lent (r : Reading) (words takes : List ℕ) (n : ℕ) (φs : List Items) (G : Summary) (M : Morphisms.Morphism) (X : Sets) : Type 0 where
+  pub used : Used M
+  pub reads : Reads r M
+  pub bounded : Bounded φs G
+  pub keeps : Keeps words G
+  pub gaps : GapSetsAre φs G M X n takes
+
+-- What is lent for the graph of a show: a reading, the graph as words, and where the items of each template stand in the bytes.
+pub record Shown (r : Reading) (s words starts : List ℕ) (φs : List Items) (G : Summary) (M : Morphisms.Morphism) : Type 0 where
+  pub used : Used M
+  pub reads : Reads r M
+  pub bounded : Bounded φs G
+  pub keeps : Keeps words G
+  pub few : length φs < 32
+  pub stand : StartsAt s φs starts

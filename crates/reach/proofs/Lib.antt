@@ -1,0 +1,17 @@
+pub mod Marks
+pub mod Sets
+pub mod Unions
+pub mod Closing
+pub mod Filling
+pub mod Edges
+pub mod Reaching
+pub mod YieldingTemplates
+pub mod AttributeNames
+pub mod Outside
+pub mod Outlining
+pub mod ItemWalks
+pub mod ListWalks
+pub mod Leading
+pub mod Bringing
+pub mod Templates
+pub mod Splitting

@@ -1,0 +1,56 @@
+-- The two tests of an element that is plainly wrong, by sets.
+use Prim.Native.Nat.{ℕ, _+_, _<_}
+use mathlib.Core.Path.{_≡_, sym, ap, _∙_}
+use mathlib.Core.List.{List}
+use mathlib.Core.Bool.{Bool, true, false, not, _&&_, false≢true}
+use Rattle.sets.specs.Sets.{member, Within}
+use Rattle.vocabularies.specs.Vocabulary.{isIn}
+use Rattle.pages.specs.Items.{Items}
+use Rattle.pages.specs.RightPages.{names}
+use Rattle.judging.specs.Judgement.{allIn}
+use Rattle.judging.proofs.Rules.{within-lists}
+use Rattle.judging.proofs.ItemLaws.{found-at}
+use Rattle.summaries.specs.Summaries.{Summary}
+use Rattle.patterns.specs.Given.{contents}
+use Rattle.patterns.specs.Rounds.{Sets, anyBelow}
+use Rattle.patterns.specs.Reached.{contentsOf}
+use Rattle.patterns.specs.Elements.{contentOutside}
+use Rattle.patterns.proofs.Tests.{and-both, and-left, and-right, failed, any-below, below-any}
+use Rattle.reach.specs.PlainlyWrong.{plainlyUnder}
+use Rattle.reach.specs.Walking.{TellsOutside}
+
+module _ (φs : List Items) (G : Summary) (C : Sets) (n : ℕ) (allowed : List ℕ) (φ : Items) (inside held : ℕ)
+    (is : (c : ℕ) → c < contents → member inside c ≡ contentsOf φs G C n φ c) (is-held : (c : ℕ) → member held c ≡ isIn c allowed) where
+  abbrev out : ℕ → Bool
+  out c = contentsOf φs G C n φ c && not (isIn c allowed)
+
+  -- Every content is allowed, or one is not.
+  content-test : (t : Bool) → Within inside held t → contentOutside φs G C allowed n φ ≡ not t
+  unfolding contentOutside
+  content-test true w = failed (anyBelow contents out)
+      (λ e.
+      let (c, h, p) = below-any contents out e in
+      let k : isIn c allowed ≡ true = sym (is-held c) ∙ w c (is c h ∙ and-left (contentsOf φs G C n φ c) (not (isIn c allowed)) p) in
+      false≢true (sym (ap not k) ∙ and-right (contentsOf φs G C n φ c) (not (isIn c allowed)) p))
+  content-test false (c, h, p, q) = any-below contents out c h (and-both (sym (is c h) ∙ p) (ap not (sym (is-held c) ∙ q)))
+
+module _ (at named allowed inside held : ℕ) where
+  pub names-outside : (t : Bool) → Within named allowed t → t ≡ false → TellsOutside at named allowed inside held (at + 1)
+  unfolding plainlyUnder
+  names-outside t w e φs G C n R δ φ c =
+      let a : allIn (names δ) (R .attributes) ≡ false = within-lists named allowed (names δ) (R .attributes) (c .names) (c .allows) t w ∙ e in
+      rw a (found-at at)
+
+  pub content-outside : (t u : Bool) → Within named allowed t → t ≡ true → Within inside held u → u ≡ false → TellsOutside at named allowed inside held (at + 1)
+  unfolding plainlyUnder
+  content-outside t u w e v q φs G C n R δ φ c =
+      let a : allIn (names δ) (R .attributes) ≡ true = within-lists named allowed (names δ) (R .attributes) (c .names) (c .allows) t w ∙ e in
+      let b : contentOutside φs G C (R .contents) n φ ≡ true = content-test φs G C n (R .contents) φ inside held (c .contents) (c .holds) u v ∙ ap not q in
+      rw (a, b) (found-at at)
+
+  pub none-outside : (t u : Bool) → Within named allowed t → t ≡ true → Within inside held u → u ≡ true → TellsOutside at named allowed inside held 0
+  unfolding plainlyUnder
+  none-outside t u w e v q φs G C n R δ φ c =
+      let a : allIn (names δ) (R .attributes) ≡ true = within-lists named allowed (names δ) (R .attributes) (c .names) (c .allows) t w ∙ e in
+      let b : contentOutside φs G C (R .contents) n φ ≡ false = content-test φs G C n (R .contents) φ inside held (c .contents) (c .holds) u v ∙ ap not q in
+      rw (a, b)

@@ -1,0 +1,94 @@
+-- What the code that walks over the items of a template promises: the outline of a list, its end, and the lowest element in it that is
+-- plainly wrong. Each promise is about bytes that read.
+use Prim.Native.Nat.{ℕ, _≤_, _<_}
+use mathlib.Core.Path.{_≡_}
+use mathlib.Core.List.{List}
+use mathlib.Core.Bool.{Bool, true, cond, _&&_}
+use mathlib.Core.Option.{some, none}
+use lib.ListN.{length, getD}
+use Rattle.sets.specs.Sets.{member}
+use Rattle.commands.specs.Reading.{whole}
+use Rattle.vocabularies.specs.Vocabulary.{Rule, Vocabulary, ruleOf, declared, isIn}
+use Rattle.pages.specs.declared.Kind.the-variants.{Template}
+use Rattle.pages.specs.Items.{Attribute, Item, Items, one}
+use Rattle.pages.specs.ItemReading.{attributes, item, items}
+use Rattle.pages.specs.RightPages.{names}
+use Rattle.pages.specs.Promises.{Located}
+use Rattle.programs.specs.Program.{templateAt}
+use Rattle.judging.specs.declared.Named.{Named}
+use Rattle.judging.specs.Promises.{wrongOf}
+use Rattle.summaries.specs.Proposal.{edge}
+use Rattle.summaries.specs.Summaries.{Summary}
+use Rattle.patterns.specs.Given.{contents}
+use Rattle.patterns.specs.Rounds.{Sets, anyTemplate}
+use Rattle.patterns.specs.Reached.{contentsOf}
+use Rattle.patterns.specs.Shows.{onlyIf, lowestMark}
+use Rattle.reach.specs.declared.Walked.{Walked}
+use Rattle.reach.specs.Outlines.{Outline}
+use Rattle.reach.specs.PlainlyWrong.{plainlyUnder, plainlyWrong}
+use Rattle.reach.specs.Promises.{GraphKept}
+
+-- The names of the attributes that stand at an offset, and their end.
+abbrev pub NamesAt : List ℕ → ℕ → Named → Type 0
+NamesAt s at r = (f end : ℕ) (before : List ℕ) (δ : List Attribute) → attributes f Template s before at ≡ whole δ end
+    → (r .next .at ≡ end) × ((a : ℕ) → member (r .names) a ≡ isIn a (names δ))
+
+-- The allowed attributes and contents of each element that has a rule, as sets.
+pub record RulesKept (D : Vocabulary) (allowed held : List ℕ) : Type 0 where
+  pub allows : (e : ℕ) (r : Rule) → ruleOf (D .rules) e ≡ some r → (a : ℕ) → member (getD allowed e 0) a ≡ isIn a (r .attributes)
+  pub holds : (e : ℕ) (r : Rule) → ruleOf (D .rules) e ≡ some r → (c : ℕ) → member (getD held e 0) c ≡ isIn c (r .contents)
+
+module _ (φs : List Items) (G : Summary) (C : Sets) (n : ℕ) where
+  -- The contents that each gap of template n can bring.
+  abbrev pub Brings : List ℕ → Type 0
+  Brings brings = (g c : ℕ) → g < 8 → c < contents → member (getD brings g 0) c ≡ anyTemplate φs (λ m. G (edge n g m) && C m c)
+
+  -- An element's attributes and contents, and those that its rule allows, as sets.
+  pub record Compared (R : Rule) (δ : List Attribute) (φ : Items) (named allowed inside held : ℕ) : Type 0 where
+    pub names : (a : ℕ) → member named a ≡ isIn a (names δ)
+    pub allows : (a : ℕ) → member allowed a ≡ isIn a (R .attributes)
+    pub contents : (c : ℕ) → c < contents → member inside c ≡ contentsOf φs G C n φ c
+    pub holds : (c : ℕ) → member held c ≡ isIn c (R .contents)
+
+-- The offset of an element that is plainly wrong, and 1; or 0.
+abbrev pub TellsOutside : ℕ → ℕ → ℕ → ℕ → ℕ → ℕ → Type 0
+TellsOutside at named allowed inside held r = (φs : List Items) (G : Summary) (C : Sets) (n : ℕ) (R : Rule) (δ : List Attribute) (φ : Items)
+    → Compared φs G C n R δ φ named allowed inside held → wrongOf r ≡ onlyIf (plainlyUnder φs G C R n δ φ) at
+
+-- What is told of a list of items; of elements, where those that have a rule are read alone.
+pub record IsWalked (ruled : ℕ → Bool) (allowed held brings : List ℕ) (φ : Items) (end : ℕ) (r : Walked) : Type 0 where
+  pub ends : r .next .at ≡ end
+  pub outline : Outline φ (r .inside) (r .gaps)
+  pub finds : (φs : List Items) (G : Summary) (C : Sets) (n : ℕ) (D : Vocabulary) → RulesKept D allowed held → Brings φs G C n brings
+      → ((e : ℕ) → ruled e ≡ true → declared (D .rules) e ≡ true)
+      → wrongOf (r .wrong) ≡ lowestMark (λ e mark δ χ. plainlyWrong φs G C D n e δ χ) φ
+
+abbrev pub WalksItem : List ℕ → List ℕ → List ℕ → List ℕ → ℕ → Walked → Type 0
+WalksItem s allowed held brings at r = (ruled : ℕ → Bool) (f depth end : ℕ) (i : Item) → item f Template ruled s depth at ≡ whole i end
+    → IsWalked ruled allowed held brings (one i) end r
+
+abbrev pub WalksItems : List ℕ → List ℕ → List ℕ → List ℕ → ℕ → Walked → Type 0
+WalksItems s allowed held brings at r = (ruled : ℕ → Bool) (f depth end : ℕ) (φ : Items) → items f Template ruled s depth at ≡ whole φ end
+    → IsWalked ruled allowed held brings φ end r
+
+-- The words have the contents that can stand in the pages of each template.
+abbrev pub ContentsKept : List Items → Sets → List ℕ → Type 0
+ContentsKept φs C within = (n c : ℕ) → n ≤ length φs → c < contents → member (getD within n 0) c ≡ C n c
+
+abbrev pub TellsBrings : List ℕ → ℕ → List ℕ → List ℕ → Type 0
+TellsBrings words n within r = (φs : List Items) (G : Summary) (C : Sets) (count : ℕ) → GraphKept φs G words count → ContentsKept φs C within
+    → Brings φs G C n r
+
+-- The lowest element that is plainly wrong in items of template n that stand at an offset.
+abbrev pub TellsWrongIn : List ℕ → List ℕ → List ℕ → ℕ → List ℕ → ℕ → List ℕ → ℕ → Type 0
+TellsWrongIn s allowed held at words n within r = (φs : List Items) (G : Summary) (C : Sets) (D : Vocabulary) (count : ℕ)
+    → GraphKept φs G words count → RulesKept D allowed held → ContentsKept φs C within
+    → (f end : ℕ) (φ : Items) → items f Template (declared (D .rules)) s 0 at ≡ whole φ end
+    → wrongOf r ≡ lowestMark (λ e mark δ χ. plainlyWrong φs G C D n e δ χ) φ
+
+-- The lowest element of each template of a set that is plainly wrong, and none for the other templates.
+abbrev pub TellsPlainlyWrong : List ℕ → List ℕ → List ℕ → List ℕ → ℕ → List ℕ → List ℕ → ℕ → List ℕ → Type 0
+TellsPlainlyWrong s allowed held starts count words within reached r = (φs : List Items) (G : Summary) (C : Sets) (D : Vocabulary)
+    → GraphKept φs G words count → RulesKept D allowed held → Located (declared (D .rules)) s φs count starts
+    → ContentsKept φs C within → (n : ℕ) → n ≤ length φs
+    → wrongOf (getD r n 0) ≡ cond (member reached n) (lowestMark (λ e mark δ φ. plainlyWrong φs G C D n e δ φ) (templateAt φs n)) none
