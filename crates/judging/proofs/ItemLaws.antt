@@ -31,7 +31,7 @@ pub or-none : (o : Option ℕ) → orElse o none ≡ o
 or-none none = refl
 or-none (some n) = refl
 
-or-or : (a b c : Option ℕ) → orElse (orElse a b) c ≡ orElse a (orElse b c)
+pub or-or : (a b c : Option ℕ) → orElse (orElse a b) c ≡ orElse a (orElse b c)
 or-or none b c = refl
 or-or (some n) b c = refl
 
@@ -43,7 +43,7 @@ stays-first (suc a) b n = refl
 pub found-at : (at : ℕ) → wrongOf (at + 1) ≡ some at
 found-at at = rw (add-one at)
 
-inner-end : (depth : ℕ) → endOf (depth + 1) ≡ 0x26
+pub inner-end : (depth : ℕ) → endOf (depth + 1) ≡ 0x26
 inner-end depth = rw (ne-eqb (depth + 1) 0 (λ q. omega arith))
 
 module _ (D : Vocabulary) (p : List ℕ) where
@@ -176,21 +176,7 @@ module _ (D : Vocabulary) (p : List ℕ) where
           finds = is-wrong ∙ rw (P .declares, ← r, l .finds);
         })
 
-  -- ---- a list of items inside an element
-
-  -- What the items from an offset on add to a word and to what was found before.
-  pub record Added (w : List ℕ) (found : Option ℕ) (φ : Items) (end : ℕ) (r : Listed) (last : List ℕ) : Type 0 where
-    pub contains : Containing (w ++ word φ) (r .inside) last
-    pub ends : r .next .at ≡ end
-    pub finds : wrongOf (r .wrong) ≡ orElse found (firstWrong D φ)
-
-  abbrev pub Adds : List ℕ → Option ℕ → ℕ → Listed → List ℕ → Type 0
-  Adds w found at r last = (f depth end : ℕ) (φ : Items) → items f Page ruled p (depth + 1) at ≡ whole φ end → Added w found φ end r last
-
-  pub adds-all : (at : ℕ) (r : Listed) (last : List ℕ) → Adds [] none at r last → JudgesItems D p at r last
-  adds-all at r last A f depth end φ e =
-      let a = A f depth end φ e in
-      record { contains = a .contains; ends = a .ends; finds = a .finds }
+  -- ---- a list of items
 
   -- A list of items, at any depth: it ends, or goes on with an item and the others.
   module _ (depth at : ℕ) where
@@ -240,45 +226,3 @@ module _ (D : Vocabulary) (p : List ℕ) where
           reads-others = subst (λ (k : ℕ). items (B .fuel) Page ruled p depth (q .1) ≡ whole (o .0) k) t (o .2);
           is = cc;
         }
-
-  -- `26` ends the list inside an element.
-  pub list-ends : (w : List ℕ) (at contents : ℕ) (before : List ℕ) (wrong : ℕ) → byte p at ≡ 0x26 → Containing w contents before
-      → Adds w (wrongOf wrong) at (record { inside = contents; next = record { at = at + 1 }; wrong = wrong }) before
-  unfolding word firstWrong
-  list-ends w at contents before wrong code C f depth end φ e =
-      let n = list-none (depth + 1) at f end φ (code ∙ sym (inner-end depth)) e in
-      rw (n .0) (record { contains = rw (append-nil w) C; ends = n .1; finds = sym (or-none (wrongOf wrong)) })
-
-  module _ (w : List ℕ) (found : Option ℕ) (at : ℕ) (r : Listed) (last : List ℕ) where
-    -- An item, and then the others.
-    pub one-more : (i : Judged) → (byte p at ≡ 0x26 → ⊥) → JudgesItem D p at i
-        → Adds (w ++ (i .content ∷ [])) (orElse found (wrongOf (i .wrong))) (i .next .at) r last → Adds w found at r last
-    unfolding word firstWrong
-    one-more i other J A f depth end φ e =
-        let P = list-parts (depth + 1) at f end φ (λ q. other (q ∙ inner-end depth)) e in
-        let j : ItemJudged D (P .first) (P .next) i = J (P .fuel) (depth + 1) (P .next) (P .first) (P .reads) in
-        let a : Added (w ++ (i .content ∷ [])) (orElse found (wrongOf (i .wrong))) (P .others-read) end r last =
-        A (P .fuel) depth end (P .others-read) (subst (λ (m : ℕ). items (P .fuel) Page ruled p (depth + 1) m ≡ whole (P .others-read) end) (sym (j .ends)) (P .reads-others)) in
-        rw (P .is) (record {
-          contains = rw (j .is (word (P .others-read)), ← append-assoc w (i .content ∷ []) (word (P .others-read))) (a .contains);
-          ends = a .ends;
-          finds = a .finds ∙ or-or found (wrongOf (i .wrong)) (firstWrong D (P .others-read)) ∙ rw (j .finds);
-        })
-
-    -- Past the end no list stands.
-    pub past-list : length p ≤ at → Adds w found at r last
-    past-list past f depth end φ e =
-        let P = list-parts (depth + 1) at f end φ (λ q. let z : byte p at ≡ 0 = byte-past p at past in omega (arith, q ∙ inner-end depth)) e in
-        let h : at < length p = begins (depth + 1) at (P .fuel) (P .next) (P .first) (P .reads) .here in
-        absurd (omega arith)
-
-  -- Where judging has come: what the items from here on add is what all of them add to nothing.
-  pub record Judging (at₀ : ℕ) (preceding : List ℕ) (at inside : ℕ) (wrong : ℕ) : Type 0 where
-    pub word : List ℕ
-    pub contains : Containing word inside preceding
-    pub goes : (r : Listed) (last : List ℕ) → Adds word (wrongOf wrong) at r last → Adds [] none at₀ r last
-
-pub record Going (v attributes contents clauses p preceding₀ : List ℕ) (at₀ : ℕ) (preceding : List ℕ) (at inside : ℕ) (wrong : ℕ) : Type 0 where
-  pub forward : at₀ ≤ at
-  pub room : length preceding ≡ 64
-  pub judging : (D : Vocabulary) → Tabled v D attributes contents clauses → Containing [] 0 preceding₀ → Judging D p at₀ preceding at inside wrong

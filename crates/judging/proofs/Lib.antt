@@ -4,3 +4,5 @@ pub mod Rules
 pub mod AttributeLaws
 pub mod WordLaws
 pub mod ItemLaws
+pub mod Spelling
+pub mod Lists

@@ -1,8 +1,9 @@
 -- Words of contents, one content at a time.
 use Prim.Native.Nat.{ℕ, zero, suc, _^_, _<_}
 use mathlib.Core.Path.{_≡_, refl, sym, _∙_}
-use mathlib.Core.List.{List, [], _∷_, _++_}
-use mathlib.Core.Bool.{Bool, true, false, _&&_, _||_, and-false, or-false, or-comm, false≢true}
+use mathlib.Core.List.{List, [], _∷_, _++_, append-assoc, append-nil}
+use mathlib.Core.Bool.{Bool, true, false, _&&_, _||_, and-false, or-false, or-true, or-comm, false≢true}
+use native.Mathlib.Omega.{arith}
 use lib.ListN.{length, getD, set, replicate}
 use lib.Seq.{getD-set-same, getD-set-other}
 use lib.Dec.{eqb, ltb}
@@ -82,3 +83,39 @@ no-content n = record {
   has = λ k. member-zero k;
   ordered = λ c d. rw (zeros n c) (member-zero d);
 }
+
+-- A content that stands twice at the end: once more changes nothing.
+module _ (c : ℕ) where
+  again-in : (u : List ℕ) (k : ℕ) → isIn c u ≡ true → isIn k (u ++ (c ∷ [])) ≡ isIn k u
+  again-in u k is = rw (is-in-more k c u) (by-test (eqb k c)
+      (λ e. rw (eqb-true k c e, is))
+      (λ e. rw e (or-false (isIn k u))))
+
+  or-twice : (a b : Bool) → ((a || b) || b) ≡ (a || b)
+  or-twice true b = refl
+  or-twice false true = refl
+  or-twice false false = refl
+
+  again-content : (u : List ℕ) (contents : ℕ) (before : List ℕ) → isIn c u ≡ true → Containing (u ++ (c ∷ [])) contents before
+      → Containing ((u ++ (c ∷ [])) ++ (c ∷ [])) contents before
+  again-content u contents before is C = record {
+    has = λ k. C .has k ∙ sym (again-in (u ++ (c ∷ [])) k (again-in u c is ∙ is));
+    ordered = λ k d.
+        C .ordered k d ∙ rw (precedes-more d k c (u ++ (c ∷ [])), again-in u d is, precedes-more d k c u) (sym (or-twice (precedes u d k) (eqb k c && isIn d u)));
+  }
+
+  contents-again : (n : ℕ) (u : List ℕ) (contents : ℕ) (before : List ℕ) → isIn c u ≡ true → Containing (u ++ (c ∷ [])) contents before
+      → Containing ((u ++ (c ∷ [])) ++ replicate n c) contents before
+  contents-again zero u contents before is C = rw (append-nil (u ++ (c ∷ []))) C
+  contents-again (suc n) u contents before is C =
+      rw (← append-assoc (u ++ (c ∷ [])) (c ∷ []) (replicate n c))
+      (contents-again n (u ++ (c ∷ [])) contents before (again-in u c is ∙ is) (again-content u contents before is C))
+
+  -- Any number from two on.
+  pub contents-more : (n : ℕ) (w : List ℕ) (contents : ℕ) (before : List ℕ) → 0 < n → (n ≡ 1 → ⊥) → Containing ((w ++ (c ∷ [])) ++ (c ∷ [])) contents before
+      → Containing (w ++ replicate n c) contents before
+  contents-more zero w contents before some two C = absurd (omega arith)
+  contents-more (suc zero) w contents before some two C = absurd (two refl)
+  contents-more (suc (suc n)) w contents before some two C =
+      rw (← append-assoc w (c ∷ []) (c ∷ replicate n c), ← append-assoc (w ++ (c ∷ [])) (c ∷ []) (replicate n c))
+      (contents-again n (w ++ (c ∷ [])) contents before (is-in-more c c w ∙ rw (eq-eqb c c refl) (or-true (isIn c w))) C)

@@ -1,6 +1,6 @@
 -- What the code that judges promises, in terms of the definitions that read and judge. Each promise is about bytes that read; what
 -- the code answers on others is free, and no public call hands it others.
-use Prim.Native.Nat.{ℕ, zero, suc, _+_, _%_}
+use Prim.Native.Nat.{ℕ, zero, suc, _+_, _-_, _%_, _≤_, _<_}
 use mathlib.Core.Path.{_≡_}
 use mathlib.Core.List.{List, [], _∷_}
 use mathlib.Core.Bool.{Bool, true, not, _&&_, _||_}
@@ -74,6 +74,16 @@ Tabled v D allowed held from = (e : ℕ) (R : Rule) → ruleOf (D .rules) e ≡ 
 abbrev pub wrongOf : ℕ → Option ℕ
 wrongOf zero = none
 wrongOf (suc at) = some at
+
+-- The bytes from an offset up to another are spelt again `t` further on.
+abbrev pub Spelt : List ℕ → ℕ → ℕ → ℕ → Type 0
+Spelt p t from to = (k : ℕ) → from ≤ k → k < to → byte p (k + t) ≡ byte p k
+
+-- The bytes from `seen` on up to `past` are spelt again at an offset behind them, and end there at another.
+pub record SpeltAgain (p : List ℕ) (seen past at end : ℕ) : Type 0 where
+  pub some-byte : seen < past
+  pub ends : end ≡ past + (at - seen)
+  pub same : Spelt p (at - seen) seen past
 
 -- What content an item is, its end, and its first wrong element.
 pub record ItemJudged (D : Vocabulary) (i : Item) (end : ℕ) (r : Judged) : Type 0 where

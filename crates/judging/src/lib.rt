@@ -4,11 +4,12 @@ ghost use mathlib.Core.Bool.{cond, not, _&&_, _||_};
 ghost use mathlib.Core.Option.{some};
 ghost use mathlib.Core.List.{List, [], _∷_, _++_};
 ghost use Prim.Native.Nat.{ℕ, _%_, _^_, _≤_, _<_};
-ghost use lib.ListN.{length, getD};
+ghost use lib.ListN.{length, getD, replicate};
+ghost use lib.Dec.{eqb};
 ghost use Rattle.sets.specs.Sets.{member};
 ghost use Rattle.vocabularies.specs.Vocabulary.{Vocabulary};
 ghost use Rattle.judging.specs.Judgement.{orElse};
-ghost use Rattle.judging.specs.Promises.{tableAtoms, Holds, NoConnective, AllHold, Names, Containing, IsRight, Tabled, wrongOf, JudgesItem, JudgesItems};
+ghost use Rattle.judging.specs.Promises.{tableAtoms, Holds, NoConnective, AllHold, Names, Containing, IsRight, Tabled, SpeltAgain, wrongOf, JudgesItem, JudgesItems};
 use commands::Position;
 
 // The truth of a formula, and the position after it.
@@ -301,6 +302,51 @@ fn add_content(preceding: &mut [u64; 64], inside: u64, c: u8) -> u64
     sets::with(inside, c)
 }
 
+// So many texts more, after the contents inside: from the third on they change nothing.
+fn add_texts(preceding: &mut [u64; 64], inside: u64, n: usize) -> u64
+    requires { ⌜ (length (now preceding) ≡ 64) × (0 < n) ⌝ }
+    ensures long { λ _. ⌜ length (now (preceding .exit)) ≡ 64 ⌝ }
+    ensures more { λ r. ⌜ ((w : List ℕ) → Containing w inside (now (preceding .entry)) → Containing (w ++ replicate n 0) r (now (preceding .exit))) ⌝ }
+{
+    let once = add_content(preceding, inside, 0);
+    if n == 1 {
+        return once;
+    }
+    add_content(preceding, once, 0)
+}
+
+// The offset after the bytes here that spell the same as those from `seen` on up to `past`; 0 if they do not, or none are seen.
+fn after_same(p: &[u8], seen: usize, past: usize, at: usize) -> usize
+    requires { ⌜ (seen ≤ past) × (past ≤ at) × (at < length (now p)) ⌝ }
+    ensures { λ r. ⌜ (0 < r → SpeltAgain (now (p .entry)) seen past at r) ⌝ }
+{
+    let n = past - seen;
+    if n == 0 {
+        return 0;
+    }
+    if p.len() - at < n {
+        return 0;
+    }
+    let mut i = 0;
+    while i < n {
+        if p[at + i] != p[seen + i] {
+            return 0;
+        }
+        i += 1;
+    }
+    at + n
+}
+
+// What is kept of an element that was judged, or of the one before it, if an element is wrong.
+fn kept(wrong: usize, new: usize, old: usize) -> usize
+    ensures { λ r. ⌜ r ≡ cond (eqb wrong 0) new old ⌝ }
+{
+    if wrong == 0 {
+        return new;
+    }
+    old
+}
+
 // The item here, under the rules whose tables are given. An element is judged before those inside it.
 pub fn judge_item(
     v: &[u8],
@@ -346,7 +392,8 @@ pub fn judge_item(
     }
 }
 
-// The items from here on, up to `26`.
+// The items from here on, up to `26`. The last element that was right, with all in it, is kept: one that is spelt the same needs no
+// judging.
 fn judge_items(
     v: &[u8],
     attributes: &[u64; 64],
@@ -363,6 +410,8 @@ fn judge_items(
     let mut at = here.at;
     let mut inside: u64 = 0;
     let mut wrong: usize = 0;
+    let mut seen = at;
+    let mut past = at;
     while at < p.len() {
         if p[at] == 0x26 {
             return Listed {
@@ -371,11 +420,26 @@ fn judge_items(
                 wrong,
             };
         }
-        let item = judge_item(v, attributes, contents, clauses, p, Position { at });
-        inside = add_content(preceding, inside, item.content);
-        wrong = first_of(wrong, item.wrong);
-        let next = item.next;
-        at = next.at;
+        if p[at] != 0x23 {
+            let end = pages::after_text(p, Position { at: at + 1 });
+            inside = add_texts(preceding, inside, end.at - at);
+            at = end.at;
+        } else {
+            let same = after_same(p, seen, past, at);
+            if same != 0 {
+                let e = commands::byte_at(p, at + 1) % 64;
+                inside = add_content(preceding, inside, e);
+                at = same;
+            } else {
+                let item = judge_item(v, attributes, contents, clauses, p, Position { at });
+                inside = add_content(preceding, inside, item.content);
+                wrong = first_of(wrong, item.wrong);
+                let next = item.next;
+                seen = kept(item.wrong, at, seen);
+                past = kept(item.wrong, next.at, past);
+                at = next.at;
+            }
+        }
     }
     Listed {
         inside,

@@ -75,7 +75,7 @@ fn part_of(d: Decoded) -> Part
 }
 
 // Steps over the `21`s that stand one after the other: each of them is an item, text.
-fn after_text(s: &[u8], here: Position) -> Position
+pub fn after_text(s: &[u8], here: Position) -> Position
     ensures { λ r. ⌜ PastText (now (s .entry)) (here .at) (r .at) ⌝ }
 {
     let mut at = here.at;
@@ -108,7 +108,7 @@ pub fn read_items(kind: Kind, declared: u64, s: &[u8], here: Position, depth: us
 fn read_item(kind: Kind, declared: u64, s: &[u8], here: Position, depth: usize) -> Part
     ensures { λ r. ⌜ ItemRead kind (member declared) (now (s .entry)) depth (here .at) r ⌝ }
 {
-    let d = here.command(s, item_context(kind));
+    let d = here.item_command(s, item_context(kind));
     let Decoded::Moved(code, next) = d else {
         return part_of(d);
     };
@@ -136,7 +136,7 @@ fn read_attributes(kind: Kind, s: &[u8], here: Position) -> Part
     let mut seen: u64 = 0;
     let mut p = here;
     while commands::is_allowed(context, commands::byte_at(s, p.at)) {
-        let d = p.command(s, context);
+        let d = p.attribute_command(s, context);
         let Decoded::Moved(_, next) = d else {
             return part_of(d);
         };

@@ -1,12 +1,13 @@
 -- An element's contents are judged, then the element by its rule; a list's items one after the other. The measure is twice the unread
 -- bytes, and one more for a list, which begins with an item at the same offset.
 use Prim.Native.Nat.{ℕ, _<_, _+_, _-_}
-use mathlib.Core.List.{[], _∷_, _++_}
+use mathlib.Core.List.{[]}
 use native.Mathlib.Omega.{arith}
 use lib.ListN.{length}
 use borrow.Author.Needs.{needs}
 use Rattle.judging.proofs.WordLaws.{no-content}
-use Rattle.judging.proofs.ItemLaws.{past-item, text-item, element-item, adds-all, list-ends, one-more, past-list, Going}
+use Rattle.judging.proofs.ItemLaws.{past-item, text-item, element-item}
+use Rattle.judging.proofs.Lists.{all-left, list-ends, past-list, texts-more, same-more, item-more, kept-between, again-further, Going}
 use borrow.Fn.Kinds.{In}
 use borrow.Fn.PlainCycle.{Measures, is, falls, and}
 use Rattle.judging.proofs.judge_item.Reads as judge-item
@@ -18,10 +19,14 @@ use Rattle.judging.proofs.+judge_item+judge_items.Lts-judge_items as ju
 use Rattle.commands.proofs.byte_at.Reads as byte-at-reads
 use Rattle.judging.proofs.Judged.text.Reads as text-reads
 use Rattle.judging.proofs.add_content.Reads as add-content-reads
+use Rattle.judging.proofs.add_texts.Reads as add-texts-reads
+use Rattle.judging.proofs.after_same.Reads as after-same-reads
 use Rattle.judging.proofs.element_first.Reads as element-first-reads
 use Rattle.judging.proofs.first_of.Reads as first-of-reads
 use Rattle.judging.proofs.is_right.Reads as is-right-reads
+use Rattle.judging.proofs.kept.Reads as kept-reads
 use Rattle.judging.proofs.read_attributes.Reads as read-attributes-reads
+use Rattle.pages.proofs.after_text.Reads as after-text-reads
 use Rattle.judging.proofs.+judge_item+judge_items.{statement}
 use Rattle.judging.proofs.+judge_item+judge_items.Tie.{close}
 
@@ -51,7 +56,7 @@ abbrev item-told : ℕ → judge-item-lts.Claims
 item-told t = (text-reads.Asked, text-reads.Learnt, byte-at-reads.Asked, byte-at-reads.Learnt, read-attributes-reads.Asked, read-attributes-reads.Learnt, judge-items-below t, judge-items.Post, is-right-reads.Asked, is-right-reads.Learnt, element-first-reads.Asked, element-first-reads.Learnt)
 
 abbrev items-told : ℕ → judge-items-lts.Claims
-items-told t = (judge-item-below t, judge-item.Post, add-content-reads.Asked, add-content-reads.Learnt, first-of-reads.Asked, first-of-reads.Learnt)
+items-told t = (after-text-reads.Asked, after-text-reads.Learnt, add-texts-reads.Asked, add-texts-reads.Learnt, after-same-reads.Asked, after-same-reads.Learnt, byte-at-reads.Asked, byte-at-reads.Learnt, add-content-reads.Asked, add-content-reads.Learnt, judge-item-below t, judge-item.Post, first-of-reads.Asked, first-of-reads.Learnt, kept-reads.Asked, kept-reads.Learnt)
 
 judge-item-text-requires : (t : ℕ) → judge-item-lts.Need-text-requires (item-told t) (judge-item-at t) judge-item.Post
 judge-item-text-requires t c κs = tt
@@ -128,63 +133,133 @@ judge-item-returns-3 t c =
     )
 
 abbrev judge-items-Inv-loop : judge-items-lts.InvT-loop
-judge-items-Inv-loop v attributes contents clauses p preceding₀ at₀ inside₀ wrong₀ preceding at inside wrong =
-    Going v attributes contents clauses p preceding₀ at₀ preceding at inside wrong
+judge-items-Inv-loop v attributes contents clauses p preceding₀ at₀ inside₀ wrong₀ seen₀ past₀ preceding at inside wrong seen past =
+    Going v attributes contents clauses p preceding₀ at₀ preceding at inside wrong seen past
 
 abbrev judge-items-μ-loop : judge-items-lts.MeasureT-loop
-judge-items-μ-loop v attributes contents clauses p preceding₀ at₀ inside₀ wrong₀ preceding at inside wrong =
+judge-items-μ-loop v attributes contents clauses p preceding₀ at₀ inside₀ wrong₀ seen₀ past₀ preceding at inside wrong seen past =
     length p - at
 
 judge-items-loop-holds : (t : ℕ) → judge-items-lts.Need-loop-holds (items-told t) (judge-items-at t) judge-items.Post judge-items-Inv-loop judge-items-μ-loop
 judge-items-loop-holds t c = record {
   forward = omega arith;
   room = c .before .before .pre .1;
-  judging = λ D T C. record { word = []; contains = C; goes = λ r last A. A };
+  earlier = omega arith;
+  behind = omega arith;
+  judging = λ D T C f depth end φ e. record { before = []; contains = C; left = all-left D _ depth φ end f _ e; right = λ h. absurd (omega (arith, h)) };
 }
 
 judge-items-shared-slice-read-if1 : (t : ℕ) → judge-items-lts.Need-shared-slice-read-if1 (items-told t) (judge-items-at t) judge-items.Post judge-items-Inv-loop judge-items-μ-loop
 judge-items-shared-slice-read-if1 t c = omega arith
 
-judge-items-add-t17 : (t : ℕ) → judge-items-lts.Need-add-t17 (items-told t) (judge-items-at t) judge-items.Post judge-items-Inv-loop judge-items-μ-loop
-judge-items-add-t17 t c = omega arith
+judge-items-add-t22 : (t : ℕ) → judge-items-lts.Need-add-t22 (items-told t) (judge-items-at t) judge-items.Post judge-items-Inv-loop judge-items-μ-loop
+judge-items-add-t22 t c = omega arith
 
 judge-items-returns : (t : ℕ) → judge-items-lts.Need-returns (items-told t) (judge-items-at t) judge-items.Post judge-items-Inv-loop judge-items-μ-loop
 judge-items-returns t c =
     let l = c .before .before .before .loop in
-    (omega arith, λ D T C. let J = l .inv .judging D T C in adds-all D _ _ _ _ (J .goes _ _ (list-ends D _ (J .word) _ _ _ _ (c .if1 .taken) (J .contains))))
+    (omega arith, λ D T C f depth end φ e. list-ends D _ depth φ end _ _ _ _ _ _ (l .inv .judging D T C f depth end φ e) (c .if1 .taken))
 
-judge-items-judge-item-requires : (t : ℕ) → judge-items-lts.Need-judge-item-requires (items-told t) (judge-items-at t) judge-items.Post judge-items-Inv-loop judge-items-μ-loop
-judge-items-judge-item-requires t c κs = (omega arith, tt)
+judge-items-shared-slice-read-if2 : (t : ℕ) → judge-items-lts.Need-shared-slice-read-if2 (items-told t) (judge-items-at t) judge-items.Post judge-items-Inv-loop judge-items-μ-loop
+judge-items-shared-slice-read-if2 t c = omega arith
+
+judge-items-add-add-texts : (t : ℕ) → judge-items-lts.Need-add-add-texts (items-told t) (judge-items-at t) judge-items.Post judge-items-Inv-loop judge-items-μ-loop
+judge-items-add-add-texts t c = omega arith
+
+judge-items-after-text-requires : (t : ℕ) → judge-items-lts.Need-after-text-requires (items-told t) (judge-items-at t) judge-items.Post judge-items-Inv-loop judge-items-μ-loop
+judge-items-after-text-requires t c κs = tt
+
+judge-items-sub-add-texts : (t : ℕ) → judge-items-lts.Need-sub-add-texts (items-told t) (judge-items-at t) judge-items.Post judge-items-Inv-loop judge-items-μ-loop
+judge-items-sub-add-texts t c = omega (arith, c .before .before .after-text .ensures .forward)
+
+judge-items-add-texts-requires : (t : ℕ) → judge-items-lts.Need-add-texts-requires (items-told t) (judge-items-at t) judge-items.Post judge-items-Inv-loop judge-items-μ-loop
+judge-items-add-texts-requires t c κs = (c .before .before .before .before .before .before .before .before .loop .inv .room, omega (arith, c .before .before .after-text .ensures .forward))
+
+judge-items-loop-less : (t : ℕ) → judge-items-lts.Need-loop-less (items-told t) (judge-items-at t) judge-items.Post judge-items-Inv-loop judge-items-μ-loop
+judge-items-loop-less t c = omega (arith, c .before .before .before .after-text .ensures .forward, c .before .before .before .before .before .before .before .before .loop-test .taken)
+
+judge-items-loop-again : (t : ℕ) → judge-items-lts.Need-loop-again (items-told t) (judge-items-at t) judge-items.Post judge-items-Inv-loop judge-items-μ-loop
+judge-items-loop-again t c =
+    let l = c .before .before .before .before .before .before .before .before .before .loop in
+    let n = c .before .before .before .after-text in
+    record {
+      forward = omega (arith, l .inv .forward, n .ensures .forward);
+      room = c .add-texts .ensures .0;
+      earlier = l .inv .earlier;
+      behind = omega (arith, l .inv .behind, n .ensures .forward);
+      judging = λ D T C f depth end φ e.
+          texts-more D _ depth φ end _ _ _ _ _ _ (l .inv .judging D T C f depth end φ e) (c .before .before .before .before .before .before .if1 .left) (c .before .before .before .before .if2 .taken) _ (n .ensures) _ _ (c .add-texts .ensures .1);
+    }
+
+judge-items-after-same-requires : (t : ℕ) → judge-items-lts.Need-after-same-requires (items-told t) (judge-items-at t) judge-items.Post judge-items-Inv-loop judge-items-μ-loop
+judge-items-after-same-requires t c κs = (c .before .before .before .before .before .loop .inv .earlier, c .before .before .before .before .before .loop .inv .behind, c .before .before .before .before .loop-test .taken)
+
+judge-items-add-byte-at : (t : ℕ) → judge-items-lts.Need-add-byte-at (items-told t) (judge-items-at t) judge-items.Post judge-items-Inv-loop judge-items-μ-loop
+judge-items-add-byte-at t c = omega (arith, c .before .before .before .before .before .before .loop-test .taken)
+
+judge-items-byte-at-requires : (t : ℕ) → judge-items-lts.Need-byte-at-requires (items-told t) (judge-items-at t) judge-items.Post judge-items-Inv-loop judge-items-μ-loop
+judge-items-byte-at-requires t c κs = tt
 
 judge-items-add-content-requires : (t : ℕ) → judge-items-lts.Need-add-content-requires (items-told t) (judge-items-at t) judge-items.Post judge-items-Inv-loop judge-items-μ-loop
 judge-items-add-content-requires t c κs = search needs
 
+judge-items-loop-less-2 : (t : ℕ) → judge-items-lts.Need-loop-less-2 (items-told t) (judge-items-at t) judge-items.Post judge-items-Inv-loop judge-items-μ-loop
+judge-items-loop-less-2 t c =
+    let l = c .before .before .before .before .before .before .before .before .before .before .loop in
+    let a = again-further _ _ _ _ _ (c .before .before .before .before .after-same .ensures) (c .before .before .before .if3 .taken) (l .inv .behind) in
+    omega (arith, a .1, c .before .before .before .before .before .before .before .before .before .loop-test .taken)
+
+judge-items-loop-again-2 : (t : ℕ) → judge-items-lts.Need-loop-again-2 (items-told t) (judge-items-at t) judge-items.Post judge-items-Inv-loop judge-items-μ-loop
+judge-items-loop-again-2 t c =
+    let l = c .before .before .before .before .before .before .before .before .before .before .loop in
+    let a = again-further _ _ _ _ _ (c .before .before .before .before .after-same .ensures) (c .before .before .before .if3 .taken) (l .inv .behind) in
+    record {
+      forward = omega (arith, l .inv .forward, a .1);
+      room = c .add-content .ensures .0;
+      earlier = l .inv .earlier;
+      behind = omega (arith, l .inv .behind, a .1);
+      judging = λ D T C f depth end φ e.
+          same-more D _ depth φ end _ _ _ _ _ _ (l .inv .judging D T C f depth end φ e) (c .before .before .before .before .before .if2 .left) (l .inv .earlier) (l .inv .behind) _ (a .0) _ (c .before .before .byte-at .ensures) _ _ (c .add-content .ensures .1);
+    }
+
+judge-items-judge-item-requires : (t : ℕ) → judge-items-lts.Need-judge-item-requires (items-told t) (judge-items-at t) judge-items.Post judge-items-Inv-loop judge-items-μ-loop
+judge-items-judge-item-requires t c κs = (omega arith, tt)
+
+judge-items-add-content-requires-2 : (t : ℕ) → judge-items-lts.Need-add-content-requires-2 (items-told t) (judge-items-at t) judge-items.Post judge-items-Inv-loop judge-items-μ-loop
+judge-items-add-content-requires-2 t c κs = search needs
+
 judge-items-first-of-requires : (t : ℕ) → judge-items-lts.Need-first-of-requires (items-told t) (judge-items-at t) judge-items.Post judge-items-Inv-loop judge-items-μ-loop
 judge-items-first-of-requires t c κs = tt
 
-judge-items-loop-less : (t : ℕ) → judge-items-lts.Need-loop-less (items-told t) (judge-items-at t) judge-items.Post judge-items-Inv-loop judge-items-μ-loop
-judge-items-loop-less t c = omega (arith, c .before .before .before .before .judge-item .ensures .0 (c .before .before .before .before .before .before .before .loop-test .taken))
+judge-items-kept-requires : (t : ℕ) → judge-items-lts.Need-kept-requires (items-told t) (judge-items-at t) judge-items.Post judge-items-Inv-loop judge-items-μ-loop
+judge-items-kept-requires t c κs = tt
 
-judge-items-loop-again : (t : ℕ) → judge-items-lts.Need-loop-again (items-told t) (judge-items-at t) judge-items.Post judge-items-Inv-loop judge-items-μ-loop
-judge-items-loop-again t c =
-    let l = c .before .before .before .before .before .before .before .before .loop in
-    let i = c .before .before .before .before .judge-item in
+judge-items-kept-requires-2 : (t : ℕ) → judge-items-lts.Need-kept-requires-2 (items-told t) (judge-items-at t) judge-items.Post judge-items-Inv-loop judge-items-μ-loop
+judge-items-kept-requires-2 t c κs = tt
+
+judge-items-loop-less-3 : (t : ℕ) → judge-items-lts.Need-loop-less-3 (items-told t) (judge-items-at t) judge-items.Post judge-items-Inv-loop judge-items-μ-loop
+judge-items-loop-less-3 t c = omega (arith, c .before .before .before .before .before .before .judge-item .ensures .0 (c .before .before .before .before .before .before .before .before .before .before .before .before .before .loop-test .taken))
+
+judge-items-loop-again-3 : (t : ℕ) → judge-items-lts.Need-loop-again-3 (items-told t) (judge-items-at t) judge-items.Post judge-items-Inv-loop judge-items-μ-loop
+judge-items-loop-again-3 t c =
+    let l = c .before .before .before .before .before .before .before .before .before .before .before .before .before .before .loop in
+    let i = c .before .before .before .before .before .before .judge-item in
+    let m = i .ensures .0 (c .before .before .before .before .before .before .before .before .before .before .before .before .before .loop-test .taken) in
+    let k = kept-between (i .result .wrong) (l .at) (i .result .next .at) (l .seen) (l .past) _ _ (c .before .kept .ensures) (c .kept2 .ensures) (l .inv .earlier) (l .inv .behind) m in
     record {
-      forward = omega (arith, i .ensures .0 (c .before .before .before .before .before .before .before .loop-test .taken));
-      room = c .before .before .add-content .ensures .0;
-      judging = λ D T C.
-          let J = l .inv .judging D T C in
-          record {
-            word = J .word ++ (i .result .content ∷ []);
-            contains = c .before .before .add-content .ensures .1 (J .word) (J .contains);
-            goes = λ r last A. J .goes r last (one-more D _ (J .word) _ _ r last (i .result) (c .before .before .before .before .before .if1 .left) (i .ensures .1 .1 D T) (rw (c .before .first-of .ensures) at A));
-          };
+      forward = omega (arith, l .inv .forward, m);
+      room = c .before .before .before .before .add-content2 .ensures .0;
+      earlier = k .0;
+      behind = k .1;
+      judging = λ D T C f depth end φ e.
+          item-more D _ depth φ end _ _ _ _ _ _ (l .inv .judging D T C f depth end φ e) (c .before .before .before .before .before .before .before .before .before .before .before .if1 .left) (i .result) (i .ensures .1 .1 D T) _ _ (c .before .before .before .before .add-content2 .ensures .1) _ (c .before .before .before .first-of .ensures) _ _
+          (c .before .kept .ensures) (c .kept2 .ensures);
     }
 
 judge-items-returns-2 : (t : ℕ) → judge-items-lts.Need-returns-2 (items-told t) (judge-items-at t) judge-items.Post judge-items-Inv-loop judge-items-μ-loop
 judge-items-returns-2 t c =
     let l = c .before .loop in
-    (l .inv .forward, λ D T C. let J = l .inv .judging D T C in adds-all D _ _ _ _ (J .goes _ _ (past-list D _ (J .word) _ _ _ _ (c .loop-test .left))))
+    (l .inv .forward, λ D T C f depth end φ e. past-list D _ depth φ end _ _ _ _ _ _ (l .inv .judging D T C f depth end φ e) (c .loop-test .left))
 
 pub +judge-item+judge-items-spec : {M : Type 1} → statement M
 +judge-item+judge-items-spec = close μ-judge-item μ-judge-items (λ t. judge-item-lts.spec (item-told t)
@@ -218,11 +293,26 @@ pub +judge-item+judge-items-spec : {M : Type 1} → statement M
     judge-items-μ-loop
     (judge-items-loop-holds t)
     (judge-items-shared-slice-read-if1 t)
-    (judge-items-add-t17 t)
+    (judge-items-add-t22 t)
     (judge-items-returns t)
-    (judge-items-judge-item-requires t)
-    (judge-items-add-content-requires t)
-    (judge-items-first-of-requires t)
+    (judge-items-shared-slice-read-if2 t)
+    (judge-items-add-add-texts t)
+    (judge-items-after-text-requires t)
+    (judge-items-sub-add-texts t)
+    (judge-items-add-texts-requires t)
     (judge-items-loop-less t)
     (judge-items-loop-again t)
+    (judge-items-after-same-requires t)
+    (judge-items-add-byte-at t)
+    (judge-items-byte-at-requires t)
+    (judge-items-add-content-requires t)
+    (judge-items-loop-less-2 t)
+    (judge-items-loop-again-2 t)
+    (judge-items-judge-item-requires t)
+    (judge-items-add-content-requires-2 t)
+    (judge-items-first-of-requires t)
+    (judge-items-kept-requires t)
+    (judge-items-kept-requires-2 t)
+    (judge-items-loop-less-3 t)
+    (judge-items-loop-again-3 t)
     (judge-items-returns-2 t)

@@ -16,7 +16,7 @@ use Rattle.commands.proofs.Laws.{moved}
 use Rattle.pages.specs.ItemReading.{endOf}
 use Rattle.pages.specs.Promises.{partOf, ItemsRead}
 use Rattle.pages.proofs.Laws.{Onward, element-range, ended-inside}
-use Rattle.pages.proofs.Agreement.{items-end, items-refused, items-next, items-past-text, item-refused, item-leaf, item-missing, item-deep, item-attributes-refused, item-element}
+use Rattle.pages.proofs.Agreement.{items-end, items-refused, items-next, items-past-text, item-refused, item-leaf, item-missing, item-deep, item-attributes-refused, item-element, element-permitted}
 use Rattle.pages.proofs.Trees.{attributes-onward, item-onward}
 use Rattle.pages.proofs.read_item.Reads as read-item
 use Rattle.pages.proofs.read_item.Kinds as read-item-kinds
@@ -24,7 +24,7 @@ use Rattle.pages.proofs.+read_item+read_items.Lts-read_item as read-ite
 use Rattle.pages.proofs.read_items.Reads as read-items
 use Rattle.pages.proofs.read_items.Kinds as read-items-kinds
 use Rattle.pages.proofs.+read_item+read_items.Lts-read_items as read-items-lts
-use Rattle.commands.proofs.Position.command.Reads as command-reads
+use Rattle.commands.proofs.Position.item_command.Reads as item-command-reads
 use Rattle.commands.proofs.byte_at.Reads as byte-at-reads
 use Rattle.pages.proofs.after_text.Reads as after-text-reads
 use Rattle.pages.proofs.end_of.Reads as end-of-reads
@@ -59,8 +59,8 @@ abbrev item-claims : ℕ → read-item-lts.Claims
 item-claims t = (
   item-context-reads.Asked,
   item-context-reads.Learnt,
-  command-reads.Asked,
-  command-reads.Learnt,
+  item-command-reads.Asked,
+  item-command-reads.Learnt,
   part-of-reads.Asked,
   part-of-reads.Learnt,
   byte-at-reads.Asked,
@@ -91,7 +91,7 @@ module _ (t : ℕ) where
   -- The command that an item begins with was read.
   stands : (c : read-item-lts.After-known-told (item-claims t) (read-item-at t) read-item.Post)
       → command (c .before .before .before .before .item-context .result) (c .before .before .before .before .before .before .args .s .now) (c .before .before .before .before .before .before .args .here .at) ≡ Moved (c .before .d .given .0 .0) (c .before .d .given .0 .1 .0)
-  stands c = sym (c .before .before .before .command .ensures) ∙ c .before .d .given .1
+  stands c = sym (c .before .before .before .item-command .ensures) ∙ c .before .d .given .1
 
   reads-on : (c : read-item-lts.After-known-told (item-claims t) (read-item-at t) read-item.Post)
       → (c .before .before .before .before .before .before .args .here .at < c .before .d .given .0 .1 .0 .at) × (c .before .d .given .0 .1 .0 .at ≤ length (c .before .before .before .before .before .before .args .s .now))
@@ -110,8 +110,8 @@ module _ (t : ℕ) where
   item-item-context-requires : read-item-lts.Need-item-context-requires (item-claims t) (read-item-at t) read-item.Post
   item-item-context-requires c κs = search needs
 
-  item-command-requires : read-item-lts.Need-command-requires (item-claims t) (read-item-at t) read-item.Post
-  item-command-requires c κs = search needs
+  item-command-requires : read-item-lts.Need-item-command-requires (item-claims t) (read-item-at t) read-item.Post
+  item-command-requires c κs = rw (c .item-context .ensures) (element-permitted (c .before .before .args .kind))
 
   item-enum-known-d : read-item-lts.Need-enum-known-d (item-claims t) (read-item-at t) read-item.Post
   item-enum-known-d c = search needs
@@ -125,7 +125,7 @@ module _ (t : ℕ) where
   item-returns : read-item-lts.Need-returns (item-claims t) (read-item-at t) read-item.Post
   item-returns c =
       let told = c .before .enum-told .given in
-      item-refused _ (c .before .before .before .before .item-context .result) (c .before .before .before .before .item-context .ensures) _ _ _ _ (told .0 .0) (told .0 .1 .0) _ (sym (c .before .before .before .command .ensures) ∙ told .1) (c .part-of .ensures ∙ ap partOf (told .1))
+      item-refused _ (c .before .before .before .before .item-context .result) (c .before .before .before .before .item-context .ensures) _ _ _ _ (told .0 .0) (told .0 .1 .0) _ (sym (c .before .before .before .item-command .ensures) ∙ told .1) (c .part-of .ensures ∙ ap partOf (told .1))
 
   item-returns-2 : read-item-lts.Need-returns-2 (item-claims t) (read-item-at t) read-item.Post
   item-returns-2 c = item-leaf _ (c .before .before .before .before .before .item-context .result) (c .before .before .before .before .before .item-context .ensures) _ _ _ _ _ _ (stands (c .before)) (c .if1 .taken)

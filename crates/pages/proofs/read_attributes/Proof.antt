@@ -17,7 +17,7 @@ use Rattle.pages.specs.declared.Kind.{Kind}
 use Rattle.pages.specs.ItemReading.{attributeContext}
 use Rattle.pages.specs.Promises.{partOf, AttributesRead}
 use Rattle.pages.proofs.Laws.{attribute-range}
-use Rattle.pages.proofs.Agreement.{attributes-end, attributes-refused, attributes-twice, attributes-next}
+use Rattle.pages.proofs.Agreement.{attributes-end, attributes-refused, attributes-twice, attributes-next, string-permitted}
 use Rattle.pages.proofs.read_attributes.Statement.{statement}
 use Rattle.pages.proofs.read_attributes.Tie as tie
 
@@ -42,7 +42,7 @@ permitted c = tested (c .before) ∙ c .if1 .taken
 stands : (c : tie.After-known-told Inv-loop μ-loop)
     → command (c .before .before .before .before .before .before .before .before .attribute-context .result) (c .before .before .before .before .before .before .before .before .before .before .args .s .now) (c .before .before .before .before .before .before .before .loop .p .at)
     ≡ Moved (c .before .d .given .0 .0) (c .before .d .given .0 .1 .0)
-stands c = sym (c .before .before .before .command .ensures) ∙ c .before .d .given .1
+stands c = sym (c .before .before .before .attribute-command .ensures) ∙ c .before .d .given .1
 
 reads-on : (c : tie.After-known-told Inv-loop μ-loop)
     → (c .before .before .before .before .before .before .before .loop .p .at < c .before .d .given .0 .1 .0 .at) × (c .before .d .given .0 .1 .0 .at ≤ length (c .before .before .before .before .before .before .before .before .before .before .args .s .now))
@@ -71,8 +71,8 @@ byte-at-requires c κs = search needs
 is-allowed-requires : tie.Need-is-allowed-requires Inv-loop μ-loop
 is-allowed-requires c κs = search needs
 
-command-requires : tie.Need-command-requires Inv-loop μ-loop
-command-requires c κs = search needs
+attribute-command-requires : tie.Need-attribute-command-requires Inv-loop μ-loop
+attribute-command-requires c κs = rw (c .before .before .before .before .attribute-context .ensures) (string-permitted (c .before .before .before .before .before .before .args .kind))
 
 enum-known-d : tie.Need-enum-known-d Inv-loop μ-loop
 enum-known-d c = search needs
@@ -88,7 +88,7 @@ returns c =
     let told = c .before .enum-told .given in
     let context = c .before .before .before .before .before .before .before .before .attribute-context in
     c .before .before .before .before .before .before .before .loop .inv .2 _ (context .ensures) _
-    (attributes-refused _ (context .result) (context .ensures) _ _ _ (permitted (c .before .before .before .before)) (told .0 .0) (told .0 .1 .0) _ (sym (c .before .before .before .command .ensures) ∙ told .1) (c .part-of .ensures ∙ ap partOf (told .1)))
+    (attributes-refused _ (context .result) (context .ensures) _ _ _ (permitted (c .before .before .before .before)) (told .0 .0) (told .0 .1 .0) _ (sym (c .before .before .before .attribute-command .ensures) ∙ told .1) (c .part-of .ensures ∙ ap partOf (told .1)))
 
 add-byte-at : tie.Need-add-byte-at Inv-loop μ-loop
 add-byte-at c = omega (arith, reads-on (c .before))
@@ -137,7 +137,7 @@ read-attributes-spec =
     loop-holds
     byte-at-requires
     is-allowed-requires
-    command-requires
+    attribute-command-requires
     enum-known-d
     enum-told
     part-of-requires
