@@ -11,6 +11,7 @@ made=$(mktemp -d)
 trap 'rm -rf "$made"' EXIT
 make="$CARGO_TARGET_DIR/release"
 "$make/make-pages" 1 4000 "$made/pages.bin" "$made/pages.verdicts"
+"$make/make-jobs" 1 2000 "$made/jobs.bin" "$made/jobs.verdicts"
 "$make/limits" "$made/limits.bin" "$made/limits.verdicts"
 "$make/job-limits" "$made/job-limits.bin" "$made/job-limits.verdicts"
 
@@ -20,3 +21,6 @@ cat "$vectors/pages.verdicts" "$made/pages.verdicts" "$made/limits.verdicts" > c
 cat "$vectors"/jobs-*.bin "$made/job-limits.bin" > crates/read_records/stdin
 # A job that is refused by 9 to 12 reads.
 cat "$vectors"/jobs-*.verdicts "$made/job-limits.verdicts" | awk '{ print ($1 > 8) ? "0 0 0 0" : $0 }' > crates/read_records/stdout
+
+cat "$vectors"/jobs-*.bin "$made/jobs.bin" "$made/job-limits.bin" > crates/check_records/stdin
+cat "$vectors"/jobs-*.verdicts "$made/jobs.verdicts" "$made/job-limits.verdicts" > crates/check_records/stdout

@@ -1,19 +1,19 @@
 -- What holds of the command at an offset, and of readings that go on from it.
 use Prim.Native.Nat.{ℕ, _+_, _≤_, _<_}
 use mathlib.Core.Path.{_≡_, refl}
-use mathlib.Core.List.{List}
+use mathlib.Core.List.{List, [], _∷_}
 use mathlib.Core.Bool.{Bool, true, false, cond}
 use native.Mathlib.Omega.{arith}
 use lib.ListN.{length, List·getD-eq-default}
 use lib.Dec.{ltb}
-use borrow.Author.Tests.{ltb-true, lt-ltb, le-ltb}
+use borrow.Author.Tests.{ltb-true, lt-ltb, le-ltb, le-leb}
 use Rattle.verdicts.specs.declared.Form.{Form}
 use Rattle.verdicts.specs.declared.Form.the-variants.{Ended, NotAllowed, OutOfRange}
 use Rattle.commands.specs.declared.Context.{Context}
 use Rattle.commands.specs.declared.Position.{Position}
 use Rattle.commands.specs.declared.Decoded.{Decoded}
 use Rattle.commands.specs.declared.Decoded.the-variants.{Moved, Refused}
-use Rattle.commands.specs.Commands.{byte, operandsOf, operandBytes, allInRange, allowed, command}
+use Rattle.commands.specs.Commands.{Operand, element, attribute, string, widths, byte, operandsOf, operandBytes, inRange, allInRange, between, allowed, command}
 use Rattle.commands.specs.Reading.{Read, whole, refused, unfinished, andThen, onDecoded, onCommand, when}
 
 pub byte-past : (s : List ℕ) (at : ℕ) → length s ≤ at → byte s at ≡ 0
@@ -43,6 +43,32 @@ module _ (x : Context) (s : List ℕ) (at : ℕ) where
         pub moves : allInRange (operandsOf (byte s at)) s (at + 1) ≡ true → Moved (byte s at) (record { at = at + 1 + operandBytes (byte s at) }) ≡ command x s at
         unfolding command
         moves r = rw (lt-ltb at (length s) here, a, lt-ltb (at + operandBytes (byte s at)) (length s) fits, r)
+
+-- A command whose first byte is known is read, where its operands are.
+pub moves-as : (x : Context) (s : List ℕ) (at k : ℕ) (os : List Operand) → at < length s → byte s at ≡ k → allowed x k ≡ true → operandsOf k ≡ os
+    → at + widths os < length s → allInRange os s (at + 1) ≡ true → Moved k (record { at = at + 1 + widths os }) ≡ command x s at
+unfolding operandBytes
+moves-as x s at k os here code may has fits ranges =
+    let o : operandsOf (byte s at) ≡ os = rw (code, has) in
+    let m = moves x s at here (rw code may) (rw o fits) (rw o ranges) in
+    rw (← code) (rw o at m)
+
+-- `23 e` and `24 a s`.
+module _ (x : Context) (s : List ℕ) (at : ℕ) (here : at < length s) where
+  pub element-moves : byte s at ≡ 0x23 → allowed x 0x23 ≡ true → at + 2 ≤ length s → between 1 63 (byte s (at + 1)) ≡ true
+      → Moved 0x23 (record { at = at + 2 }) ≡ command x s at
+  unfolding operandsOf allInRange inRange
+  element-moves code may fits range =
+      let e : at + 2 ≡ at + 1 + 1 = omega arith in
+      rw e (moves-as x s at 0x23 (element ∷ []) here code may refl (omega arith) (rw range))
+
+  pub attribute-moves : byte s at ≡ 0x24 → allowed x 0x24 ≡ true → at + 3 ≤ length s → byte s (at + 1) ≤ 31 → byte s (at + 2) ≤ 63
+      → Moved 0x24 (record { at = at + 3 }) ≡ command x s at
+  unfolding operandsOf allInRange inRange
+  attribute-moves code may fits a b =
+      let e : at + 3 ≡ at + 1 + 2 = omega arith in
+      let z : at + 1 + 1 ≡ at + 2 = omega arith in
+      rw e (moves-as x s at 0x24 (attribute ∷ string ∷ []) here code may refl (omega arith) (rw (le-leb _ _ a, z, lt-ltb (byte s (at + 2)) 64 (omega arith))))
 
 -- What a command that was read tells.
 pub record MovedOver (x : Context) (s : List ℕ) (at code : ℕ) (next : Position) : Type 0 where

@@ -1,8 +1,9 @@
 // The commands of a job, and the reading position that moves over one command at a time
 // (document 01, "A job, command by command").
 ghost use mathlib.Core.Path.{_≡_};
-ghost use mathlib.Core.Bool.{_&&_};
-ghost use Prim.Native.Nat.{_+_, _*_, _^_, _<_};
+ghost use mathlib.Core.Bool.{true, _&&_};
+ghost use Prim.Native.Nat.{_+_, _*_, _^_, _≤_, _<_};
+ghost use lib.ListN.{length};
 ghost use lib.Dec.{leb};
 ghost use Rattle.commands.specs.Commands.{byte, spelt, setAt, either, between, allowed, operandsOf, operandBytes, inRange, element, attribute, strings-set, allInRange, command};
 use verdicts::Form;
@@ -75,6 +76,36 @@ pub fn set_at(s: &[u8], i: usize) -> u64
     let b5 = with_byte(b4, s, i + 5);
     let b6 = with_byte(b5, s, i + 6);
     with_byte(b6, s, i + 7)
+}
+
+fn with_low(high: u64, b: u8) -> u64
+    requires { ⌜ high < 2 ^ 56 ⌝ }
+    ensures { λ r. ⌜ (r ≡ high * 256 + b) × (r < (high + 1) * 256) ⌝ }
+{
+    high * 256 + (b as u64)
+}
+
+// A number with the byte at an offset, which is one of the bytes, put after it.
+fn with_inner(high: u64, s: &[u8], i: usize) -> u64
+    requires { ⌜ (high < 2 ^ 56) × (i < length (now s)) ⌝ }
+    ensures { λ r. ⌜ (r ≡ high * 256 + byte (now (s .entry)) i) × (r < (high + 1) * 256) ⌝ }
+{
+    with_low(high, s[i])
+}
+
+// The set of strings at an offset, whose eight bytes are all there.
+pub fn inner_set(s: &[u8], i: usize) -> u64
+    requires { ⌜ i + 8 ≤ length (now s) ⌝ }
+    ensures { λ r. ⌜ r ≡ setAt (now (s .entry)) i ⌝ }
+{
+    let b0 = with_inner(0, s, i);
+    let b1 = with_inner(b0, s, i + 1);
+    let b2 = with_inner(b1, s, i + 2);
+    let b3 = with_inner(b2, s, i + 3);
+    let b4 = with_inner(b3, s, i + 4);
+    let b5 = with_inner(b4, s, i + 5);
+    let b6 = with_inner(b5, s, i + 6);
+    with_inner(b6, s, i + 7)
 }
 
 fn is_either(a: u8, b: u8, code: u8) -> bool
@@ -253,6 +284,51 @@ impl Position {
             return Decoded::Refused(Form::OutOfRange, at);
         }
         Decoded::Moved(code, Position { at: at + 1 + more })
+    }
+
+    // The same where an element may stand: `23 e` is seen at once.
+    pub fn item_command(self, s: &[u8], context: Context) -> Decoded
+        requires { ⌜ allowed context 0x23 ≡ true ⌝ }
+        ensures { λ r. ⌜ r ≡ command context (now (s .entry)) (self .at) ⌝ }
+    {
+        let at = self.at;
+        if s.len() <= at {
+            return self.command(s, context);
+        }
+        if s[at] != 0x23 {
+            return self.command(s, context);
+        }
+        if s.len() - at < 2 {
+            return self.command(s, context);
+        }
+        if !is_between(1, 63, s[at + 1]) {
+            return self.command(s, context);
+        }
+        Decoded::Moved(0x23, Position { at: at + 2 })
+    }
+
+    // The same where an attribute with a string may stand: `24 a s` is seen at once.
+    pub fn attribute_command(self, s: &[u8], context: Context) -> Decoded
+        requires { ⌜ allowed context 0x24 ≡ true ⌝ }
+        ensures { λ r. ⌜ r ≡ command context (now (s .entry)) (self .at) ⌝ }
+    {
+        let at = self.at;
+        if s.len() <= at {
+            return self.command(s, context);
+        }
+        if s[at] != 0x24 {
+            return self.command(s, context);
+        }
+        if s.len() - at < 3 {
+            return self.command(s, context);
+        }
+        if 31 < s[at + 1] {
+            return self.command(s, context);
+        }
+        if 63 < s[at + 2] {
+            return self.command(s, context);
+        }
+        Decoded::Moved(0x24, Position { at: at + 3 })
     }
 
     // The byte this far on; 0 past the end.

@@ -116,9 +116,9 @@ module _ (s allowed-in held-in brings : List ℕ) where
             finds = λ φs G C t D rules brought ruled-are.
                 let (R, is-rule) = found-rule (ruleOf (D .rules) (byte s (at + 1))) (ruled-are (byte s (at + 1)) (q .has-rule)) in
                 let told : wrongOf outside ≡ onlyIf (plainlyUnder φs G C R t δ φ) at = O φs G C t R δ φ (record {
-                  names = n .1;
+                  has-names = n .1;
                   allows = rules .allows (b % 64) R (rw name is-rule);
-                  contents = λ c low. contents-by φs G C t c brings long brought low φ (list .inside) (list .gaps) inside (l .outline) U;
+                  has-contents = λ c low. contents-by φs G C t c brings long brought low φ (list .inside) (list .gaps) inside (l .outline) U;
                   holds = rules .holds (b % 64) R (rw name is-rule);
                 }) in
                 let itself : wrongOf outside ≡ onlyIf (plainlyWrong φs G C D t (byte s (at + 1)) δ φ) at = rw is-rule told in

@@ -38,19 +38,19 @@ module _ (at named allowed inside held : ℕ) where
   pub names-outside : (t : Bool) → Within named allowed t → t ≡ false → TellsOutside at named allowed inside held (at + 1)
   unfolding plainlyUnder
   names-outside t w e φs G C n R δ φ c =
-      let a : allIn (names δ) (R .attributes) ≡ false = within-lists named allowed (names δ) (R .attributes) (c .names) (c .allows) t w ∙ e in
+      let a : allIn (names δ) (R .attributes) ≡ false = within-lists named allowed (names δ) (R .attributes) (c .has-names) (c .allows) t w ∙ e in
       rw a (found-at at)
 
   pub content-outside : (t u : Bool) → Within named allowed t → t ≡ true → Within inside held u → u ≡ false → TellsOutside at named allowed inside held (at + 1)
   unfolding plainlyUnder
   content-outside t u w e v q φs G C n R δ φ c =
-      let a : allIn (names δ) (R .attributes) ≡ true = within-lists named allowed (names δ) (R .attributes) (c .names) (c .allows) t w ∙ e in
-      let b : contentOutside φs G C (R .contents) n φ ≡ true = content-test φs G C n (R .contents) φ inside held (c .contents) (c .holds) u v ∙ ap not q in
+      let a : allIn (names δ) (R .attributes) ≡ true = within-lists named allowed (names δ) (R .attributes) (c .has-names) (c .allows) t w ∙ e in
+      let b : contentOutside φs G C (R .contents) n φ ≡ true = content-test φs G C n (R .contents) φ inside held (c .has-contents) (c .holds) u v ∙ ap not q in
       rw (a, b) (found-at at)
 
   pub none-outside : (t u : Bool) → Within named allowed t → t ≡ true → Within inside held u → u ≡ true → TellsOutside at named allowed inside held 0
   unfolding plainlyUnder
   none-outside t u w e v q φs G C n R δ φ c =
-      let a : allIn (names δ) (R .attributes) ≡ true = within-lists named allowed (names δ) (R .attributes) (c .names) (c .allows) t w ∙ e in
-      let b : contentOutside φs G C (R .contents) n φ ≡ false = content-test φs G C n (R .contents) φ inside held (c .contents) (c .holds) u v ∙ ap not q in
+      let a : allIn (names δ) (R .attributes) ≡ true = within-lists named allowed (names δ) (R .attributes) (c .has-names) (c .allows) t w ∙ e in
+      let b : contentOutside φs G C (R .contents) n φ ≡ false = content-test φs G C n (R .contents) φ inside held (c .has-contents) (c .holds) u v ∙ ap not q in
       rw (a, b)

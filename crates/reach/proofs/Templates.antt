@@ -12,7 +12,9 @@ use lib.Dec.{ltb}
 use Rattle.sets.specs.Sets.{member}
 use Rattle.sets.proofs.Laws.{member-zero}
 use Rattle.commands.specs.Reading.{whole}
+use Rattle.vocabularies.specs.declared.Tables.{Tables}
 use Rattle.vocabularies.specs.Vocabulary.{Vocabulary, declared, isIn}
+use Rattle.vocabularies.specs.Promises.{Describes}
 use Rattle.pages.specs.declared.Kind.the-variants.{Template}
 use Rattle.pages.specs.Items.{Items, none}
 use Rattle.pages.specs.RightPages.{word}
@@ -72,6 +74,10 @@ module _ (φs : List Items) where
       past = ⊎-elim (λ e. omega arith) (λ e. omega arith)
 
 -- ---- elements that are plainly wrong
+
+-- The tables of a vocabulary that was read.
+pub rules-kept : (s : List ℕ) (D : Vocabulary) (t : Tables) → Describes s D t → RulesKept D (t .attributes) (t .contents)
+rules-kept s D t d = record { allows = λ e r h. d .rule e r h .allows; holds = λ e r h. d .rule e r h .holds }
 
 module _ (s allowed held starts : List ℕ) (count : ℕ) (words within : List ℕ) (reached : ℕ) where
   -- What is told of one template.

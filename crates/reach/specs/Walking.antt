@@ -45,9 +45,9 @@ module _ (φs : List Items) (G : Summary) (C : Sets) (n : ℕ) where
 
   -- An element's attributes and contents, and those that its rule allows, as sets.
   pub record Compared (R : Rule) (δ : List Attribute) (φ : Items) (named allowed inside held : ℕ) : Type 0 where
-    pub names : (a : ℕ) → member named a ≡ isIn a (names δ)
+    pub has-names : (a : ℕ) → member named a ≡ isIn a (names δ)
     pub allows : (a : ℕ) → member allowed a ≡ isIn a (R .attributes)
-    pub contents : (c : ℕ) → c < contents → member inside c ≡ contentsOf φs G C n φ c
+    pub has-contents : (c : ℕ) → c < contents → member inside c ≡ contentsOf φs G C n φ c
     pub holds : (c : ℕ) → member held c ≡ isIn c (R .contents)
 
 -- The offset of an element that is plainly wrong, and 1; or 0.

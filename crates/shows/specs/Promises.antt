@@ -2,15 +2,16 @@
 use Prim.Native.Nat.{ℕ, _≤_, _<_}
 use mathlib.Core.Path.{_≡_}
 use mathlib.Core.List.{List, []}
-use mathlib.Core.Bool.{Bool, true, false, cond, _&&_, _||_}
+use mathlib.Core.Bool.{Bool, true, false, _&&_, _||_}
 use mathlib.Core.Option.{Option, some, none}
-use lib.ListN.{getD}
+use lib.ListN.{length, getD}
 use Rattle.sets.specs.Sets.{member}
 use Rattle.commands.specs.Commands.{byte}
 use Rattle.commands.specs.Reading.{whole}
 use Rattle.vocabularies.specs.declared.Tables.{Tables}
 use Rattle.vocabularies.specs.Vocabulary.{declared}
 use Rattle.vocabularies.specs.Promises.{Describes}
+use Rattle.pages.specs.Items.{Items}
 use Rattle.pages.specs.Promises.{Located}
 use Rattle.judging.specs.Promises.{wrongOf}
 use Rattle.programs.specs.Program.{Statement, statementAt}
@@ -21,10 +22,16 @@ use Rattle.summaries.specs.Languages.{graphShown}
 use Rattle.jobs.specs.Job.{Job, job}
 use Rattle.jobs.specs.JobVerdict.{ShowHolds, NotRootAt, WrongIn}
 use Rattle.entries.specs.Words.{Keeps}
-use Rattle.covering.specs.Tables.{EntriesAt, StatementStands, GapsTable}
+use Rattle.entries.specs.Gaps.{StartsAt}
+use Rattle.covering.specs.Tables.{EntriesAt, StatementStands}
+use Rattle.reach.specs.Promises.{GapsTable, OutlinesTo}
+use Rattle.occurrences.specs.Occurrences.{Occurrences}
 use Rattle.pattern_sets.specs.PatternSets.{holds}
-use Rattle.patterns.specs.Morphisms.{empty, other}
-use Rattle.patterns.specs.Shows.{Least}
+use Rattle.patterns.specs.Morphisms.{empty, other, rootMorphism}
+use Rattle.patterns.specs.Shows.{Least, ExactTables, lowestWrongIn}
+use Rattle.patterns.specs.Shows as Decided
+use Rattle.languages.specs.Tables.{SetsAre}
+use Rattle.shows.specs.declared.TemplateTables.{TemplateTables}
 use Rattle.shows.specs.declared.Shown.{Shown}
 use Rattle.shows.specs.declared.Shown.the-variants.{Right, NotRoot, Wrong}
 
@@ -60,21 +67,32 @@ abbrev pub KeepsGraph : List ℕ → List ℕ → ℕ → ℕ → List ℕ → T
 KeepsGraph s heads place p words = (j : Job) (count : ℕ) (G : Summary) → StatementStands s count place (statementAt (j .program) p) → p < 32
     → EntriesAt s heads (j .proposal) p → graphShown (j .program) (j .proposal) p ≡ some G → Keeps words G
 
+-- What is worked out of the templates of a job, once for all its shows: the gaps of each, at any depth, its outline, and the
+-- templates in which each element stands.
+pub record TablesOf (φs : List Items) (count : ℕ) (t : TemplateTables) : Type 0 where
+  pub gaps : GapsTable (t .gaps) φs
+  pub outlines : OutlinesTo φs count (t .contents) (t .outer)
+  pub occurrences : Occurrences φs (t .occurrences)
+
+abbrev pub TabledBy : List ℕ → List ℕ → ℕ → TemplateTables → Type 0
+TabledBy s starts count r = (φs : List Items) → StartsAt s φs starts → count ≡ length φs → count ≤ 31 → TablesOf φs count r
+
 -- What is known where a show is decided: the job was read from these bytes, its vocabulary and templates stand where the tables say,
 -- and the words are those of the graph that the point shows.
-pub record ShowAt (s : List ℕ) (tables : Tables) (count : ℕ) (starts gaps words : List ℕ) (j : Job) (p : ℕ) : Type 0 where
+pub record ShowAt (s : List ℕ) (rules : Tables) (templates : TemplateTables) (count : ℕ) (starts words : List ℕ) (j : Job) (p : ℕ) : Type 0 where
   pub end : ℕ
   pub reads : job s ≡ whole j end
-  pub vocabulary : Describes s (j .vocabulary) tables
-  pub templates : Located (declared (j .vocabulary .rules)) s (j .templates) count starts
+  pub vocabulary : Describes s (j .vocabulary) rules
+  pub located : Located (declared (j .vocabulary .rules)) s (j .templates) count starts
+  pub stand : StartsAt s (j .templates) starts
   pub few : count ≤ 31
-  pub gaps-are : GapsTable gaps (j .templates)
+  pub tabled : TablesOf (j .templates) count templates
   pub graph : Summary
   pub shows : graphShown (j .program) (j .proposal) p ≡ some graph
   pub words-are : Keeps words graph
 
-abbrev pub DecidesShow : List ℕ → Tables → ℕ → List ℕ → List ℕ → List ℕ → Shown → Type 0
-DecidesShow s tables count starts gaps words r = (j : Job) (p : ℕ) → ShowAt s tables count starts gaps words j p → ShowFound j p r
+abbrev pub DecidesShow : List ℕ → Tables → TemplateTables → ℕ → List ℕ → List ℕ → Shown → Type 0
+DecidesShow s rules templates count starts words r = (j : Job) (p : ℕ) → ShowAt s rules templates count starts words j p → ShowFound j p r
 
 -- The steps on the way. Whether a template is a root, and some page of it is empty or other than the root alone.
 abbrev pub isOther : ℕ → List ℕ → ℕ → Bool
@@ -84,9 +102,9 @@ isOther roots kinds n = member roots n && (holds kinds empty || holds kinds othe
 abbrev pub LowestRoot : ℕ → List (List ℕ) → ℕ → ℕ → Type 0
 LowestRoot roots kinds count r = Least (λ n. (n ≤ count) × (isOther roots (getD kinds n []) n ≡ true)) (wrongOf r)
 
--- The first wrong element of a template that is reached, from a table.
-abbrev pub wrongAt : ℕ → List ℕ → ℕ → Option ℕ
-wrongAt reached table n = cond (member reached n) (wrongOf (getD table n 0)) none
+-- The lowest wrong element of each template, from a table.
+abbrev pub wrongAt : List ℕ → ℕ → Option ℕ
+wrongAt table n = wrongOf (getD table n 0)
 
 -- By the answer, the first of two places is there and not above the second; or, if it is there, the second is and is not above it.
 -- A place is given as it and 1, or 0 for none.
@@ -109,3 +127,9 @@ abbrev pub LowestWrong : (ℕ → Option ℕ) → ℕ → Shown → Type 0
 LowestWrong f count Right = (m : ℕ) → m ≤ count → f m ≡ none
 LowestWrong f count (NotRoot t) = ⊥
 LowestWrong f count (Wrong t at) = LowestIn f count t at
+
+-- The lowest wrong element of each template, from exact tables of which the kinds are given.
+abbrev pub WrongElements : List ℕ → Tables → TemplateTables → ℕ → List ℕ → List ℕ → List (List ℕ) → List ℕ → Type 0
+WrongElements s rules templates count starts words kinds r = (j : Job) (p : ℕ) (A : ShowAt s rules templates count starts words j p)
+    (T : Decided.Tables) → ExactTables (j .templates) (A .graph) (j .vocabulary) T → SetsAre (j .templates) (rootMorphism (j .vocabulary .root)) (T .kinds) kinds
+    → (n : ℕ) → n ≤ count → wrongAt r n ≡ lowestWrongIn (j .templates) (A .graph) (j .vocabulary) T n

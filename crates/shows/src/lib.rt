@@ -2,8 +2,9 @@
 ghost use mathlib.Core.Path.{_≡_};
 ghost use mathlib.Core.Option.{Option};
 ghost use Prim.Native.Nat.{ℕ, _≤_, _<_};
-ghost use Rattle.shows.specs.Promises.{TellsShow, isOther, LowestRoot, IsBelow, wrongAt, LowestWrong};
-ghost use Rattle.judging.specs.Promises.{wrongOf};
+ghost use Rattle.shows.specs.Promises.{TellsShow, KeepsGraph, TabledBy, DecidesShow, isOther, LowestRoot, IsBelow, wrongAt, LowestWrong, WrongElements};
+use commands::Position;
+use vocabularies::Tables;
 
 // What is found at a show: nothing; a root template with a page that is not exactly the root element (11); or an element that is
 // wrong in some page (12), by its template and the offset of its `23`.
@@ -13,11 +14,48 @@ pub enum Shown {
     Wrong { template: usize, at: usize },
 }
 
+// What is worked out of the templates of a job: the gaps of each, at any depth; the contents and the gaps among its outer items; and
+// for each element the templates in which it stands.
+pub struct TemplateTables {
+    pub gaps: [u64; 32],
+    pub contents: [u64; 32],
+    pub outer: [u64; 32],
+    pub occurrences: [u64; 64],
+}
+
+const MOST_TEMPLATES: usize = 31;
+
 // Whether the statement at an offset shows something.
 pub fn is_show(s: &[u8], place: usize) -> bool
     ensures { λ r. ⌜ TellsShow (now (s .entry)) place r ⌝ }
 {
     commands::byte_at(s, place) == 0x37
+}
+
+// The words of the graph that a point shows, whose statement stands at an offset: the shown variable's entry there, closed.
+pub fn shown_words(s: &[u8], heads: &[usize; 256], place: usize, p: usize) -> [u64; 544]
+    ensures { λ r. ⌜ KeepsGraph (now (s .entry)) (now (heads .entry)) place p r ⌝ }
+{
+    let here = Position { at: place };
+    let x = here.operand(s, 1) as usize;
+    languages::close(entries::load(s, covering::template_head(heads, p, x)))
+}
+
+// What is worked out of the templates, once for all shows.
+pub fn tables_of(s: &[u8], starts: &[usize; 32], count: usize) -> TemplateTables
+    ensures { λ r. ⌜ TabledBy (now (s .entry)) (now (starts .entry)) count r ⌝ }
+{
+    let outlines = reach::outlines_of(s, starts, count);
+    let contents = outlines.contents;
+    let outer = outlines.gaps;
+    let gaps = entries::gaps_of(s, starts, count);
+    let occurrences = occurrences::of_templates(s, starts, count);
+    TemplateTables {
+        gaps,
+        contents,
+        outer,
+        occurrences,
+    }
 }
 
 const EMPTY: u8 = 0;
@@ -66,27 +104,16 @@ fn is_below(a: usize, b: usize) -> bool
     a < b
 }
 
-// The first wrong element of a template that is reached.
-fn wrong_at(table: &[usize; 32], reached: u64, t: usize) -> usize
-    requires { ⌜ t < 32 ⌝ }
-    ensures { λ r. ⌜ wrongOf r ≡ wrongAt reached (now (table .entry)) t ⌝ }
-{
-    if sets::has(reached, t as u8) {
-        return table[t];
-    }
-    0
-}
-
-// 12: the lowest offset of a wrong element of the templates that are reached, with its template.
-fn lowest_wrong(table: &[usize; 32], reached: u64, count: usize) -> Shown
+// 12: the lowest offset of a wrong element in the table, with its template.
+fn lowest_wrong(table: [usize; 32], count: usize) -> Shown
     requires { ⌜ count < 32 ⌝ }
-    ensures { λ r. ⌜ LowestWrong (wrongAt reached (now (table .entry))) count r ⌝ }
+    ensures { λ r. ⌜ LowestWrong (wrongAt table) count r ⌝ }
 {
     let mut template: usize = 0;
     let mut lowest: usize = 0;
     let mut t: usize = 0;
     while t <= count {
-        let wrong = wrong_at(table, reached, t);
+        let wrong = table[t];
         if is_below(wrong, lowest) {
             template = t;
             lowest = wrong;
@@ -100,4 +127,74 @@ fn lowest_wrong(table: &[usize; 32], reached: u64, count: usize) -> Shown
         template,
         at: lowest - 1,
     }
+}
+
+// The lowest wrong element of each template, as its offset and 1; 0: none of it is wrong in a page.
+fn wrong_elements(
+    s: &[u8],
+    rules: Tables,
+    templates: TemplateTables,
+    count: usize,
+    starts: &[usize; 32],
+    words: &[u64; 544],
+    kinds: [[u64; 4]; 32],
+) -> [usize; 32]
+    ensures { λ r. ⌜ WrongElements (now (s .entry)) rules templates count (now (starts .entry)) (now (words .entry)) kinds r ⌝ }
+{
+    let gaps = templates.gaps;
+    let contents = templates.contents;
+    let outer = templates.outer;
+    let occurrences = templates.occurrences;
+    let attributes = rules.attributes;
+    let held = rules.contents;
+    let clauses = rules.clauses;
+    let yields = reach::yielding(kinds, count);
+    let reached = reach::reached(words, &gaps, count, yields);
+    let within = reach::contents_of(words, &contents, &outer, count, yields);
+    let plain = reach::plainly_wrong(
+        s,
+        &attributes,
+        &held,
+        starts,
+        count,
+        words,
+        &within,
+        reached,
+    );
+    elements::search_rules(
+        s,
+        rules.declared,
+        &clauses,
+        &occurrences,
+        words,
+        starts,
+        count,
+        reached,
+        plain,
+    )
+}
+
+// What is found at the show of a graph: 11 before 12.
+pub fn decide(
+    s: &[u8],
+    rules: Tables,
+    templates: TemplateTables,
+    count: usize,
+    starts: &[usize; 32],
+    words: &[u64; 544],
+) -> Shown
+    ensures { λ r. ⌜ DecidesShow (now (s .entry)) rules templates count (now (starts .entry)) (now (words .entry)) r ⌝ }
+{
+    if MOST_TEMPLATES < count {
+        return Shown::Right;
+    }
+    let kinds = languages::settle(s, readings::root_reading(rules.root), words, starts, count);
+    let other = lowest_root(words[0], kinds, count);
+    if other != 0 {
+        return Shown::NotRoot(other - 1);
+    }
+    lowest_wrong(
+        wrong_elements(s, rules, templates, count, starts, words, kinds),
+        count,
+    )
 }

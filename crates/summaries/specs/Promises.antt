@@ -2,8 +2,8 @@
 use Prim.Native.Nat.{ℕ, _+_, _*_, _^_, _≤_, _<_}
 use mathlib.Core.Path.{_≡_}
 use mathlib.Core.List.{List, []}
-use mathlib.Core.Bool.{cond}
-use lib.ListN.{getD}
+use mathlib.Core.Bool.{true, cond}
+use lib.ListN.{length, getD}
 use lib.Dec.{leb, ltb, eqb}
 use Rattle.verdicts.specs.declared.Form.the-variants.{NotRising, Missing}
 use Rattle.commands.specs.declared.Context.{Context}
@@ -56,6 +56,17 @@ factHere x count s least at = testedFact count s least at (command x s at)
 
 abbrev pub FactsRead : Context → ℕ → List ℕ → ℕ → ℕ → Part → Type 0
 FactsRead x count s least at r = (f : ℕ) → Enough s at f → AgreesAs (λ φs end. at ≤ end) (facts f x count s least at) r
+
+-- The item at an offset reaches up to another: it may stand there, is whole and in range, and its templates are there.
+pub record StepsOver (x : Context) (count : ℕ) (s : List ℕ) (at next : ℕ) : Type 0 where
+  pub read : command x s at ≡ Moved (byte s at) (record { at = next })
+  pub there : factThere count (factAt s at (byte s at)) ≡ true
+
+-- The same of one after whose first byte three more stand.
+pub record Short (x : Context) (count : ℕ) (s : List ℕ) (at next : ℕ) : Type 0 where
+  pub steps : StepsOver x count s at next
+  pub forward : at ≤ next
+  pub inside : at + 3 < length s
 
 -- A head, or `4F`, the same way.
 abbrev pub testedHead : ℕ → List ℕ → ℕ → ℕ → Decoded → Decoded

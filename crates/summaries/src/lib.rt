@@ -1,10 +1,11 @@
 // Summaries: what a proposal claims of each variable at the entry of each point.
 ghost use mathlib.Core.Path.{_≡_};
-ghost use Prim.Native.Nat.{_+_, _*_, _≤_, _<_};
+ghost use Prim.Native.Nat.{ℕ, _+_, _*_, _≤_, _<_};
+ghost use lib.ListN.{length};
 ghost use lib.Dec.{leb};
 ghost use Rattle.commands.specs.Commands.{byte};
 ghost use Rattle.summaries.specs.ProposalReading.{factAt, factThere, variableOf, factContext};
-ghost use Rattle.summaries.specs.Promises.{presentAt, Ranked, factHere, headHere, FactsRead, ProposalReads};
+ghost use Rattle.summaries.specs.Promises.{presentAt, Ranked, factHere, headHere, FactsRead, ProposalReads, StepsOver, Short};
 use commands::Context;
 use commands::Decoded;
 use commands::Part;
@@ -79,6 +80,117 @@ fn fact_here(s: &[u8], here: Position, context: Context, templates: usize, least
     d
 }
 
+// The byte at an offset that is inside.
+fn inside(s: &[u8], i: usize) -> u8
+    requires { ⌜ i < length (now s) ⌝ }
+    ensures { λ r. ⌜ r ≡ byte (now (s .entry)) i ⌝ }
+{
+    s[i]
+}
+
+// The offset after an item here with one operand of at most `most`, or 0.
+fn after_one(s: &[u8], at: usize, most: usize) -> usize
+    requires { ⌜ at + 1 < length (now s) ⌝ }
+    ensures { λ r. ⌜ (0 < r → (r ≡ at + 2) × (byte (now (s .entry)) (at + 1) ≤ most)) ⌝ }
+{
+    if most < (inside(s, at + 1) as usize) {
+        return 0;
+    }
+    at + 2
+}
+
+// The same for two operands.
+fn after_two(s: &[u8], at: usize, first: usize, second: usize) -> usize
+    requires { ⌜ at + 2 < length (now s) ⌝ }
+    ensures { λ r. ⌜ (0 < r → (r ≡ at + 3) × (byte (now (s .entry)) (at + 1) ≤ first) × (byte (now (s .entry)) (at + 2) ≤ second)) ⌝ }
+{
+    if first < (inside(s, at + 1) as usize) {
+        return 0;
+    }
+    if second < (inside(s, at + 2) as usize) {
+        return 0;
+    }
+    at + 3
+}
+
+// The same for three, the second a gap.
+fn after_three(s: &[u8], at: usize, first: usize, third: usize) -> usize
+    requires { ⌜ at + 3 < length (now s) ⌝ }
+    ensures { λ r. ⌜ (0 < r → (r ≡ at + 4) × (byte (now (s .entry)) (at + 1) ≤ first) × (byte (now (s .entry)) (at + 2) ≤ 7) × (byte (now (s .entry)) (at + 3) ≤ third)) ⌝ }
+{
+    if first < (inside(s, at + 1) as usize) {
+        return 0;
+    }
+    if 7 < s[at + 2] {
+        return 0;
+    }
+    if third < (inside(s, at + 3) as usize) {
+        return 0;
+    }
+    at + 4
+}
+
+// The offset after the item of a template variable here, where its operands are in range and its templates are there; or 0.
+fn after_claim(s: &[u8], at: usize, templates: usize) -> usize
+    requires { ⌜ at + 3 < length (now s) ⌝ }
+    ensures { λ r. ⌜ (0 < r → StepsOver Context.TemplateFacts templates (now (s .entry)) at r) ⌝ }
+{
+    match s[at] {
+        0x41 => after_one(s, at, templates),
+        0x42 => after_three(s, at, templates, templates),
+        0x43 => after_three(s, at, templates, 63),
+        0x44 => after_two(s, at, templates, 7),
+        0x45 => after_two(s, at, 7, templates),
+        0x46 => after_two(s, at, 7, templates),
+        _ => 0,
+    }
+}
+
+// The same for a string variable.
+fn after_string(s: &[u8], at: usize, templates: usize) -> usize
+    requires { ⌜ at + 3 < length (now s) ⌝ }
+    ensures { λ r. ⌜ (0 < r → StepsOver Context.StringFacts templates (now (s .entry)) at r) ⌝ }
+{
+    match s[at] {
+        0x47 => after_one(s, at, 63),
+        0x48 => at + 1,
+        _ => 0,
+    }
+}
+
+// The offset after the item here, where it is seen at once that it may stand here; 0 where `fact_here` is to tell what is wrong.
+fn after_fact(s: &[u8], at: usize, context: Context, templates: usize) -> usize
+    ensures { λ r. ⌜ (0 < r → Short context templates (now (s .entry)) at r) ⌝ }
+{
+    if s.len() <= at {
+        return 0;
+    }
+    if s.len() - at <= 3 {
+        return 0;
+    }
+    match context {
+        Context::TemplateFacts => after_claim(s, at, templates),
+        Context::StringFacts => after_string(s, at, templates),
+        _ => 0,
+    }
+}
+
+// The rank of an item that reaches up to `next`.
+fn rank_up_to(s: &[u8], at: usize, next: usize) -> u64
+    requires { ⌜ (at + 3 < length (now s)) × (at ≤ next) ⌝ }
+    ensures { λ r. ⌜ ((context : Context) (templates : ℕ) → StepsOver context templates (now (s .entry)) at next → Ranked (now (s .entry)) at (byte (now (s .entry)) at) r) ⌝ }
+{
+    let one = inside(s, at) as u64;
+    let two = one * 256 + (inside(s, at + 1) as u64);
+    let three = two * 256 + (inside(s, at + 2) as u64);
+    match next - at {
+        1 => one * 16777216,
+        2 => two * 65536,
+        3 => three * 256,
+        _ => three * 256 + (inside(s, at + 3) as u64),
+    }
+}
+
 // The items under a head, up to the first command that is none of them.
 fn read_facts(s: &[u8], here: Position, context: Context, templates: usize) -> Part
     ensures { λ r. ⌜ FactsRead context templates (now (s .entry)) 0 (here .at) r ⌝ }
@@ -86,15 +198,25 @@ fn read_facts(s: &[u8], here: Position, context: Context, templates: usize) -> P
     let mut at = here;
     let mut least = 0;
     loop {
-        if !commands::is_allowed(context, commands::byte_at(s, at.at)) {
-            return Part::Whole(at);
+        let next = after_fact(s, at.at, context, templates);
+        if next != 0 {
+            let place = rank_up_to(s, at.at, next);
+            if place < least {
+                return Part::Refused(Form::NotRising, at.at);
+            }
+            least = place + 1;
+            at = Position { at: next };
+        } else {
+            if !commands::is_allowed(context, commands::byte_at(s, at.at)) {
+                return Part::Whole(at);
+            }
+            let d = fact_here(s, at, context, templates, least);
+            let Decoded::Moved(code, next) = d else {
+                return part_of(d);
+            };
+            least = rank(s, at, code) + 1;
+            at = next;
         }
-        let d = fact_here(s, at, context, templates, least);
-        let Decoded::Moved(code, next) = d else {
-            return part_of(d);
-        };
-        least = rank(s, at, code) + 1;
-        at = next;
     }
 }
 

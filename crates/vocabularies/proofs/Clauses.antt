@@ -1,5 +1,5 @@
 -- Clauses: what each makes of the reading, where they end, and what code that reads them does.
-use Prim.Native.Nat.{ℕ, zero, suc, _+_, _-_, _*_, _^_, _≤_, _<_, min}
+use Prim.Native.Nat.{ℕ, zero, suc, _+_, _-_, _*_, _/_, _^_, _≤_, _<_, min}
 use mathlib.Core.Path.{_≡_, refl, sym, _∙_}
 use mathlib.Core.List.{List, [], _∷_}
 use mathlib.Core.Bool.{Bool, true, false}
@@ -21,9 +21,10 @@ use Rattle.vocabularies.specs.declared.Gathered.{Gathered}
 use Rattle.vocabularies.specs.Vocabulary.{Formula}
 use Rattle.vocabularies.specs.Facts.{factsOf}
 use Rattle.vocabularies.specs.VocabularyReading.{formula, mostFacts, clauses}
-use Rattle.vocabularies.specs.Promises.{ReadsShort, FormulaReads, Represents, Gathers, ClausesRead}
-use Rattle.vocabularies.proofs.Parts.{agrees-whole, agrees-refused, last-agrees, last-whole, plenty, is-plenty, Finished, last-finishes, andThen-finishes}
+use Rattle.vocabularies.specs.Promises.{Short, FormulaReads, Represents, Gathers, ClausesRead}
+use Rattle.vocabularies.proofs.Parts.{agrees-whole, agrees-refused, last-agrees, last-whole, Finished, last-finishes, andThen-finishes}
 use Rattle.vocabularies.proofs.Formulas.{formula-ends, formula-fuel, formula-finishes, formula-moved}
+use Rattle.vocabularies.proofs.ShortFormulas.{short-ends}
 
 -- What follows a clause's `04`, once its formula is read, and once that is whole.
 counted : ℕ → List ℕ → ℕ → Formula → ℕ → Read (List Formula)
@@ -151,24 +152,27 @@ module _ (s : List ℕ) (start : ℕ) (place : Position) (on : ClausesContinue s
       agrees (suc f) h = rw (step-end f s (place .at) (λ e. n (first ∙ e))) (refl, tt)
 
   -- A clause whose formula is seen at once to be whole, with facts that are not too many.
-  module _ (e : b ≡ 0x04) (end : ℕ) (told : 0 < end → ReadsShort s (place .at + 1) end) (some : end ≡ 0 → ⊥) where
-    pub clauses-short : ClausesContinue s start end
+  module _ (e : b ≡ 0x04) (short : ℕ) (told : 0 < short → Short s 0 (place .at + 1) 0 short) (some : short ≡ 0 → ⊥) where
+    S : Short s 0 (place .at + 1) 0 short
+    S = told (omega (arith, some))
+
+    pub clauses-short : ClausesContinue s start (short / 16)
     clauses-short = record { continues = λ p h. on .continues p λ f n. agrees p h f n }
       where
-        agrees : (p : Part) → ClausesRead s end p → (f : ℕ) → Enough s (place .at) f → Agrees (clauses f s (place .at)) p
+        agrees : (p : Part) → ClausesRead s (short / 16) p → (f : ℕ) → Enough s (place .at) f → Agrees (clauses f s (place .at)) p
         agrees p h zero n = absurd (omega arith)
         agrees p h (suc f) n =
             let w = within s (place .at) (sym first ∙ e) in
-            let a = told (omega (arith, some)) f (omega (arith, n, w)) in
-            let z = formula-ends f s 0 (place .at + 1) (a .0) end (a .1) in
-            rw (step f s (place .at) (sym first ∙ e), a .1, few f s (place .at) (a .0) end (a .2))
-            (last-agrees (clauses f s end) (_∷_ (a .0)) p (h f (omega (arith, n, w, z .0))))
+            let a = S .reads f (omega (arith, n, w)) in
+            let z = short-ends s 0 (place .at + 1) 0 short S in
+            let l = a .2 [] in
+            rw (step f s (place .at) (sym first ∙ e), a .1, few f s (place .at) (a .0) (short / 16) (omega (arith, l, S .few)))
+            (last-agrees (clauses f s (short / 16)) (_∷_ (a .0)) p (h f (omega (arith, n, w, z .0))))
 
-    pub short-falls : length s - end < length s - place .at
+    pub short-falls : length s - short / 16 < length s - place .at
     short-falls =
         let w = within s (place .at) (sym first ∙ e) in
-        let a = told (omega (arith, some)) (plenty s (place .at + 1)) (is-plenty s (place .at + 1)) in
-        let z = formula-ends (plenty s (place .at + 1)) s 0 (place .at + 1) (a .0) end (a .1) in
+        let z = short-ends s 0 (place .at + 1) 0 short S in
         omega (arith, w, z .0)
 
   module _ (e : b ≡ 0x04) (part : Part) (read : FormulaReads s 0 (place .at + 1) part) where

@@ -1,11 +1,10 @@
 -- What the code that reads vocabularies promises, in terms of the definitions that read them.
-use Prim.Native.Nat.{ℕ, _+_, _≤_, _<_, min}
+use Prim.Native.Nat.{ℕ, _+_, _/_, _%_, _≤_, _<_, min}
 use mathlib.Core.Path.{_≡_}
 use mathlib.Core.List.{List, [], _∷_, _++_}
 use mathlib.Core.Option.{some}
 use mathlib.Core.Bool.{Bool, false, cond}
 use lib.ListN.{length, getD}
-use lib.Dec.{ltb, eqb, leb}
 use Rattle.verdicts.specs.declared.Form.the-variants.{Missing}
 use Rattle.sets.specs.Sets.{member}
 use Rattle.commands.specs.declared.Context.{Context}
@@ -24,7 +23,7 @@ use Rattle.vocabularies.specs.declared.Facts.{Facts}
 use Rattle.vocabularies.specs.declared.Gathered.{Gathered}
 use Rattle.vocabularies.specs.declared.Names.{Names}
 use Rattle.vocabularies.specs.declared.RuleRead.{RuleRead}
-use Rattle.vocabularies.specs.Facts.{Fact, present, ordered, valued, sameFact, isAmong, add, withFacts, factsOf}
+use Rattle.vocabularies.specs.Facts.{Fact, present, ordered, valued, sameFact, isAmong, add, withFacts}
 use Rattle.vocabularies.specs.Vocabulary.{Formula, Rule, Vocabulary, ruleOf, declared, isIn}
 use Rattle.vocabularies.specs.VocabularyReading.{leaf, shapeAt, formula, mostFacts, rising, clauses, ruleBody, vocabulary}
 
@@ -40,20 +39,16 @@ FormulaReads s depth at r = (f : ℕ) → Enough s at f → Agrees (formula f s 
 abbrev pub StepsOver : List ℕ → ℕ → ℕ → Type 0
 StepsOver s at next = command Formulas s at ≡ Decodeds.Moved (byte s at) (record { at = next })
 
--- How many formulas follow a formula's command, and whether it is a connective.
-abbrev pub partsOf : ℕ → ℕ
-partsOf code = cond (ltb code 0x12) 2 (cond (eqb code 0x12) 1 0)
-
-abbrev pub opensOf : ℕ → ℕ
-opensOf code = cond (leb code 0x12) 1 0
-
 -- A formula of one command adds at most this many facts.
 abbrev pub AddsMost : ℕ → ℕ → Type 0
 AddsMost code n = 0x10 ≤ code → code ≤ 0x17 → (s : List ℕ) (at : ℕ) (ψ : Formula) → shapeAt s at code ≡ leaf ψ → (xs : List Fact) → length (withFacts ψ xs) ≤ length xs + n
 
--- The formula at an offset is whole, and its facts are not too many.
-abbrev pub ReadsShort : List ℕ → ℕ → ℕ → Type 0
-ReadsShort s at end = (f : ℕ) → Enough s at f → (ψ : Formula) × (formula f s 0 at ≡ whole ψ end) × (length (factsOf ψ) ≤ mostFacts)
+-- The formula at an offset is whole: r has 16 times the offset after it, and a number, at most 8, that its facts do not pass, added
+-- to `facts` others.
+pub record Short (s : List ℕ) (depth at facts r : ℕ) : Type 0 where
+  pub few : r % 16 ≤ mostFacts
+  pub reads : (f : ℕ) → Enough s at f
+      → (ψ : Formula) × (formula f s depth at ≡ whole ψ (r / 16)) × ((xs : List Fact) → length (withFacts ψ xs) + facts ≤ length xs + r % 16)
 
 -- A fact in numbers: its kind, and its operands.
 abbrev pub kindOf : Fact → ℕ

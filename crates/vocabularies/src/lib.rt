@@ -6,12 +6,13 @@ ghost use mathlib.Core.Logic.{_⊎_};
 ghost use lib.ListN.{length};
 ghost use Rattle.commands.specs.Commands.{byte, setAt};
 ghost use Rattle.vocabularies.specs.Vocabulary.{order};
-ghost use Rattle.vocabularies.specs.Promises.{partOf, StepsOver, partsOf, opensOf, AddsMost, ReadsShort, FormulaReads, Represents, TellsSame, TellsAmong, Adds, FactsWith, LeafAdds, Gathers, NamesRead, ClausesRead, RuleReads, DescribesRules, AddsRule, rooted, VocabularyReads};
+ghost use Rattle.vocabularies.specs.Promises.{partOf, StepsOver, AddsMost, Short, FormulaReads, Represents, TellsSame, TellsAmong, Adds, FactsWith, LeafAdds, Gathers, NamesRead, ClausesRead, RuleReads, DescribesRules, AddsRule, rooted, VocabularyReads};
 use commands::Context;
 use commands::Decoded;
 use commands::Part;
 use commands::Position;
 use commands::byte_at;
+use commands::inner_set;
 use commands::is_allowed;
 use commands::set_at;
 use verdicts::Form;
@@ -152,7 +153,7 @@ fn after_value(s: &[u8], at: usize) -> usize
     if 31 < s[at + 1] {
         return 0;
     }
-    if set_at(s, at + 2) == 0 {
+    if inner_set(s, at + 2) == 0 {
         return 0;
     }
     at + 10
@@ -178,31 +179,6 @@ fn after_command(s: &[u8], at: usize) -> usize
     }
 }
 
-// How many formulas follow a command of a formula.
-fn parts_of(code: u8) -> usize
-    ensures few { λ r. ⌜ r ≤ 2 ⌝ }
-    ensures parts { λ r. ⌜ r ≡ partsOf code ⌝ }
-{
-    if code < 0x12 {
-        return 2;
-    }
-    if code == 0x12 {
-        return 1;
-    }
-    0
-}
-
-// How many connectives a command of a formula is.
-fn opens_of(code: u8) -> usize
-    ensures few { λ r. ⌜ r ≤ 1 ⌝ }
-    ensures opens { λ r. ⌜ r ≡ opensOf code ⌝ }
-{
-    if code <= 0x12 {
-        return 1;
-    }
-    0
-}
-
 // How many facts a formula that is one command has at most.
 fn facts_of(code: u8) -> usize
     ensures few { λ r. ⌜ r ≤ 3 ⌝ }
@@ -216,32 +192,68 @@ fn facts_of(code: u8) -> usize
     }
 }
 
-// The offset after the formula here, where it is seen at once to be whole, with at most 16 connectives and at most 8 facts; or 0.
-fn short_formula(s: &[u8], here: usize) -> usize
-    ensures { λ r. ⌜ (0 < r → ReadsShort (now (s .entry)) here r) ⌝ }
+// The formula of one command here, after so many facts: 16 times the offset after it, and the facts with its own, at most 8. 0 where it
+// is not one that is seen at once to be whole.
+fn short_leaf(s: &[u8], at: usize, facts: usize) -> usize
+    requires { ⌜ facts ≤ 8 ⌝ }
+    ensures { λ r. ⌜ (0 < r → (depth : ℕ) → Short (now (s .entry)) depth at facts r) ⌝ }
 {
-    let mut at = here;
-    let mut left: usize = 1;
-    let mut opened: usize = 0;
-    let mut facts: usize = 0;
-    while left != 0 {
-        let next = after_command(s, at);
-        if next == 0 {
-            return 0;
-        }
-        let code = s[at];
-        left = left + parts_of(code) - 1;
-        opened += opens_of(code);
-        facts += facts_of(code);
-        if FORMULA_NESTING < opened {
-            return 0;
-        }
-        if MOST_FACTS < facts {
-            return 0;
-        }
-        at = next;
+    let next = after_command(s, at);
+    if next == 0 {
+        return 0;
     }
-    at
+    let code = s[at];
+    if code <= 0x12 {
+        return 0;
+    }
+    let more = facts + facts_of(code);
+    if MOST_FACTS < more {
+        return 0;
+    }
+    if 0x0800_0000_0000_0000 <= next {
+        return 0;
+    }
+    next * 16 + more
+}
+
+// The same for a formula, below `depth` open connectives.
+fn short_formula(s: &[u8], at: usize, depth: usize, facts: usize) -> usize
+    requires { ⌜ facts ≤ 8 ⌝ }
+    ensures { λ r. ⌜ (0 < r → Short (now (s .entry)) depth at facts r) ⌝ }
+{
+    let leaf = short_leaf(s, at, facts);
+    if leaf != 0 {
+        return leaf;
+    }
+    short_connective(s, at, depth, facts)
+}
+
+// The same for a connective with its formulas.
+fn short_connective(s: &[u8], at: usize, depth: usize, facts: usize) -> usize
+    requires { ⌜ facts ≤ 8 ⌝ }
+    ensures { λ r. ⌜ (0 < r → Short (now (s .entry)) depth at facts r) ⌝ }
+{
+    if s.len() <= at {
+        return 0;
+    }
+    let code = s[at];
+    if code < 0x10 {
+        return 0;
+    }
+    if 0x12 < code {
+        return 0;
+    }
+    if FORMULA_NESTING <= depth {
+        return 0;
+    }
+    let first = short_formula(s, at + 1, depth + 1, facts);
+    if first == 0 {
+        return 0;
+    }
+    if code == 0x12 {
+        return first;
+    }
+    short_formula(s, first / 16, depth + 1, first % 16)
 }
 
 pub fn no_facts() -> Facts
@@ -398,9 +410,9 @@ pub fn read_clauses(s: &[u8], here: Position) -> Part
             return Part::Whole(place);
         }
         let start = Position { at: at + 1 };
-        let end = short_formula(s, at + 1);
-        if end != 0 {
-            place = Position { at: end };
+        let short = short_formula(s, at + 1, 0, 0);
+        if short != 0 {
+            place = Position { at: short / 16 };
         } else {
             let part = read_formula(s, start, 0);
             let Part::Whole(next) = part else {

@@ -1,6 +1,6 @@
 -- The lowest place of the templates passed is kept.
 use Prim.Native.Nat.{_+_, _-_, _≤_, _<_}
-use mathlib.Core.Path.{_≡_, refl, sym, _∙_}
+use mathlib.Core.Path.{_≡_, refl}
 use mathlib.Core.Logic.{_⊎_, inl, inr}
 use native.Mathlib.Omega.{arith}
 use borrow.Author.Needs.{needs}
@@ -10,16 +10,19 @@ use Rattle.shows.proofs.lowest_wrong.Statement.{statement}
 use Rattle.shows.proofs.lowest_wrong.Tie as tie
 
 abbrev Inv-loop : tie.InvT-loop
-Inv-loop table reached count template₀ lowest₀ t₀ template lowest t = (t ≤ count + 1) × Among (wrongAt reached table) t template lowest
+Inv-loop count table template₀ lowest₀ t₀ template lowest t = (t ≤ count + 1) × Among (wrongAt table) t template lowest
 
 abbrev μ-loop : tie.MeasureT-loop
-μ-loop table reached count template₀ lowest₀ t₀ template lowest t = count + 1 - t
+μ-loop count table template₀ lowest₀ t₀ template lowest t = count + 1 - t
 
 loop-holds : tie.Need-loop-holds Inv-loop μ-loop
 loop-holds c = (omega arith, among-none _)
 
-wrong-at-requires : tie.Need-wrong-at-requires Inv-loop μ-loop
-wrong-at-requires c κs = search needs
+mul-wrong : tie.Need-mul-wrong Inv-loop μ-loop
+mul-wrong c = search needs
+
+array-read-wrong : tie.Need-array-read-wrong Inv-loop μ-loop
+array-read-wrong c = search needs
 
 is-below-requires : tie.Need-is-below-requires Inv-loop μ-loop
 is-below-requires c κs = search needs
@@ -33,7 +36,7 @@ loop-less c = search needs
 loop-again : tie.Need-loop-again Inv-loop μ-loop
 loop-again c = (
   omega arith,
-  among-goes _ _ _ _ _ (c .before .before .wrong-at .ensures) (c .before .before .before .before .loop .inv .1) (c .before .is-below .result) (c .before .is-below .ensures) (c .if1 .template) (c .if1 .lowest)
+  among-goes (wrongAt (c .before .before .before .before .args .t1)) (c .before .before .before .loop .t) _ _ _ refl (c .before .before .before .loop .inv .1) (c .before .is-below .result) (c .before .is-below .ensures) (c .if1 .template) (c .if1 .lowest)
       (elim (c .if1 .came) [
         | inl w ↦ inl (w .0 .taken, w .1, w .2)
         | inr w ↦ inr (w .0 .left, w .1, w .2)
@@ -43,8 +46,8 @@ loop-again c = (
 returns : tie.Need-returns Inv-loop μ-loop
 returns c = among-nothing _ _ _ _ _ (c .before .loop-test .left) (c .before .before .loop .inv .0) (c .before .before .loop .inv .1) (c .if2 .taken)
 
-sub-t11 : tie.Need-sub-t11 Inv-loop μ-loop
-sub-t11 c = search needs
+sub-t15 : tie.Need-sub-t15 Inv-loop μ-loop
+sub-t15 c = search needs
 
 returns-2 : tie.Need-returns-2 Inv-loop μ-loop
 returns-2 c = among-lowest _ _ _ _ _ (c .before .loop-test .left) (c .before .before .loop .inv .0) (c .before .before .loop .inv .1) (c .if2 .left)
@@ -56,11 +59,12 @@ lowest-wrong-spec =
     Inv-loop
     μ-loop
     loop-holds
-    wrong-at-requires
+    mul-wrong
+    array-read-wrong
     is-below-requires
     add-t
     loop-less
     loop-again
     returns
-    sub-t11
+    sub-t15
     returns-2)

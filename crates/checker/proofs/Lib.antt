@@ -1,0 +1,3 @@
+mod Points
+mod Reading
+mod Whole

@@ -1,0 +1,64 @@
+-- A job that was read: its parts as the check goes by them, and the verdicts of its reading and of its covering.
+use Prim.Native.Nat.{ℕ}
+use mathlib.Core.Path.{_≡_, refl, sym, subst}
+use mathlib.Core.List.{List}
+use Rattle.verdicts.specs.declared.Form.{Form}
+use Rattle.verdicts.specs.declared.Cover.{Cover}
+use Rattle.verdicts.specs.declared.Cover.the-variants.{Start, Step}
+use Rattle.verdicts.specs.declared.Refusal.the-variants as Refusals
+use Rattle.verdicts.specs.declared.Verdict.{Verdict}
+use Rattle.verdicts.specs.declared.Verdict.the-variants as Verdicts
+use Rattle.commands.specs.declared.Position.{Position}
+use Rattle.commands.specs.declared.Part.the-variants.{Whole, Refused}
+use Rattle.commands.specs.Reading.{whole}
+use Rattle.programs.proofs.Laws.{WholeAs, agrees-whole, agrees-refuses}
+use Rattle.jobs.specs.declared.JobRead.{JobRead}
+use Rattle.jobs.specs.Job.{Job, job}
+use Rattle.jobs.specs.Promises.{JobKept, JobReads}
+use Rattle.jobs.specs.JobVerdict.{AllCovered, JobVerdict, unreadable, start-uncovered, step-uncovered}
+use Rattle.covering.specs.declared.Covering.{Covering}
+use Rattle.covering.specs.declared.Covering.the-variants.{Covered, Uncovered}
+use Rattle.covering.specs.Promises.{Covers}
+use Rattle.covering.proofs.Laws.{tables-of}
+use Rattle.shows.specs.declared.TemplateTables.{TemplateTables}
+use Rattle.shows.specs.Promises.{TabledBy}
+use Rattle.checker.specs.Promises.{ReadAt}
+
+module _ (s : List ℕ) (j : Job) (end : ℕ) (reads : job s ≡ whole j end) where
+  -- 9 and 10.
+  pub uncovered : (r : Covering) → Covers j r → (c : Cover) → r ≡ Uncovered c → JobVerdict s (Verdicts.Refused (Refusals.Cover c))
+  uncovered r h c e = go c (subst (Covers j) e h)
+    where
+      go : (c : Cover) → Covers j (Uncovered c) → JobVerdict s (Verdicts.Refused (Refusals.Cover c))
+      go (Start v) f = start-uncovered reads (f .variable) (f .fails) (f .before)
+      go (Step p next v) f = rw (f .next-is) (step-uncovered (f .second) reads (f .start) (f .variable) (f .fails) (f .before))
+
+  pub covered : (r : Covering) → Covers j r → r ≡ Covered → AllCovered j
+  covered r h e = subst (Covers j) e h
+
+  -- What is known of its parts.
+  pub read-at : (read : JobRead) → JobKept s j read → (templates : TemplateTables) → TabledBy s (read .templates .starts) (read .templates .count) templates
+      → ReadAt s (read .tables) templates (read .templates .count) (read .templates .starts) (read .program .count) (read .program .places) (read .proposal .heads) j
+  read-at read K templates tabled =
+      let T = tables-of s j end read reads K in
+      record {
+        end = end;
+        reads = reads;
+        vocabulary = K .vocabulary;
+        located = K .templates;
+        tabled = tabled (j .templates) (T .start) (T .count-is) (T .few-templates);
+        names = read .program .named;
+        parts = T;
+      }
+
+-- 1 to 8.
+pub refused : (s : List ℕ) (r : JobRead) → JobReads s r → (f : Form) (at : ℕ) → r .part ≡ Refused f at → (v : Verdict)
+    → v ≡ Verdicts.Refused (Refusals.Form f (record { at = at; slice = 0 })) → JobVerdict s v
+refused s r h f at e v is = rw is (unreadable (agrees-refuses (λ j end. JobKept s j r) (job s) (r .part) f at e h))
+
+-- A job that was read whole has the verdict that is found for it.
+pub read-whole : (s : List ℕ) (r : JobRead) → JobReads s r → (p : Position) → r .part ≡ Whole p → (v : Verdict)
+    → ((j : Job) (end : ℕ) → job s ≡ whole j end → JobKept s j r → JobVerdict s v) → JobVerdict s v
+read-whole s r h p e v found =
+    let w = agrees-whole (λ j end. JobKept s j r) (job s) (r .part) p e h in
+    found (w .tree) (w .end) (w .reads) (w .holds)

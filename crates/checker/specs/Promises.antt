@@ -1,0 +1,36 @@
+-- What the steps of the check promise, of a job that was read.
+use Prim.Native.Nat.{ℕ, _<_}
+use mathlib.Core.Path.{_≡_}
+use mathlib.Core.List.{List}
+use Rattle.verdicts.specs.declared.Fault.the-variants.{WrongElement}
+use Rattle.verdicts.specs.declared.Fault.the-variants as Faults
+use Rattle.verdicts.specs.declared.Refusal.the-variants as Refusals
+use Rattle.verdicts.specs.declared.Verdict.{Verdict}
+use Rattle.verdicts.specs.declared.Verdict.the-variants.{Accepted, Refused}
+use Rattle.commands.specs.Reading.{whole}
+use Rattle.vocabularies.specs.declared.Tables as Vocabularies
+use Rattle.vocabularies.specs.Vocabulary.{declared}
+use Rattle.vocabularies.specs.Promises.{Describes}
+use Rattle.pages.specs.Promises.{Located}
+use Rattle.jobs.specs.Job.{Job, job}
+use Rattle.covering.specs.Tables.{Tables}
+use Rattle.shows.specs.declared.TemplateTables.{TemplateTables}
+use Rattle.shows.specs.declared.Shown.{Shown}
+use Rattle.shows.specs.declared.Shown.the-variants.{Right, NotRoot, Wrong}
+use Rattle.shows.specs.Promises.{TablesOf}
+
+-- 11 or 12 at a point, or no refusal.
+abbrev pub faultAt : ℕ → Shown → Verdict
+faultAt p Right = Accepted
+faultAt p (NotRoot t) = Refused (Refusals.Page (Faults.NotRoot p t))
+faultAt p (Wrong t at) = Refused (Refusals.Page (WrongElement p t at))
+
+-- What is known where the shows of a job are looked at: it was read from these bytes, and the tables say where its parts stand.
+pub record ReadAt (s : List ℕ) (rules : Vocabularies.Tables) (templates : TemplateTables) (count : ℕ) (starts : List ℕ) (points : ℕ) (places heads : List ℕ) (j : Job) : Type 0 where
+  pub end : ℕ
+  pub reads : job s ≡ whole j end
+  pub vocabulary : Describes s (j .vocabulary) rules
+  pub located : Located (declared (j .vocabulary .rules)) s (j .templates) count starts
+  pub tabled : TablesOf (j .templates) count templates
+  pub names : ℕ
+  pub parts : Tables j s count starts points places names heads

@@ -1,0 +1,238 @@
+-- An element's contents are searched, then the element by the clause; a list's items one after the other. The measure is twice the
+-- unread bytes, and one more for a list, which begins with an element at the same offset.
+use Prim.Native.Nat.{ℕ, _<_, _+_, _-_}
+use native.Mathlib.Omega.{arith}
+use lib.ListN.{length}
+use borrow.Author.Needs.{needs}
+use Rattle.elements.proofs.Searches.{other-element, this-element, adds-all, passes-text, passes-gap, passes-element, list-ends, past-list, Going}
+use borrow.Fn.Kinds.{In}
+use borrow.Fn.PlainCycle.{Measures, is, falls, and}
+use Rattle.elements.proofs.search_element.Reads as search-element
+use Rattle.elements.proofs.search_element.Kinds as search-element-kinds
+use Rattle.elements.proofs.+search_element+search_items.Lts-search_element as search-element-lts
+use Rattle.elements.proofs.search_items.Reads as search-items
+use Rattle.elements.proofs.search_items.Kinds as search-items-kinds
+use Rattle.elements.proofs.+search_element+search_items.Lts-search_items as search-items-lts
+use Rattle.commands.proofs.byte_at.Reads as byte-at-reads
+use Rattle.occurrences.proofs.after_attributes.Reads as after-attributes-reads
+use Rattle.elements.proofs.element_fails.Reads as element-fails-reads
+use Rattle.elements.proofs.with_mark.Reads as with-mark-reads
+use Rattle.reach.proofs.lower.Reads as lower-reads
+use Rattle.elements.proofs.+search_element+search_items.{statement}
+use Rattle.elements.proofs.+search_element+search_items.Tie.{close}
+
+abbrev μ-search-element : Measures 3 search-element-kinds.ps ℕ
+μ-search-element κs a = (length (a .0 .now) - a .1 .0 .at) + (length (a .0 .now) - a .1 .0 .at)
+
+abbrev μ-search-items : Measures 3 search-items-kinds.ps ℕ
+μ-search-items κs a = (length (a .0 .now) - a .1 .0 .at) + (length (a .0 .now) - a .1 .0 .at) + 1
+
+abbrev search-element-at : ℕ → In 3 search-element-kinds.ps
+search-element-at t =
+    and
+    3
+    search-element-kinds.ps
+    (is 3 search-element-kinds.ps μ-search-element t)
+    search-element.Pre
+
+abbrev search-element-below : ℕ → In 3 search-element-kinds.ps
+search-element-below t =
+    and
+    3
+    search-element-kinds.ps
+    (falls 3 search-element-kinds.ps _<_ μ-search-element t)
+    search-element.Pre
+
+abbrev search-items-at : ℕ → In 3 search-items-kinds.ps
+search-items-at t =
+    and 3 search-items-kinds.ps (is 3 search-items-kinds.ps μ-search-items t) search-items.Pre
+
+abbrev search-items-below : ℕ → In 3 search-items-kinds.ps
+search-items-below t =
+    and
+    3
+    search-items-kinds.ps
+    (falls 3 search-items-kinds.ps _<_ μ-search-items t)
+    search-items.Pre
+
+abbrev element-told : ℕ → search-element-lts.Claims
+element-told t = (
+  after-attributes-reads.Asked,
+  after-attributes-reads.Learnt,
+  search-items-below t,
+  search-items.Post,
+  byte-at-reads.Asked,
+  byte-at-reads.Learnt,
+  element-fails-reads.Asked,
+  element-fails-reads.Learnt,
+  with-mark-reads.Asked,
+  with-mark-reads.Learnt,
+)
+
+abbrev items-told : ℕ → search-items-lts.Claims
+items-told t = (search-element-below t, search-element.Post, lower-reads.Asked, lower-reads.Learnt)
+
+search-element-add-byte-at : (t : ℕ) → search-element-lts.Need-add-byte-at (element-told t) (search-element-at t) search-element.Post
+search-element-add-byte-at t c = omega (arith, c .before .pre)
+
+search-element-after-attributes-requires : (t : ℕ) → search-element-lts.Need-after-attributes-requires (element-told t) (search-element-at t) search-element.Post
+search-element-after-attributes-requires t c κs = search needs
+
+search-element-search-items-requires : (t : ℕ) → search-element-lts.Need-search-items-requires (element-told t) (search-element-at t) search-element.Post
+search-element-search-items-requires t c κs = (omega (arith, c .before .before .pre), search needs)
+
+search-element-add-byte-at-2 : (t : ℕ) → search-element-lts.Need-add-byte-at-2 (element-told t) (search-element-at t) search-element.Post
+search-element-add-byte-at-2 t c = omega (arith, c .before .before .before .pre)
+
+search-element-byte-at-requires : (t : ℕ) → search-element-lts.Need-byte-at-requires (element-told t) (search-element-at t) search-element.Post
+search-element-byte-at-requires t c κs = search needs
+
+search-element-returns : (t : ℕ) → search-element-lts.Need-returns (element-told t) (search-element-at t) search-element.Post
+search-element-returns t c =
+    let args = c .before .before .before .before .before .before .args in
+    let attributes = c .before .before .before .before .after-attributes in
+    let list = c .before .before .before .search-items in
+    let name = c .before .before .byte-at in (
+      omega (arith, list .ensures .0, attributes .ensures .0),
+      other-element (args .s .now) (args .here .at) (args .clause) (args .words .now) (args .takes .now) (args .n) (c .before .before .before .before .before .before .pre .1 .2)
+          (attributes .result .at) (attributes .ensures .1) (list .result) (list .ensures .1) (name .result) (name .ensures) (c .if1 .taken),
+    )
+
+search-element-element-fails-requires : (t : ℕ) → search-element-lts.Need-element-fails-requires (element-told t) (search-element-at t) search-element.Post
+search-element-element-fails-requires t c κs = search needs
+
+search-element-with-mark-requires : (t : ℕ) → search-element-lts.Need-with-mark-requires (element-told t) (search-element-at t) search-element.Post
+search-element-with-mark-requires t c κs = omega (arith, c .before .before .before .before .before .before .before .before .pre)
+
+search-element-returns-2 : (t : ℕ) → search-element-lts.Need-returns-2 (element-told t) (search-element-at t) search-element.Post
+search-element-returns-2 t c =
+    let args = c .before .before .before .before .before .before .before .before .before .args in
+    let attributes = c .before .before .before .before .before .before .before .after-attributes in
+    let list = c .before .before .before .before .before .before .search-items in
+    let name = c .before .before .before .before .before .byte-at in
+    let tested = c .before .before .element-fails in (
+      omega (arith, list .ensures .0, attributes .ensures .0),
+      this-element (args .s .now) (args .here .at) (args .clause) (args .words .now) (args .takes .now) (args .n) (c .before .before .before .before .before .before .before .before .before .pre .1 .2)
+          (attributes .result .at) (attributes .ensures .1) (list .result) (list .ensures .1) (name .result) (name .ensures) (c .before .before .before .if1 .left)
+          (tested .result) (tested .ensures) (c .with-mark .result) (c .with-mark .ensures),
+    )
+
+abbrev search-items-Inv-loop : search-items-lts.InvT-loop
+search-items-Inv-loop s clause n words takes at₀ wrong₀ at wrong = Going s clause words takes n at₀ at wrong
+
+abbrev search-items-μ-loop : search-items-lts.MeasureT-loop
+search-items-μ-loop s clause n words takes at₀ wrong₀ at wrong = length s - at
+
+search-items-loop-holds : (t : ℕ) → search-items-lts.Need-loop-holds (items-told t) (search-items-at t) search-items.Post search-items-Inv-loop search-items-μ-loop
+search-items-loop-holds t c = record { forward = omega arith; goes = λ r A. A }
+
+search-items-shared-slice-read-match : (t : ℕ) → search-items-lts.Need-shared-slice-read-match (items-told t) (search-items-at t) search-items.Post search-items-Inv-loop search-items-μ-loop
+search-items-shared-slice-read-match t c = omega arith
+
+search-items-add-at : (t : ℕ) → search-items-lts.Need-add-at (items-told t) (search-items-at t) search-items.Post search-items-Inv-loop search-items-μ-loop
+search-items-add-at t c = omega arith
+
+search-items-loop-less : (t : ℕ) → search-items-lts.Need-loop-less (items-told t) (search-items-at t) search-items.Post search-items-Inv-loop search-items-μ-loop
+search-items-loop-less t c = omega arith
+
+search-items-loop-again : (t : ℕ) → search-items-lts.Need-loop-again (items-told t) (search-items-at t) search-items.Post search-items-Inv-loop search-items-μ-loop
+search-items-loop-again t c =
+    let args = c .before .before .before .before .before .args in
+    let l = c .before .before .before .loop in
+    record {
+      forward = omega (arith, l .inv .forward);
+      goes = λ r A. l .inv .goes r (passes-text (args .s .now) (args .clause) (args .words .now) (args .takes .now) (args .n) _ (l .at) r (c .match .keys1) A);
+    }
+
+search-items-add-at-2 : (t : ℕ) → search-items-lts.Need-add-at-2 (items-told t) (search-items-at t) search-items.Post search-items-Inv-loop search-items-μ-loop
+search-items-add-at-2 t c = omega arith
+
+search-items-loop-less-2 : (t : ℕ) → search-items-lts.Need-loop-less-2 (items-told t) (search-items-at t) search-items.Post search-items-Inv-loop search-items-μ-loop
+search-items-loop-less-2 t c = omega arith
+
+search-items-loop-again-2 : (t : ℕ) → search-items-lts.Need-loop-again-2 (items-told t) (search-items-at t) search-items.Post search-items-Inv-loop search-items-μ-loop
+search-items-loop-again-2 t c =
+    let args = c .before .before .before .before .before .args in
+    let l = c .before .before .before .loop in
+    record {
+      forward = omega (arith, l .inv .forward);
+      goes = λ r A. l .inv .goes r (passes-gap (args .s .now) (args .clause) (args .words .now) (args .takes .now) (args .n) _ (l .at) r (c .match .keys2) A);
+    }
+
+search-items-search-element-requires : (t : ℕ) → search-items-lts.Need-search-element-requires (items-told t) (search-items-at t) search-items.Post search-items-Inv-loop search-items-μ-loop
+search-items-search-element-requires t c κs = (omega arith, (search needs, omega arith, c .match .keys3))
+
+search-items-lower-requires : (t : ℕ) → search-items-lts.Need-lower-requires (items-told t) (search-items-at t) search-items.Post search-items-Inv-loop search-items-μ-loop
+search-items-lower-requires t c κs = search needs
+
+search-items-loop-less-3 : (t : ℕ) → search-items-lts.Need-loop-less-3 (items-told t) (search-items-at t) search-items.Post search-items-Inv-loop search-items-μ-loop
+search-items-loop-less-3 t c = omega (arith, c .before .before .search-element .ensures .0)
+
+search-items-loop-again-3 : (t : ℕ) → search-items-lts.Need-loop-again-3 (items-told t) (search-items-at t) search-items.Post search-items-Inv-loop search-items-μ-loop
+search-items-loop-again-3 t c =
+    let args = c .before .before .before .before .before .before .before .before .args in
+    let l = c .before .before .before .before .before .before .loop in
+    let found = c .before .before .search-element in
+    record {
+      forward = omega (arith, l .inv .forward, found .ensures .0);
+      goes = λ r A. l .inv .goes r (passes-element (args .s .now) (args .clause) (args .words .now) (args .takes .now) (args .n) _ (l .at) r (c .before .before .before .match .keys3)
+          (found .result) (found .ensures .1) _ (c .before .lower .ensures) A);
+    }
+
+search-items-add-t17 : (t : ℕ) → search-items-lts.Need-add-t17 (items-told t) (search-items-at t) search-items.Post search-items-Inv-loop search-items-μ-loop
+search-items-add-t17 t c = omega arith
+
+search-items-returns : (t : ℕ) → search-items-lts.Need-returns (items-told t) (search-items-at t) search-items.Post search-items-Inv-loop search-items-μ-loop
+search-items-returns t c =
+    let args = c .before .before .before .before .before .args in
+    let l = c .before .before .before .loop in
+    let n = c .match .rest in (
+      omega (arith, l .inv .forward),
+      adds-all (args .s .now) (args .clause) (args .words .now) (args .takes .now) (args .n) (args .here .at) _
+          (l .inv .goes _ (list-ends (args .s .now) (args .clause) (args .words .now) (args .takes .now) (args .n) (l .at) (l .wrong) (n .0 .0 .1) (n .0 .1) (n .1))),
+    )
+
+search-items-returns-2 : (t : ℕ) → search-items-lts.Need-returns-2 (items-told t) (search-items-at t) search-items.Post search-items-Inv-loop search-items-μ-loop
+search-items-returns-2 t c =
+    let args = c .before .before .before .args in
+    let l = c .before .loop in (
+      l .inv .forward,
+      adds-all (args .s .now) (args .clause) (args .words .now) (args .takes .now) (args .n) (args .here .at) _
+          (l .inv .goes _ (past-list (args .s .now) (args .clause) (args .words .now) (args .takes .now) (args .n) _ (l .at) _ (c .loop-test .left))),
+    )
+
+pub +search-element+search-items-spec : {M : Type 1} → statement M
++search-element+search-items-spec =
+    close μ-search-element μ-search-items (λ t. search-element-lts.spec (element-told t)
+    (search-element-at t)
+    search-element.Post
+    (search-element-add-byte-at t)
+    (search-element-after-attributes-requires t)
+    (search-element-search-items-requires t)
+    (search-element-add-byte-at-2 t)
+    (search-element-byte-at-requires t)
+    (search-element-returns t)
+    (search-element-element-fails-requires t)
+    (search-element-with-mark-requires t)
+    (search-element-returns-2 t))
+    λ t. search-items-lts.spec
+    (items-told t)
+    (search-items-at t)
+    search-items.Post
+    search-items-Inv-loop
+    search-items-μ-loop
+    (search-items-loop-holds t)
+    (search-items-shared-slice-read-match t)
+    (search-items-add-at t)
+    (search-items-loop-less t)
+    (search-items-loop-again t)
+    (search-items-add-at-2 t)
+    (search-items-loop-less-2 t)
+    (search-items-loop-again-2 t)
+    (search-items-search-element-requires t)
+    (search-items-lower-requires t)
+    (search-items-loop-less-3 t)
+    (search-items-loop-again-3 t)
+    (search-items-add-t17 t)
+    (search-items-returns t)
+    (search-items-returns-2 t)

@@ -1,0 +1,10 @@
+pub mod Valued
+pub mod Values
+pub mod PatternSets
+pub mod AttributeLists
+pub mod Lowers
+pub mod Searches
+pub mod LoweredTables
+pub mod Templates
+pub mod Rules
+pub mod WrongElements

@@ -1,0 +1,21 @@
+-- What the gaps of the template take, and its items.
+use borrow.Author.Needs.{needs}
+use Rattle.elements.proofs.Templates.{template-searched}
+use Rattle.elements.proofs.search_template.Statement.{statement}
+use Rattle.elements.proofs.search_template.Tie as tie
+
+gap-sets-requires : tie.Need-gap-sets-requires
+gap-sets-requires c κs = search needs
+
+search-items-requires : tie.Need-search-items-requires
+search-items-requires c κs = search needs
+
+returns : tie.Need-returns
+returns c =
+    let args = c .before .before .before .before .args in
+    let gaps = c .before .before .gap-sets in
+    template-searched (args .s .now) (args .from) (args .clause) (args .words .now) (args .rows) (args .n) (gaps .result) (gaps .ensures)
+    (c .search-items .result) (c .search-items .ensures .1)
+
+pub search-template-spec : {M : Type 1} → statement M
+search-template-spec = tie.close (tie.spec gap-sets-requires search-items-requires returns)

@@ -1,0 +1,3 @@
+pub mod TemplateItems
+pub mod Names
+pub mod Tables

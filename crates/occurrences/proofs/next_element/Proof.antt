@@ -1,0 +1,22 @@
+-- There is no element after the last.
+use native.Mathlib.Omega.{arith}
+use borrow.Author.Needs.{needs}
+use Rattle.occurrences.proofs.next_element.Statement.{statement}
+use Rattle.occurrences.proofs.next_element.Tie as tie
+
+returns : tie.Need-returns
+returns c = record {
+  after = omega arith;
+  within = omega arith;
+  is-held = λ l. absurd (omega arith);
+  skips = λ x l m. absurd (omega arith);
+}
+
+first-member-requires : tie.Need-first-member-requires
+first-member-requires c κs = search needs
+
+returns-2 : tie.Need-returns-2
+returns-2 c = search needs
+
+pub next-element-spec : {M : Type 1} → statement M
+next-element-spec = tie.close (tie.spec returns first-member-requires returns-2)

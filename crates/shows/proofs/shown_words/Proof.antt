@@ -1,0 +1,28 @@
+-- The entry of the variable that the statement names, closed.
+use borrow.Author.Needs.{needs}
+use Rattle.shows.proofs.Statements.{keeps-graph}
+use Rattle.shows.proofs.shown_words.Statement.{statement}
+use Rattle.shows.proofs.shown_words.Tie as tie
+
+operand-requires : tie.Need-operand-requires
+operand-requires c κs = search needs
+
+cast-x : tie.Need-cast-x
+cast-x c = search needs
+
+template-head-requires : tie.Need-template-head-requires
+template-head-requires c κs = search needs
+
+load-requires : tie.Need-load-requires
+load-requires c κs = search needs
+
+close-requires : tie.Need-close-requires
+close-requires c κs = search needs
+
+returns : tie.Need-returns
+returns c =
+    keeps-graph (c .before .before .before .before .before .args .s .now) (c .before .before .before .before .before .args .heads .now) (c .before .before .before .before .before .args .place) (c .before .before .before .before .before .args .p) (c .before .before .before .operand .result) (c .before .before .template-head .result) (c .before .before .before .operand .ensures)
+    (c .before .before .template-head .ensures) (c .before .load .result) (c .before .load .ensures) (c .close .result) (c .close .ensures)
+
+pub shown-words-spec : {M : Type 1} → statement M
+shown-words-spec = tie.close (tie.spec operand-requires cast-x template-head-requires load-requires close-requires returns)

@@ -1,0 +1,24 @@
+-- Each table is its own function's.
+use native.Mathlib.Omega.{arith}
+use borrow.Author.Needs.{needs}
+use Rattle.shows.proofs.tables_of.Statement.{statement}
+use Rattle.shows.proofs.tables_of.Tie as tie
+
+outlines-of-requires : tie.Need-outlines-of-requires
+outlines-of-requires c κs = search needs
+
+gaps-of-requires : tie.Need-gaps-of-requires
+gaps-of-requires c κs = search needs
+
+of-templates-requires : tie.Need-of-templates-requires
+of-templates-requires c κs = search needs
+
+returns : tie.Need-returns
+returns c φs stand counts few = record {
+  gaps = λ t l. c .before .gaps-of .ensures φs stand counts t (omega arith) (omega arith);
+  outlines = c .before .before .before .before .outlines-of .ensures φs stand counts;
+  occurrences = c .of-templates .ensures φs stand counts few;
+}
+
+pub tables-of-spec : {M : Type 1} → statement M
+tables-of-spec = tie.close (tie.spec outlines-of-requires gaps-of-requires of-templates-requires returns)
