@@ -1,7 +1,7 @@
 fn main() {
     let library = std::env::var("PAGE_CHECK_LIBRARY").expect("PAGE_CHECK_LIBRARY names the folder of the static library");
     println!("cargo:rustc-link-search=native={library}");
-    println!("cargo:rustc-link-lib=static=judge");
-    println!("cargo:rerun-if-changed={library}/libjudge.a");
+    println!("cargo:rustc-link-lib=static=exports");
+    println!("cargo:rerun-if-changed={library}/libexports.a");
     println!("cargo:rerun-if-env-changed=PAGE_CHECK_LIBRARY");
 }

@@ -10,12 +10,10 @@
 extern "C" {
 #endif
 
-/* Checks one job. Acceptance, four zeros, means that every run of the job shows only right pages. The verdict is written to the four
-   numbers. It stands in the static library of the crate `checker`. */
-void page_check_check(const uint8_t *job, size_t job_length, uint64_t verdict[4]);
+/* Checks a job. If the verdict is acceptance, every run of the job shows only right pages. */
+void page_check_job(const uint8_t *job, size_t job_length, uint64_t verdict[4]);
 
-/* Judges one page under one vocabulary. The verdict is written to the four numbers. It stands in the static library of the crate
-   `judge`. */
+/* Judges one page under one vocabulary. */
 void page_check_judge(const uint8_t *vocabulary, size_t vocabulary_length, const uint8_t *page, size_t page_length,
                       uint64_t verdict[4]);
 

@@ -1,7 +1,7 @@
 -- The points of a job that was read, one after the other: what is found at each, and the verdict that follows.
-use Prim.Native.Nat.{ℕ, zero, suc, _+_, _%_, _≤_, _<_}
+use Prim.Native.Nat.{ℕ, _+_, _≤_, _<_}
 use native.Mathlib.Omega.{arith}
-use mathlib.Core.Path.{_≡_, refl, sym, ap, subst, _∙_}
+use mathlib.Core.Path.{_≡_, refl, sym, _∙_}
 use mathlib.Core.List.{List}
 use mathlib.Core.Bool.{Bool, true, false, not, false≢true}
 use mathlib.Core.Option.{none}
@@ -13,7 +13,7 @@ use Rattle.verdicts.specs.declared.Verdict.{Verdict}
 use Rattle.verdicts.specs.declared.Verdict.the-variants.{Accepted, Refused}
 use Rattle.vocabularies.specs.declared.Tables as Vocabularies
 use Rattle.programs.specs.Program.{statementAt}
-use Rattle.summaries.specs.Languages.{statementShows, graphOf, graphShown}
+use Rattle.summaries.specs.Languages.{graphShown}
 use Rattle.commands.specs.Reading.{whole}
 use Rattle.jobs.specs.Job.{Job, job}
 use Rattle.jobs.specs.JobVerdict.{ShowHolds, AllCovered, JobVerdict, not-root, wrong-element, accepted}

@@ -1,6 +1,6 @@
 -- A job that was read: its parts as the check goes by them, and the verdicts of its reading and of its covering.
 use Prim.Native.Nat.{ℕ}
-use mathlib.Core.Path.{_≡_, refl, sym, subst}
+use mathlib.Core.Path.{_≡_, subst}
 use mathlib.Core.List.{List}
 use Rattle.verdicts.specs.declared.Form.{Form}
 use Rattle.verdicts.specs.declared.Cover.{Cover}
@@ -11,7 +11,7 @@ use Rattle.verdicts.specs.declared.Verdict.the-variants as Verdicts
 use Rattle.commands.specs.declared.Position.{Position}
 use Rattle.commands.specs.declared.Part.the-variants.{Whole, Refused}
 use Rattle.commands.specs.Reading.{whole}
-use Rattle.programs.proofs.Laws.{WholeAs, agrees-whole, agrees-refuses}
+use Rattle.programs.proofs.Laws.{agrees-whole, agrees-refuses}
 use Rattle.jobs.specs.declared.JobRead.{JobRead}
 use Rattle.jobs.specs.Job.{Job, job}
 use Rattle.jobs.specs.Promises.{JobKept, JobReads}

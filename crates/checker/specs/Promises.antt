@@ -1,5 +1,5 @@
 -- What the steps of the check promise, of a job that was read.
-use Prim.Native.Nat.{ℕ, _<_}
+use Prim.Native.Nat.{ℕ}
 use mathlib.Core.Path.{_≡_}
 use mathlib.Core.List.{List}
 use Rattle.verdicts.specs.declared.Fault.the-variants.{WrongElement}

@@ -9,7 +9,7 @@ ghost use Rattle.jobs.specs.Promises.{JobKept};
 ghost use Rattle.jobs.specs.JobVerdict.{AllCovered, JobVerdict};
 ghost use Rattle.jobs.specs.Guarantee.{Guarantee};
 ghost use Rattle.shows.specs.Promises.{ShowFound};
-ghost use Rattle.checker.specs.Verdicts.{TheVerdict, Written};
+ghost use Rattle.checker.specs.Verdicts.{TheVerdict};
 ghost use Rattle.checker.specs.Promises.{faultAt, ReadAt};
 use commands::Part;
 use covering::Covering;
@@ -146,14 +146,4 @@ pub fn check(job: &[u8]) -> Verdict
         Part::Whole(_) => check_read(job, read),
         Part::Refused(form, at) => unreadable(form, at),
     }
-}
-
-// The same for a host: N, A, B and C are written to `verdict`.
-#[no_mangle]
-pub extern "C" fn page_check_check(job: &[u8], verdict: &mut [usize; 4])
-    ensures verdict { λ _. ⌜ Written (now (job .entry)) (now (verdict .exit)) ⌝ }
-    ensures untouched { λ _. ⌜ now (job .exit) ≡ now (job .entry) ⌝ }
-{
-    let numbers = verdicts::numbers_of(check(job));
-    *verdict = [numbers.n, numbers.a, numbers.b, numbers.c];
 }

@@ -22,21 +22,11 @@ use Rattle.patterns.specs.Elements.{attributePattern}
 use Rattle.patterns.proofs.Tests.{or-left, or-right, or-cases, and-both, and-left, and-right, either, same-test, failed, any-below, below-any}
 use Rattle.patterns.proofs.Clauses.{pattern-below}
 use Rattle.pattern_sets.specs.PatternSets.{holds, FirstMember}
-use Rattle.pattern_sets.proofs.Tables.{allBelow, below}
+use Rattle.pattern_sets.proofs.Tables.{all-members}
 use Rattle.readings.specs.Readings.{Is}
 use Rattle.readings.specs.Promises.{OfFacts}
 use Rattle.readings.proofs.Placing.{few-count}
 use Rattle.clauses.specs.Promises.{alone, agree, NarrowsAt, Alike, WithPatterns, AddsPatterns, ValuePatterns}
-
--- ---- all strings
-
-passed : (b : Bool) → T b → b ≡ true
-passed true t = refl
-passed false t = absurd t
-
-pub all-members : (k : ℕ) → k < 64 → member 0xFFFF_FFFF_FFFF_FFFF k ≡ true
-unfolding member
-all-members k h = passed (member 0xFFFF_FFFF_FFFF_FFFF k) (below 64 (member 0xFFFF_FFFF_FFFF_FFFF) tt k h)
 
 -- ---- strings alike
 

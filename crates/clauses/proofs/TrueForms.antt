@@ -23,17 +23,13 @@ use Rattle.patterns.specs.Rounds.{anyBelow}
 use Rattle.patterns.proofs.Tests.{and-left, failed, any-below, below-any}
 use Rattle.pattern_sets.specs.PatternSets.{holds, IsEmpty}
 use Rattle.pattern_sets.specs.Images.{AllFlagged}
-use Rattle.pattern_sets.proofs.Tables.{allBelow, below}
+use Rattle.pattern_sets.proofs.Tables.{allBelow, below, passed}
 use Rattle.readings.specs.Promises.{OfFacts, Places}
 use Rattle.readings.proofs.FactPlaces.{flag-placed}
 use Rattle.clauses.specs.declared.Truths.{Truths}
 use Rattle.clauses.specs.Promises.{FlaggedBy, IsUnbroken, IsValued, TruePatterns, ClauseFails}
 
 -- ---- the sets of which truths are made
-
-passed : (b : Bool) → T b → b ≡ true
-passed true t = refl
-passed false t = absurd t
 
 pub all-held : (x : ℕ) → x < 256
     → holds (0xFFFF_FFFF_FFFF_FFFF ∷ 0xFFFF_FFFF_FFFF_FFFF ∷ 0xFFFF_FFFF_FFFF_FFFF ∷ 0xFFFF_FFFF_FFFF_FFFF ∷ []) x ≡ true

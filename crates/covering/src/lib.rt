@@ -5,16 +5,17 @@ ghost use Prim.Native.Nat.{ℕ, _+_, _*_, _≤_, _<_};
 ghost use lib.ListN.{length, getD};
 ghost use Rattle.commands.specs.Commands.{byte};
 ghost use Rattle.programs.specs.Program.{Act};
-ghost use Rattle.summaries.specs.Proposal.{Head};
+ghost use Rattle.summaries.specs.Proposal.{Fact, Head};
 ghost use Rattle.summaries.specs.ProposalReading.{variableOf};
-ghost use Rattle.summaries.specs.Summaries.{Summary, Within, entries, transfer, transferTemplate, transferString};
+ghost use Rattle.summaries.specs.Summaries.{Within, saysClaim, held, entries, transfer, transferTemplate, transferString};
 ghost use Rattle.summaries.specs.Covering.{WithinAt, startEnvironment, StepCovered};
 ghost use Rattle.jobs.specs.Job.{Job};
 ghost use Rattle.jobs.specs.JobVerdict.{StartHolds};
-ghost use Rattle.entries.specs.Words.{Keeps};
+ghost use Rattle.entries.specs.Listed.{Listed};
 ghost use Rattle.entries.specs.Passing.{isOf, Decides};
 ghost use Rattle.covering.specs.Tables.{EntriesAt, NamesAre, Tables, GapsTable, PointAt, StepAt};
 ghost use Rattle.covering.specs.Promises.{Lowest, Covers, PointCovers, StepsCover, NextsAt};
+use commands::Context;
 use commands::Position;
 use entries::Strings;
 use verdicts::Cover;
@@ -37,8 +38,8 @@ fn string_head(heads: &[usize; 256], p: usize, y: usize) -> usize
     heads[(p % 32) * 8 + (4 + y % 4)]
 }
 
-// Whether the value that the statement of a point gives template variable x, its first operand, lies within the entry whose words
-// are given.
+// Whether the value that the statement of a point gives template variable x, its first operand, lies within the entry whose items
+// stand at an offset.
 fn assigned_holds(
     s: &[u8],
     gaps: &[u64; 32],
@@ -46,9 +47,9 @@ fn assigned_holds(
     place: usize,
     p: usize,
     x: usize,
-    words: &[u64; 544],
+    there: usize,
 ) -> bool
-    ensures { λ r. ⌜ ((j : Job) (a : Act) (R : Summary) → PointAt j (now (s .entry)) (now (gaps .entry)) (now (heads .entry)) place p a → x ≡ byte (now (s .entry)) (place + 1) → x < 4 → Keeps (now (words .entry)) R → Decides r (Within (transferTemplate (j .templates) a (entries (j .proposal) p) x) R)) ⌝ }
+    ensures { λ r. ⌜ ((j : Job) (a : Act) (zs : List Fact) → PointAt j (now (s .entry)) (now (gaps .entry)) (now (heads .entry)) place p a → x ≡ byte (now (s .entry)) (place + 1) → x < 4 → Listed Context.TemplateFacts (now (s .entry)) there zs → Decides r (Within (transferTemplate (j .templates) a (entries (j .proposal) p) x) (held saysClaim zs))) ⌝ }
 {
     let here = Position { at: place };
     let b = here.operand(s, 2);
@@ -56,17 +57,17 @@ fn assigned_holds(
     let d = here.operand(s, 4) as usize;
     let from = template_head(heads, p, b as usize);
     match commands::byte_at(s, place) {
-        0x30 => entries::copy_holds(s, from, words),
-        0x31 => entries::fragment_holds(words, b, gaps[(b % 32) as usize]),
-        0x35 => entries::plug_holds(s, from, g, template_head(heads, p, d), words),
-        0x36 => entries::fill_holds(
+        0x30 => entries::entry_within(s, from, there),
+        0x31 => entries::fragment_within(s, b, gaps[(b % 32) as usize], there),
+        0x35 => entries::plug_within(s, from, g, template_head(heads, p, d), there),
+        0x36 => entries::fill_within(
             s,
             from,
             g,
             entries::strings_of(s, string_head(heads, p, d)),
-            words,
+            there,
         ),
-        _ => entries::copy_holds(s, template_head(heads, p, x), words),
+        _ => entries::entry_within(s, template_head(heads, p, x), there),
     }
 }
 
@@ -82,12 +83,12 @@ fn template_holds(
 ) -> bool
     ensures { λ r. ⌜ ((j : Job) (a : Act) → StepAt j (now (s .entry)) (now (gaps .entry)) (now (heads .entry)) place p next a → x < 4 → Decides r (Within (transferTemplate (j .templates) a (entries (j .proposal) p) x) (entries (j .proposal) next .template x))) ⌝ }
 {
-    let words = entries::load(s, template_head(heads, next, x));
+    let there = template_head(heads, next, x);
     let here = Position { at: place };
     if x == (here.operand(s, 1) as usize) {
-        return assigned_holds(s, gaps, heads, place, p, x, &words);
+        return assigned_holds(s, gaps, heads, place, p, x, there);
     }
-    entries::copy_holds(s, template_head(heads, p, x), &words)
+    entries::entry_within(s, template_head(heads, p, x), there)
 }
 
 // The strings that the statement of a point gives string variable y, its first operand.

@@ -2,7 +2,7 @@
 use Prim.Native.Nat.{ℕ, _≤_}
 use mathlib.Core.Path.{_≡_, refl, sym, ap, ap₂, _∙_}
 use mathlib.Core.List.{List}
-use mathlib.Core.Bool.{Bool, true, false, cond, _&&_, _||_, false≢true}
+use mathlib.Core.Bool.{Bool, true, false, cond, not, _&&_, _||_, false≢true}
 use mathlib.Core.Option.{Option, none}
 use lib.ListN.{length, getD}
 use lib.Dec.{eqb}
@@ -80,6 +80,33 @@ module _ (φs : List Items) where
         ∙ ap (λ (m : Option ℕ). cond (member chosen n) (lower (wrongOf (getD table n 0)) m) (wrongOf (getD table n 0)))
         (mark-same (test n) (other n) (same n) (templateAt φs n));
   }
+
+  -- The templates of a set in two parts.
+  pub lowered-parts : (chosen known others : ℕ) (test : Test) (table middle lowest : List ℕ) (yields : ℕ)
+      → ((k : ℕ) → member known k ≡ (member chosen k && member yields k)) → ((k : ℕ) → member others k ≡ (member chosen k && not (member yields k)))
+      → Lowered φs known test table middle → Lowered φs others test middle lowest → Lowered φs chosen test table lowest
+  lowered-parts chosen known others test table middle lowest yields first second F S = record {
+    at = λ n l. S .at n l ∙ go n (member chosen n) (member yields n) (first n) (second n) (F .at n l);
+  }
+    where
+      here : ℕ → Option ℕ
+      here n = lowestMark (test n) (templateAt φs n)
+
+      go : (n : ℕ) (a b : Bool) → member known n ≡ (a && b) → member others n ≡ (a && not b)
+          → wrongOf (getD middle n 0) ≡ cond (member known n) (lower (wrongOf (getD table n 0)) (here n)) (wrongOf (getD table n 0))
+          → cond (member others n) (lower (wrongOf (getD middle n 0)) (here n)) (wrongOf (getD middle n 0))
+          ≡ cond a (lower (wrongOf (getD table n 0)) (here n)) (wrongOf (getD table n 0))
+      go n true true p q e = rw (q, e, p)
+      go n true false p q e = rw (q, e, p)
+      go n false true p q e = rw (q, e, p)
+      go n false false p q e = rw (q, e, p)
+
+  -- Nothing is left of a set without all of its members.
+  pub lowered-known : (chosen known others : ℕ) (test : Test) (table lowest : List ℕ) (yields : ℕ) → others ≡ 0
+      → ((k : ℕ) → member known k ≡ (member chosen k && member yields k)) → ((k : ℕ) → member others k ≡ (member chosen k && not (member yields k)))
+      → Lowered φs known test table lowest → Lowered φs chosen test table lowest
+  lowered-known chosen known others test table lowest yields z first second F =
+      lowered-parts chosen known others test table lowest lowest yields first second F (rw z (lowered-nothing test lowest))
 
   -- Templates in which no element of the name stands may be left out.
   pub lowered-wider : (chosen reached standing e : ℕ) (test : Test) (table lowest : List ℕ)

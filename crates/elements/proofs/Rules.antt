@@ -36,21 +36,21 @@ use Rattle.reach.specs.PlainlyWrong.{clauseBy, wrongByClause}
 use Rattle.elements.specs.declared.Clause.{Clause}
 use Rattle.elements.specs.Attributes.{ClauseAt, patternsBy}
 use Rattle.elements.specs.Search.{failsAt}
-use Rattle.elements.specs.Rules.{ClauseOf, Standing, Lowered, SearchesTemplates, SearchesRule, RulesStand, ExactClauses, SearchesRules}
+use Rattle.elements.specs.Rules.{ClauseOf, Standing, AllYield, Lowered, SearchesClause, SearchesRule, RulesStand, ExactClauses, SearchesRulesGiven}
 use Rattle.elements.proofs.LoweredTables.{lowered-nothing, lowered-never, lowered-then, lowered-same, lowered-wider}
 
 -- ---- the clauses of one rule
 
-module _ (s : List ℕ) (e at : ℕ) (words starts : List ℕ) (count chosen : ℕ) (table : List ℕ) where
+module _ (s : List ℕ) (e at : ℕ) (words starts : List ℕ) (count chosen yields : ℕ) (table : List ℕ) where
   -- No template is chosen.
-  pub rule-nowhere : chosen ≡ 0 → SearchesRule s e at words starts count chosen table table
-  rule-nowhere z φs G X S f end ψs reads exact = rw z (lowered-nothing φs (λ n e′ mark δ φ. eqb e′ e && someClauseFails φs G X ψs n δ φ) table)
+  pub rule-nowhere : chosen ≡ 0 → SearchesRule s e at words starts count chosen yields table table
+  rule-nowhere z φs G X S Y f end ψs reads exact = rw z (lowered-nothing φs (λ n e′ mark δ φ. eqb e′ e && someClauseFails φs G X ψs n δ φ) table)
 
   -- No clause is left.
-  pub rule-ends : (byte s at ≡ 0x04 → ⊥) → SearchesRule s e at words starts count chosen table table
+  pub rule-ends : (byte s at ≡ 0x04 → ⊥) → SearchesRule s e at words starts count chosen yields table table
   unfolding Reading.clauses someClauseFails
-  rule-ends n φs G X S zero end ψs reads exact = never-unfinished reads
-  rule-ends n φs G X S (suc f) end ψs reads exact = go (clauses-formed f s at ψs end reads)
+  rule-ends n φs G X S Y zero end ψs reads exact = never-unfinished reads
+  rule-ends n φs G X S Y (suc f) end ψs reads exact = go (clauses-formed f s at ψs end reads)
     where
       go : Clausal f s at ψs end → Lowered φs chosen (λ n e′ mark δ φ. eqb e′ e && someClauseFails φs G X ψs n δ φ) table table
       go (no-more k q z) = rw q (lowered-never φs chosen (λ n e′ mark δ φ. eqb e′ e && false) table (λ n e′ mark δ φ. and-false (eqb e′ e)))
@@ -58,13 +58,14 @@ module _ (s : List ℕ) (e at : ℕ) (words starts : List ℕ) (count chosen : �
 
   -- A clause, and then the others.
   module _ (t₀ : Facts) (nothing : Represents t₀ []) (gathered : Gathered) (G₀ : Gathers s (at + 1) t₀ gathered)
-      (c : Clause) (C₀ : ClauseOf (gathered .facts) e (at + 1) c) (middle : List ℕ) (T : SearchesTemplates s c words starts count chosen table middle) where
+      (c : Clause) (C₀ : ClauseOf (gathered .facts) e (at + 1) c) (middle : List ℕ) (T : SearchesClause s c words starts count chosen yields table middle) where
     clause-stands : (f next : ℕ) (ψ : Formula) → formula f s 0 (at + 1) ≡ whole ψ next → length (factsOf ψ) ≤ 8 → ClauseAt s ψ c
     clause-stands f next ψ reads few =
         let kept : Represents (gathered .facts) (factsOf ψ) = G₀ .gathers f 0 ψ next reads [] nothing in
         record {
           reads = C₀ .reads (factsOf ψ) kept few (facts-distinct ψ);
           tells = C₀ .tells (factsOf ψ) kept few;
+          is-plain = C₀ .is-plain (factsOf ψ) kept few;
           fuel = f;
           depth = 0;
           end = next;
@@ -75,11 +76,11 @@ module _ (s : List ℕ) (e at : ℕ) (words starts : List ℕ) (count chosen : �
     either-clause true p q = refl
     either-clause false p q = refl
 
-    pub rule-goes : byte s at ≡ 0x04 → (lowest : List ℕ) → SearchesRule s e (gathered .end .at) words starts count chosen middle lowest
-        → SearchesRule s e at words starts count chosen table lowest
+    pub rule-goes : byte s at ≡ 0x04 → (lowest : List ℕ) → SearchesRule s e (gathered .end .at) words starts count chosen yields middle lowest
+        → SearchesRule s e at words starts count chosen yields table lowest
     unfolding Reading.clauses someClauseFails
-    rule-goes code lowest later φs G X S zero end ψs reads exact = never-unfinished reads
-    rule-goes code lowest later φs G X S (suc f) end ψs reads exact = go (clauses-formed f s at ψs end reads) exact
+    rule-goes code lowest later φs G X S Y zero end ψs reads exact = never-unfinished reads
+    rule-goes code lowest later φs G X S Y (suc f) end ψs reads exact = go (clauses-formed f s at ψs end reads) exact
       where
         go : Clausal f s at ψs end → ((ψ : Formula) → ψ ∈ ψs → Exact φs G (patternsBy ψ) (X ψ))
             → Lowered φs chosen (λ n e′ mark δ φ. eqb e′ e && someClauseFails φs G X ψs n δ φ) table lowest
@@ -87,8 +88,8 @@ module _ (s : List ℕ) (e at : ℕ) (words starts : List ℕ) (count chosen : �
         go (one-more k ψ next rest reads-ψ few reads-rest q) each =
             let each′ = subst (λ (l : List Formula). (χ : Formula) → χ ∈ l → Exact φs G (patternsBy χ) (X χ)) q each in
             let here : Lowered φs chosen (λ n. failsAt φs G ψ (X ψ) n (c .element)) table middle =
-            T φs G ψ (X ψ) S (clause-stands f next ψ reads-ψ few) (each′ ψ (List·Memᴰ·head refl)) in
-            let after = later φs G X S f end rest
+            T φs G ψ (X ψ) S Y (clause-stands f next ψ reads-ψ few) (each′ ψ (List·Memᴰ·head refl)) in
+            let after = later φs G X S Y f end rest
             (subst (λ (j : ℕ). Reading.clauses f s j ≡ whole rest end) (sym (G₀ .ends f 0 ψ next reads-ψ)) reads-rest)
             (λ χ m. each′ χ (List·Memᴰ·tail m)) in
             rw q (lowered-same φs chosen
@@ -108,8 +109,8 @@ clause-inside s at code = go (ltb at (length s)) refl
     go false e = let z = byte-past s at (ltb-false at (length s) e) in absurd (omega arith)
 
 -- Where the search has come: what the clauses from here on make of this table is what all of them make of the first.
-pub record Ruling (s : List ℕ) (e from : ℕ) (words starts : List ℕ) (count chosen : ℕ) (table : List ℕ) (at : ℕ) (lowest : List ℕ) : Type 0 where
-  pub goes : (r : List ℕ) → SearchesRule s e at words starts count chosen lowest r → SearchesRule s e from words starts count chosen table r
+pub record Ruling (s : List ℕ) (e from : ℕ) (words starts : List ℕ) (count chosen yields : ℕ) (table : List ℕ) (at : ℕ) (lowest : List ℕ) : Type 0 where
+  pub goes : (r : List ℕ) → SearchesRule s e at words starts count chosen yields lowest r → SearchesRule s e from words starts count chosen yields table r
 
 -- ---- all rules
 
@@ -125,13 +126,13 @@ no-rule : (o : Option Rule) → isSome o ≡ false → o ≡ none
 no-rule none h = refl
 no-rule (some R) h = absurd (false≢true (sym h))
 
-module _ (s : List ℕ) (declared : ℕ) (clauses standing words starts : List ℕ) (count reached : ℕ) (table : List ℕ) where
+module _ (s : List ℕ) (declared : ℕ) (clauses standing words starts : List ℕ) (count reached yields : ℕ) (table : List ℕ) where
   -- The rules of the elements below a number.
   pub record Ruled (e : ℕ) (lowest : List ℕ) : Type 0 where
     pub most : e ≤ 64
     pub is-declared : e < 64 → member declared e ≡ true
     pub lowers : (φs : List Items) (G : Summary) (D : Vocabulary) (X : Formula → Sets) → Standing s φs G words count starts
-        → RulesStand s D declared clauses → Occurrences φs standing → ExactClauses φs G D X
+        → AllYield φs G yields → RulesStand s D declared clauses → Occurrences φs standing → ExactClauses φs G D X
         → Lowered φs reached (λ n e′ mark δ φ. ltb e′ e && wrongByClause φs G X D n e′ δ φ) table lowest
 
   module _ (φs : List Items) (G : Summary) (D : Vocabulary) (X : Formula → Sets) (R : RulesStand s D declared clauses) where
@@ -175,21 +176,21 @@ module _ (s : List ℕ) (declared : ℕ) (clauses standing words starts : List �
   ruled-none e is = record {
     most = is .within;
     is-declared = is .is-held;
-    lowers = λ φs G D X S R H exact. lowered-never φs reached (λ n e′ mark δ φ. ltb e′ e && wrongByClause φs G X D n e′ δ φ) table
+    lowers = λ φs G D X S Y R H exact. lowered-never φs reached (λ n e′ mark δ φ. ltb e′ e && wrongByClause φs G X D n e′ δ φ) table
         (λ n e′ mark δ φ. skipped φs G D X R 0 e is e′ n δ φ (omega arith));
   }
 
   pub ruled-more : (e : ℕ) (lowest : List ℕ) → Ruled e lowest → e < 64 → (chosen : ℕ) → ((k : ℕ) → member chosen k ≡ (member reached k && member (getD standing e 0) k))
-      → (more : List ℕ) → SearchesRule s e (getD clauses e 0) words starts count chosen lowest more
+      → (more : List ℕ) → SearchesRule s e (getD clauses e 0) words starts count chosen yields lowest more
       → (next : ℕ) → FirstMember declared (e + 1) next → Ruled next more
   ruled-more e lowest before low chosen common more searched next is = record {
     most = is .within;
     is-declared = is .is-held;
-    lowers = λ φs G D X S R H exact.
+    lowers = λ φs G D X S Y R H exact.
         let (r, rule) = found-rule (ruleOf (D .rules) e) (sym (R .declares e) ∙ before .is-declared low) in
         let from = getD clauses e 0 in
         let (end, reads) = R .stands e r rule ((length s - from) + (length s - from) + 2) (omega arith) in
-        let here = searched φs G X S ((length s - from) + (length s - from) + 2) end (r .clauses) reads (λ ψ m. exact e r ψ rule m) in
+        let here = searched φs G X S Y ((length s - from) + (length s - from) + 2) end (r .clauses) reads (λ ψ m. exact e r ψ rule m) in
         let wide = lowered-wider φs chosen reached (getD standing e 0) e (λ n e′ mark δ φ. someClauseFails φs G X (r .clauses) n δ φ) lowest more common
         (λ n l m. H n e l low m) here in
         lowered-same φs reached
@@ -197,14 +198,14 @@ module _ (s : List ℕ) (declared : ℕ) (clauses standing words starts : List �
         (λ n e′ mark δ φ. ltb e′ next && wrongByClause φs G X D n e′ δ φ) table more
         (λ n e′ mark δ φ. rule-more φs G D X R e next is r rule n e′ δ φ)
         (lowered-then φs reached (λ n e′ mark δ φ. ltb e′ e && wrongByClause φs G X D n e′ δ φ)
-        (λ n e′ mark δ φ. eqb e′ e && someClauseFails φs G X (r .clauses) n δ φ) table lowest more (before .lowers φs G D X S R H exact) wide);
+        (λ n e′ mark δ φ. eqb e′ e && someClauseFails φs G X (r .clauses) n δ φ) table lowest more (before .lowers φs G D X S Y R H exact) wide);
   }
 
   pub ruled-all : (e : ℕ) (lowest : List ℕ) → Ruled e lowest → 64 ≤ e → declared < 2 ^ 64
-      → SearchesRules s declared clauses standing words starts count reached table lowest
-  ruled-all e lowest all l narrow φs G D X S R H exact = lowered-same φs reached
+      → SearchesRulesGiven s declared clauses standing words starts count reached yields table lowest
+  ruled-all e lowest all l narrow φs G D X S Y R H exact = lowered-same φs reached
       (λ n e′ mark δ φ. ltb e′ e && wrongByClause φs G X D n e′ δ φ) (λ n e′ mark δ φ. wrongByClause φs G X D n e′ δ φ) table lowest
-      (λ n e′ mark δ φ. go n e′ δ φ (ltb e′ e) refl) (all .lowers φs G D X S R H exact)
+      (λ n e′ mark δ φ. go n e′ δ φ (ltb e′ e) refl) (all .lowers φs G D X S Y R H exact)
     where
       go : (n e′ : ℕ) (δ : List Attribute) (φ : Items) (b : Bool) → ltb e′ e ≡ b
           → (b && wrongByClause φs G X D n e′ δ φ) ≡ wrongByClause φs G X D n e′ δ φ

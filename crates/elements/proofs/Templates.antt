@@ -1,8 +1,8 @@
 -- One clause, template by template.
 use Prim.Native.Nat.{ℕ, _+_, _≤_, _<_}
-use mathlib.Core.Path.{_≡_, refl, sym, _∙_}
+use mathlib.Core.Path.{_≡_, refl, sym, subst, _∙_}
 use mathlib.Core.List.{List, [], _∷_}
-use mathlib.Core.Bool.{Bool, true, false, cond}
+use mathlib.Core.Bool.{Bool, true, false, cond, not, _&&_, false≢true}
 use mathlib.Core.Option.{Option, none}
 use native.Mathlib.Omega.{arith}
 use lib.ListN.{length, getD, set, length-set}
@@ -16,39 +16,47 @@ use Rattle.pages.specs.Items as Items
 use Rattle.programs.specs.Program.{templateAt}
 use Rattle.judging.specs.Promises.{wrongOf}
 use Rattle.summaries.specs.Summaries.{Summary}
-use Rattle.patterns.specs.Morphisms.{Morphism}
+use Rattle.patterns.specs.Morphisms.{Morphism, rootMorphism}
 use Rattle.patterns.specs.Given.{Bounded}
-use Rattle.patterns.specs.Rounds.{Sets}
+use Rattle.patterns.specs.Rounds.{Sets, rounds}
 use Rattle.patterns.specs.Exactness.{Exact}
 use Rattle.patterns.specs.Shows.{lower, lowestMark}
+use Rattle.patterns.proofs.Tests.{and-right}
+use Rattle.patterns.proofs.Lawful.{clause-lawful, root-lawful}
+use Rattle.patterns.proofs.Exact.{takes-exact, exact}
+use Rattle.patterns.proofs.Settling.{settles}
 use Rattle.pattern_sets.specs.PatternSets.{FirstMember}
-use Rattle.readings.specs.Readings.{of-facts}
+use Rattle.readings.specs.declared.Reading.{Reading}
+use Rattle.readings.specs.Readings.{Reads, of-facts}
 use Rattle.entries.specs.Words.{Keeps}
-use Rattle.languages.specs.Tables.{of-clause, SetsAre, GapSetsAre, Shown}
+use Rattle.languages.specs.Tables.{of-clause, of-root, SetsAre, RowsAre, RowsOf, GapSetsAre, Shown}
+use Rattle.reach.specs.Promises as Reach
 use Rattle.elements.specs.declared.Clause.{Clause}
 use Rattle.elements.specs.declared.Searched.{Searched}
 use Rattle.elements.specs.Attributes.{ClauseAt, patternsBy}
 use Rattle.elements.specs.Search.{failsAt, SearchesItems}
-use Rattle.elements.specs.Rules.{Test, Standing, Lowered, SearchesTemplate, SearchesTemplates}
+use Rattle.elements.specs.Rules.{InFull, Standing, RowsFor, TakesFor, SearchesTemplate, AllYield, Test, Lowered, SearchesTemplates, SearchesClause, TellsYielding}
 use Rattle.elements.proofs.Lowers.{lower-none}
+use Rattle.elements.proofs.LoweredTables.{lowered-parts, lowered-known}
 
-pub template-searched : (s : List ℕ) (from : ℕ) (c : Clause) (words : List ℕ) (rows : List (List ℕ)) (n : ℕ) (takes : List ℕ)
-    → ((φs : List Items) (G : Summary) (M : Morphism) (X : Sets) → length φs < 32 → Bounded φs G → Keeps words G → SetsAre φs M X rows → GapSetsAre φs G M X n takes)
+pub template-searched : (s : List ℕ) (from : ℕ) (c : Clause) (words : List ℕ) (rows : List ℕ) (n : ℕ) (takes : List ℕ) → TakesFor c words rows n takes
     → (found : Searched) → SearchesItems s from c words takes n found → SearchesTemplate s from c words rows n (found .wrong)
-template-searched s from c words rows n takes gaps found searched φs G ψ X few bounded keeps C are φ stand =
+template-searched s from c words rows n takes gaps found searched φs G ψ X few bounded keeps C exact are φ stand full =
     searched φs G ψ X (record {
       clause = C;
-      lent = record {
-        used = of-clause ψ;
-        reads = of-facts (C .reads);
-        bounded = bounded;
-        keeps = keeps;
-        gaps = gaps φs G (patternsBy ψ) X few bounded keeps are;
-      };
-    }) (stand .ruled) (stand .fuel) 0 (stand .end) φ (stand .reads) .finds
+      bounded = bounded;
+      keeps = keeps;
+      exact = exact;
+      gaps = gaps φs G (patternsBy ψ) X few bounded keeps are;
+    }) (stand .ruled) (stand .fuel) 0 (stand .end) φ (stand .reads) full .finds
+
+pub takes-gaps : (c : Clause) (words rows : List ℕ) (n : ℕ) (takes : List ℕ)
+    → ((φs : List Items) (G : Summary) (M : Morphism) (X : Sets) → length φs < 32 → Bounded φs G → Keeps words G → RowsAre φs M X rows → GapSetsAre φs G M X n takes)
+    → TakesFor c words rows n takes
+takes-gaps c words rows n takes gaps φs G M X few bounded keeps are about = gaps φs G M X few bounded keeps (are about)
 
 -- What is lent to work out the sets.
-pub shown : {s : List ℕ} {c : Clause} {words starts : List ℕ} {count : ℕ} (φs : List Items) (G : Summary) (ψ : Formula)
+shown : {s : List ℕ} {c : Clause} {words starts : List ℕ} {count : ℕ} (φs : List Items) (G : Summary) (ψ : Formula)
     → Standing s φs G words count starts → ClauseAt s ψ c → Shown (c .reading) s words starts φs G (patternsBy ψ)
 shown φs G ψ S C =
     let k = S .graph .counts in
@@ -61,6 +69,14 @@ shown φs G ψ S C =
       few = omega arith;
       stand = S .stand;
     }
+
+pub rows-settled : (s : List ℕ) (c : Clause) (words starts : List ℕ) (count : ℕ) (sets : List (List ℕ))
+    → ((φs : List Items) (G : Summary) (M : Morphism) (X : Sets) → Shown (c .reading) s words starts φs G M → count ≡ length φs → Exact φs G M X → SetsAre φs M X sets)
+    → (rows : List ℕ) → RowsOf sets rows → RowsFor s c words starts count rows
+rows-settled s c words starts count sets settled rows are φs G ψ X S C exact about n h =
+    let k = S .graph .counts in
+    let few = S .graph .few in
+    rw (are n (omega arith)) (settled φs G (patternsBy ψ) X (shown φs G ψ S C) k exact n h)
 
 first-template : (φs : List Items) → templateAt φs 0 ≡ Items.none
 unfolding templateAt
@@ -125,8 +141,8 @@ pub record Turning (s : List ℕ) (c : Clause) (words starts : List ℕ) (count 
   pub least : 1 ≤ t
   pub most : t ≤ 64
   pub is-chosen : t < 64 → member chosen t ≡ true
-  pub lowers : (φs : List Items) (G : Summary) (ψ : Formula) (X : Sets) → Standing s φs G words count starts → ClauseAt s ψ c → Exact φs G (patternsBy ψ) X
-      → Lowering φs chosen (λ n. failsAt φs G ψ X n (c .element)) table t lowest
+  pub lowers : (φs : List Items) (G : Summary) (ψ : Formula) (X : Sets) → Standing s φs G words count starts → (c .plain ≡ true → AllYield φs G chosen) → ClauseAt s ψ c
+      → Exact φs G (patternsBy ψ) X → Lowering φs chosen (λ n. failsAt φs G ψ X n (c .element)) table t lowest
 
 module _ (s : List ℕ) (c : Clause) (words starts : List ℕ) (count chosen : ℕ) (table : List ℕ) where
   pub turning-begin : (t : ℕ) → length table ≡ 32 → FirstMember chosen 1 t → Turning s c words starts count chosen table t table
@@ -135,12 +151,11 @@ module _ (s : List ℕ) (c : Clause) (words starts : List ℕ) (count chosen : �
     least = first .after;
     most = first .within;
     is-chosen = first .is-held;
-    lowers = λ φs G ψ X S C exact. lowering-none φs chosen (λ n. failsAt φs G ψ X n (c .element)) table t first;
+    lowers = λ φs G ψ X S Y C exact. lowering-none φs chosen (λ n. failsAt φs G ψ X n (c .element)) table t first;
   }
 
   module _ (t : ℕ) (lowest : List ℕ) (T : Turning s c words starts count chosen table t lowest) where
-    pub turning-more : t < 32 → t ≤ count → (rows : List (List ℕ))
-        → ((φs : List Items) (G : Summary) (ψ : Formula) (X : Sets) → Standing s φs G words count starts → ClauseAt s ψ c → Exact φs G (patternsBy ψ) X → SetsAre φs (patternsBy ψ) X rows)
+    pub turning-more : t < 32 → t ≤ count → (rows : List ℕ) → RowsFor s c words starts count rows
         → (found : ℕ) → SearchesTemplate s (getD starts t 0) c words rows t found
         → (new : ℕ) → wrongOf new ≡ lower (wrongOf (getD lowest t 0)) (wrongOf found)
         → (next : ℕ) → FirstMember chosen (t + 1) next → Turning s c words starts count chosen table next (set lowest t new)
@@ -149,21 +164,85 @@ module _ (s : List ℕ) (c : Clause) (words starts : List ℕ) (count chosen : �
       least = let a = first .after in omega arith;
       most = first .within;
       is-chosen = first .is-held;
-      lowers = λ φs G ψ X S C exact.
+      lowers = λ φs G ψ X S Y C exact.
           let k = S .graph .counts in
           let few = S .graph .few in
-          lowering-more φs chosen (λ n. failsAt φs G ψ X n (c .element)) table t lowest (T .wide) low (T .is-chosen (omega arith)) found new
-          (searched φs G ψ X (omega arith) (S .graph .bounded) (S .graph .keeps) C (settled φs G ψ X S C exact) (templateAt φs t) (S .stand t (T .least) (omega arith)))
-          is-new next first (T .lowers φs G ψ X S C exact);
+          let picked = T .is-chosen (omega arith) in
+          lowering-more φs chosen (λ n. failsAt φs G ψ X n (c .element)) table t lowest (T .wide) low picked found new
+          (searched φs G ψ X (omega arith) (S .graph .bounded) (S .graph .keeps) C exact (settled φs G ψ X S C exact) (templateAt φs t) (S .stand t (T .least) (omega arith))
+          (λ plain. takes-exact φs G (S .graph .bounded) (patternsBy ψ) (clause-lawful ψ) X exact t (templateAt φs t) .1 (Y plain t (omega arith) picked)))
+          is-new next first (T .lowers φs G ψ X S Y C exact);
     }
 
     pub turning-counted : count < t → SearchesTemplates s c words starts count chosen table lowest
-    turning-counted l φs G ψ X S C exact =
+    turning-counted l φs G ψ X S Y C exact =
         let k = S .graph .counts in
-        lowering-all φs chosen (λ n. failsAt φs G ψ X n (c .element)) table t lowest (omega arith) (T .lowers φs G ψ X S C exact)
+        lowering-all φs chosen (λ n. failsAt φs G ψ X n (c .element)) table t lowest (omega arith) (T .lowers φs G ψ X S Y C exact)
 
     pub turning-all : 32 ≤ t → SearchesTemplates s c words starts count chosen table lowest
-    turning-all l φs G ψ X S C exact =
+    turning-all l φs G ψ X S Y C exact =
         let k = S .graph .counts in
         let few = S .graph .few in
-        lowering-all φs chosen (λ n. failsAt φs G ψ X n (c .element)) table t lowest (omega arith) (T .lowers φs G ψ X S C exact)
+        lowering-all φs chosen (λ n. failsAt φs G ψ X n (c .element)) table t lowest (omega arith) (T .lowers φs G ψ X S Y C exact)
+
+-- ---- with the templates of which pages come
+
+module _ (s : List ℕ) (c : Clause) (words starts : List ℕ) (count chosen yields : ℕ) (table : List ℕ) where
+  pub clause-full : (r : List ℕ) → c .plain ≡ false → SearchesTemplates s c words starts count chosen table r
+      → SearchesClause s c words starts count chosen yields table r
+  clause-full r about searched φs G ψ X S Y C exact = searched φs G ψ X S (λ plain. absurd (false≢true (sym about ∙ plain))) C exact
+
+  module _ (known : ℕ) (common : (k : ℕ) → member known k ≡ (member chosen k && member yields k))
+      (others : ℕ) (without : (k : ℕ) → member others k ≡ (member chosen k && not (member yields k)))
+      (middle : List ℕ) (first : SearchesTemplates s c words starts count known table middle) where
+    known-lowered : (φs : List Items) (G : Summary) (ψ : Formula) (X : Sets) → Standing s φs G words count starts → AllYield φs G yields → ClauseAt s ψ c
+        → Exact φs G (patternsBy ψ) X → Lowered φs known (λ n. failsAt φs G ψ X n (c .element)) table middle
+    known-lowered φs G ψ X S Y C exact =
+        first φs G ψ X S (λ plain n l picked. Y n l (and-right (member chosen n) (member yields n) (sym (common n) ∙ picked))) C exact
+
+    pub clause-known : others ≡ 0 → SearchesClause s c words starts count chosen yields table middle
+    clause-known z φs G ψ X S Y C exact =
+        lowered-known φs chosen known others (λ n. failsAt φs G ψ X n (c .element)) table middle yields z common without (known-lowered φs G ψ X S Y C exact)
+
+    pub clause-parts : (full : Clause) → InFull c full → (r : List ℕ) → SearchesTemplates s full words starts count others middle r
+        → SearchesClause s c words starts count chosen yields table r
+    clause-parts full is r second φs G ψ X S Y C exact =
+        lowered-parts φs chosen known others (λ n. failsAt φs G ψ X n (c .element)) table middle r yields common without (known-lowered φs G ψ X S Y C exact)
+        (subst (λ (e : ℕ). Lowered φs others (λ n. failsAt φs G ψ X n e) middle r) (is .of-element)
+        (second φs G ψ X S (λ plain. absurd (false≢true (sym (is .full) ∙ plain))) (is .stands s ψ C) exact))
+
+-- The clause, with contents looked at in any case.
+pub clause-in-full : (c r : Clause) → r ≡ record { element = c .element; formula = c .formula; reading = c .reading; valued = c .valued; plain = false } → InFull c r
+clause-in-full c r is = rw is (record {
+  full = refl;
+  of-element = refl;
+  stands = λ s ψ C. record {
+    reads = C .reads;
+    tells = C .tells;
+    is-plain = λ plain. absurd (false≢true plain);
+    fuel = C .fuel;
+    depth = C .depth;
+    end = C .end;
+    stands = C .stands;
+  };
+})
+
+-- The templates of which pages come, by the kinds of their pages.
+pub yielding-told : (s words starts : List ℕ) (count : ℕ) (r : Reading) → Reads r (rootMorphism 0) → (kinds : List (List ℕ))
+    → ((φs : List Items) (G : Summary) (M : Morphism) (X : Sets) → Shown r s words starts φs G M → count ≡ length φs → Exact φs G M X → SetsAre φs M X kinds)
+    → (yields : ℕ) → Reach.TellsYielding kinds count yields → TellsYielding s words starts count yields
+yielding-told s words starts count r reads kinds settled yields tells φs G S n h e =
+    let (t, small, rest) = settles φs G (rootMorphism 0) in
+    let K = rounds φs G (rootMorphism 0) t in
+    let K-exact = exact φs G (S .graph .bounded) (rootMorphism 0) (root-lawful 0) t rest in
+    let k = S .graph .counts in
+    let few = S .graph .few in
+    let are = settled φs G (rootMorphism 0) K (record {
+      used = of-root 0;
+      reads = reads;
+      bounded = S .graph .bounded;
+      keeps = S .graph .keeps;
+      few = omega arith;
+      stand = S .stand;
+    }) k K-exact in
+    tells φs G 0 K k few are K-exact n h .0 e

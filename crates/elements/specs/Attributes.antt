@@ -3,7 +3,7 @@
 use Prim.Native.Nat.{ℕ, _+_, _<_}
 use mathlib.Core.Path.{_≡_}
 use mathlib.Core.List.{List, []}
-use mathlib.Core.Bool.{true}
+use mathlib.Core.Bool.{Bool, true, false}
 use Rattle.sets.specs.Sets.{member}
 use Rattle.commands.specs.declared.Context.the-variants.{TemplateAttributes}
 use Rattle.commands.specs.Commands.{byte, operandsOf, allInRange, allowed}
@@ -11,7 +11,7 @@ use Rattle.commands.specs.Reading.{whole}
 use Rattle.vocabularies.specs.declared.Facts.{Facts}
 use Rattle.vocabularies.specs.Vocabulary.{Formula, isIn}
 use Rattle.vocabularies.specs.VocabularyReading.{formula}
-use Rattle.vocabularies.specs.Facts.{Fact, valued, isAmong, factsOf}
+use Rattle.vocabularies.specs.Facts.{Fact, present, ordered, valued, isAmong, factsOf}
 use Rattle.vocabularies.specs.Promises.{Stored}
 use Rattle.pages.specs.declared.Kind.the-variants.{Template}
 use Rattle.pages.specs.Items.{Value, Attribute}
@@ -36,10 +36,23 @@ pub record TellsAlso (t : Facts) (i set r : ℕ) : Type 0 where
   pub keeps : (k : ℕ) → member set k ≡ true → member r k ≡ true
   pub adds : (a m : ℕ) → a < 64 → Stored t i (valued a m) → member r a ≡ true
 
+abbrev pub isValued : Fact → Bool
+isValued (present c) = false
+isValued (ordered c d) = false
+isValued (valued a m) = true
+
+-- Every fact of the list is about an attribute.
+abbrev pub OnlyValued : List Fact → Type 0
+OnlyValued fs = (f : Fact) → isAmong f fs ≡ true → isValued f ≡ true
+
+abbrev pub TellsPlain : Facts → Bool → Type 0
+TellsPlain t r = OfFacts t (λ fs. r ≡ true → OnlyValued fs)
+
 -- The formula ψ stands where the clause says, and its facts are those that are kept.
 pub record ClauseAt (s : List ℕ) (ψ : Formula) (c : Clause) : Type 0 where
   pub reads : ReadsFacts (c .reading) (factsOf ψ)
   pub tells : Tells (c .valued) (factsOf ψ)
+  pub is-plain : c .plain ≡ true → OnlyValued (factsOf ψ)
   pub fuel : ℕ
   pub depth : ℕ
   pub end : ℕ

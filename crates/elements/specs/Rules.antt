@@ -2,7 +2,7 @@
 use Prim.Native.Nat.{ℕ, _≤_, _<_}
 use mathlib.Core.Path.{_≡_}
 use mathlib.Core.List.{List}
-use mathlib.Core.Bool.{Bool, cond, _&&_}
+use mathlib.Core.Bool.{Bool, true, false, cond, _&&_}
 use mathlib.Core.Option.{some}
 use lib.ListN.{length, getD}
 use lib.Dec.{eqb}
@@ -18,21 +18,23 @@ use Rattle.pages.specs.RightPages.{_∈_}
 use Rattle.programs.specs.Program.{templateAt}
 use Rattle.judging.specs.Promises.{wrongOf}
 use Rattle.summaries.specs.Summaries.{Summary}
+use Rattle.patterns.specs.Morphisms.{Morphism}
 use Rattle.patterns.specs.Given.{Bounded}
 use Rattle.patterns.specs.Rounds.{Sets}
+use Rattle.patterns.specs.Reached.{Yields}
 use Rattle.patterns.specs.Exactness.{Exact}
 use Rattle.patterns.specs.Elements.{someClauseFails}
 use Rattle.patterns.specs.Shows.{lower, lowestMark}
 use Rattle.readings.specs.Promises.{OfFacts, KeepsFacts}
 use Rattle.entries.specs.Words.{Keeps}
 use Rattle.entries.specs.Gaps.{ItemsStand, StartsAt}
-use Rattle.languages.specs.Tables.{SetsAre}
+use Rattle.languages.specs.Tables.{RowsAre, GapSetsAre}
 use Rattle.occurrences.specs.Occurrences.{Occurrences}
 use Rattle.reach.specs.Promises.{GraphKept}
 use Rattle.reach.specs.PlainlyWrong.{wrongByClause}
 use Rattle.elements.specs.declared.Clause.{Clause}
-use Rattle.elements.specs.Attributes.{Tells, ClauseAt, patternsBy}
-use Rattle.elements.specs.Search.{failsAt}
+use Rattle.elements.specs.Attributes.{Tells, TellsPlain, ClauseAt, patternsBy}
+use Rattle.elements.specs.Search.{Filled, failsAt}
 
 -- The clause whose facts are given.
 pub record ClauseOf (t : Facts) (e formula : ℕ) (c : Clause) : Type 0 where
@@ -40,17 +42,38 @@ pub record ClauseOf (t : Facts) (e formula : ℕ) (c : Clause) : Type 0 where
   pub stands-at : c .formula ≡ formula
   pub reads : KeepsFacts t (c .reading)
   pub tells : OfFacts t (Tells (c .valued))
+  pub is-plain : TellsPlain t (c .plain)
 
--- The lowest element of items of template n for which the clause can fail, where the words have the sets X.
-abbrev pub SearchesTemplate : List ℕ → ℕ → Clause → List ℕ → List (List ℕ) → ℕ → ℕ → Type 0
-SearchesTemplate s from c words sets n r = (φs : List Items) (G : Summary) (ψ : Formula) (X : Sets) → length φs < 32 → Bounded φs G → Keeps words G
-    → ClauseAt s ψ c → SetsAre φs (patternsBy ψ) X sets
-    → (φ : Items) → ItemsStand s from φ → wrongOf r ≡ lowestMark (failsAt φs G ψ X n (c .element)) φ
+-- The clause, with contents looked at in any case.
+pub record InFull (c r : Clause) : Type 0 where
+  pub full : r .plain ≡ false
+  pub of-element : r .element ≡ c .element
+  pub stands : (s : List ℕ) (ψ : Formula) → ClauseAt s ψ c → ClauseAt s ψ r
 
 -- A graph, as words, over templates that stand where the table says.
 pub record Standing (s : List ℕ) (φs : List Items) (G : Summary) (words : List ℕ) (count : ℕ) (starts : List ℕ) : Type 0 where
   pub graph : GraphKept φs G words count
   pub stand : StartsAt s φs starts
+
+-- The rows are the sets of all templates, and what each gap of template n takes is worked out from them, where some facts are about
+-- contents.
+abbrev pub RowsFor : List ℕ → Clause → List ℕ → List ℕ → ℕ → List ℕ → Type 0
+RowsFor s c words starts count rows = (φs : List Items) (G : Summary) (ψ : Formula) (X : Sets) → Standing s φs G words count starts → ClauseAt s ψ c
+    → Exact φs G (patternsBy ψ) X → c .plain ≡ false → RowsAre φs (patternsBy ψ) X rows
+
+abbrev pub TakesFor : Clause → List ℕ → List ℕ → ℕ → List ℕ → Type 0
+TakesFor c words rows n takes = (φs : List Items) (G : Summary) (M : Morphism) (X : Sets) → length φs < 32 → Bounded φs G → Keeps words G
+    → (c .plain ≡ false → RowsAre φs M X rows) → c .plain ≡ false → GapSetsAre φs G M X n takes
+
+-- The lowest element of items of template n for which the clause can fail.
+abbrev pub SearchesTemplate : List ℕ → ℕ → Clause → List ℕ → List ℕ → ℕ → ℕ → Type 0
+SearchesTemplate s from c words rows n r = (φs : List Items) (G : Summary) (ψ : Formula) (X : Sets) → length φs < 32 → Bounded φs G → Keeps words G
+    → ClauseAt s ψ c → Exact φs G (patternsBy ψ) X → (c .plain ≡ false → RowsAre φs (patternsBy ψ) X rows)
+    → (φ : Items) → ItemsStand s from φ → Filled c φs G ψ X n φ → wrongOf r ≡ lowestMark (failsAt φs G ψ X n (c .element)) φ
+
+-- Pages come of every template of a set.
+abbrev pub AllYield : List Items → Summary → ℕ → Type 0
+AllYield φs G chosen = (n : ℕ) → n ≤ length φs → member chosen n ≡ true → Yields φs G n
 
 -- A test of the elements of template n.
 abbrev pub Test : Type 0
@@ -65,13 +88,18 @@ pub record Lowered (φs : List Items) (chosen : ℕ) (test : Test) (table lowest
 -- One clause, with the exact sets of all templates for its facts.
 abbrev pub SearchesTemplates : List ℕ → Clause → List ℕ → List ℕ → ℕ → ℕ → List ℕ → List ℕ → Type 0
 SearchesTemplates s c words starts count chosen table r = (φs : List Items) (G : Summary) (ψ : Formula) (X : Sets)
-    → Standing s φs G words count starts → ClauseAt s ψ c → Exact φs G (patternsBy ψ) X
+    → Standing s φs G words count starts → (c .plain ≡ true → AllYield φs G chosen) → ClauseAt s ψ c → Exact φs G (patternsBy ψ) X
+    → Lowered φs chosen (λ n. failsAt φs G ψ X n (c .element)) table r
+
+abbrev pub SearchesClause : List ℕ → Clause → List ℕ → List ℕ → ℕ → ℕ → ℕ → List ℕ → List ℕ → Type 0
+SearchesClause s c words starts count chosen yields table r = (φs : List Items) (G : Summary) (ψ : Formula) (X : Sets)
+    → Standing s φs G words count starts → AllYield φs G yields → ClauseAt s ψ c → Exact φs G (patternsBy ψ) X
     → Lowered φs chosen (λ n. failsAt φs G ψ X n (c .element)) table r
 
 -- The clauses of the rule of element e, which stand from an offset on.
-abbrev pub SearchesRule : List ℕ → ℕ → ℕ → List ℕ → List ℕ → ℕ → ℕ → List ℕ → List ℕ → Type 0
-SearchesRule s e from words starts count chosen table r = (φs : List Items) (G : Summary) (X : Formula → Sets) → Standing s φs G words count starts
-    → (f end : ℕ) (ψs : List Formula) → Reading.clauses f s from ≡ whole ψs end
+abbrev pub SearchesRule : List ℕ → ℕ → ℕ → List ℕ → List ℕ → ℕ → ℕ → ℕ → List ℕ → List ℕ → Type 0
+SearchesRule s e from words starts count chosen yields table r = (φs : List Items) (G : Summary) (X : Formula → Sets) → Standing s φs G words count starts
+    → AllYield φs G yields → (f end : ℕ) (ψs : List Formula) → Reading.clauses f s from ≡ whole ψs end
     → ((ψ : Formula) → ψ ∈ ψs → Exact φs G (patternsBy ψ) (X ψ))
     → Lowered φs chosen (λ n e′ mark δ φ. eqb e′ e && someClauseFails φs G X ψs n δ φ) table r
 
@@ -85,7 +113,15 @@ pub record RulesStand (s : List ℕ) (D : Vocabulary) (declared : ℕ) (clauses 
 abbrev pub ExactClauses : List Items → Summary → Vocabulary → (Formula → Sets) → Type 0
 ExactClauses φs G D X = (e : ℕ) (r : Rule) (ψ : Formula) → ruleOf (D .rules) e ≡ some r → ψ ∈ r .clauses → Exact φs G (patternsBy ψ) (X ψ)
 
--- All clauses of all rules.
+-- All clauses of all rules, where pages come of the templates of a set; and without such a set.
+abbrev pub SearchesRulesGiven : List ℕ → ℕ → List ℕ → List ℕ → List ℕ → List ℕ → ℕ → ℕ → ℕ → List ℕ → List ℕ → Type 0
+SearchesRulesGiven s declared clauses standing words starts count reached yields table r = (φs : List Items) (G : Summary) (D : Vocabulary) (X : Formula → Sets)
+    → Standing s φs G words count starts → AllYield φs G yields → RulesStand s D declared clauses → Occurrences φs standing → ExactClauses φs G D X
+    → Lowered φs reached (λ n e mark δ φ. wrongByClause φs G X D n e δ φ) table r
+
+abbrev pub TellsYielding : List ℕ → List ℕ → List ℕ → ℕ → ℕ → Type 0
+TellsYielding s words starts count r = (φs : List Items) (G : Summary) → Standing s φs G words count starts → AllYield φs G r
+
 abbrev pub SearchesRules : List ℕ → ℕ → List ℕ → List ℕ → List ℕ → List ℕ → ℕ → ℕ → List ℕ → List ℕ → Type 0
 SearchesRules s declared clauses standing words starts count reached table r = (φs : List Items) (G : Summary) (D : Vocabulary) (X : Formula → Sets)
     → Standing s φs G words count starts → RulesStand s D declared clauses → Occurrences φs standing → ExactClauses φs G D X

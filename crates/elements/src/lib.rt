@@ -6,20 +6,22 @@ ghost use Rattle.commands.specs.Commands.{byte};
 ghost use Rattle.judging.specs.Promises.{wrongOf};
 ghost use Rattle.patterns.specs.Shows.{lower, onlyIf};
 ghost use Rattle.readings.specs.Promises.{OfFacts};
-ghost use Rattle.elements.specs.Attributes.{Tells, TellsAlso, HasPatterns, TakesAttribute, Attributes};
-ghost use Rattle.elements.specs.Rules.{ClauseOf, SearchesTemplate, SearchesTemplates, SearchesRule, SearchesRules};
-ghost use Rattle.elements.specs.Search.{ElementFails, SearchesItem, SearchesItems};
+ghost use Rattle.elements.specs.Attributes.{Tells, TellsAlso, TellsPlain, HasPatterns, TakesAttribute, Attributes};
+ghost use Rattle.elements.specs.Rules.{ClauseOf, InFull, RowsFor, TakesFor, SearchesTemplate, SearchesTemplates, SearchesClause, SearchesRule, SearchesRulesGiven, TellsYielding, SearchesRules};
+ghost use Rattle.elements.specs.Search.{HasContents, ElementFails, SearchesItem, SearchesItems};
 use commands::Position;
 use readings::Reading;
 use vocabularies::Facts;
 use vocabularies::VALUED;
 
-// A clause of an element's rule: where its formula stands, its facts, and the attributes that they are about.
+// A clause of an element's rule: where its formula stands, its facts, the attributes that they are about, and whether they are about
+// attributes alone.
 struct Clause {
     element: u8,
     formula: usize,
     reading: Reading,
     valued: u64,
+    plain: bool,
 }
 
 // The attributes of an element: their names, the patterns that they can have, and the position after them.
@@ -61,6 +63,24 @@ fn valued_of(facts: Facts) -> u64
         i += 1;
     }
     set
+}
+
+// Whether facts are about attributes alone.
+fn is_plain(facts: Facts) -> bool
+    ensures { λ r. ⌜ TellsPlain facts r ⌝ }
+{
+    let count = facts.count;
+    let mut i = 0;
+    while i < 8 {
+        if count <= i {
+            return true;
+        }
+        if facts.kinds[i] != VALUED {
+            return false;
+        }
+        i += 1;
+    }
+    true
 }
 
 // The patterns of the attribute at an offset.
@@ -132,6 +152,26 @@ fn attributes_of(
     }
 }
 
+// The patterns of the contents that stand here, of an element of template n. Where no fact is about contents, all have the pattern of
+// nothing.
+fn contents_of(
+    s: &[u8],
+    inside: Position,
+    clause: Clause,
+    n: usize,
+    words: &[u64; 544],
+    takes: &[u64; 32],
+) -> [u64; 4]
+    requires { ⌜ n < 32 ⌝ }
+    ensures { λ r. ⌜ HasContents (now (s .entry)) (inside .at) clause (now (words .entry)) (now (takes .entry)) n r ⌝ }
+{
+    if clause.plain {
+        return pattern_sets::only(0);
+    }
+    let reading = clause.reading;
+    languages::list_patterns(s, inside, reading, n, words, takes).set
+}
+
 // Whether the clause can fail for the element of template n whose attributes stand here.
 fn element_fails(
     s: &[u8],
@@ -147,9 +187,8 @@ fn element_fails(
     let reading = clause.reading;
     let attributed = attributes_of(s, start, clause, words, n);
     let inside = attributed.next;
-    let contents = languages::list_patterns(s, inside, reading, n, words, takes);
     let outer = attributed.set;
-    let inner = contents.set;
+    let inner = contents_of(s, inside, clause, n, words, takes);
     let patterns = readings::product(reading, outer, inner);
     let formula = Position { at: clause.formula };
     let facts = reading.facts;
@@ -253,7 +292,36 @@ fn clause_of(e: u8, formula: usize, facts: Facts) -> Clause
         formula,
         reading: readings::facts_reading(facts),
         valued: valued_of(facts),
+        plain: is_plain(facts),
     }
+}
+
+// The exact pattern sets of all templates for the clause's facts, one after the other, if some are about contents.
+fn rows_of(
+    s: &[u8],
+    clause: Clause,
+    words: &[u64; 544],
+    starts: &[usize; 32],
+    count: usize,
+) -> [u64; 128]
+    ensures { λ r. ⌜ RowsFor (now (s .entry)) clause (now (words .entry)) (now (starts .entry)) count r ⌝ }
+{
+    if clause.plain {
+        return [0u64; 128];
+    }
+    let reading = clause.reading;
+    languages::rows_of(languages::settle(s, reading, words, starts, count))
+}
+
+// What each gap of template n takes, if some facts of the clause are about contents.
+fn takes_of(clause: Clause, n: usize, words: &[u64; 544], rows: &[u64; 128]) -> [u64; 32]
+    requires { ⌜ n < 32 ⌝ }
+    ensures { λ r. ⌜ TakesFor clause (now (words .entry)) (now (rows .entry)) n r ⌝ }
+{
+    if clause.plain {
+        return [0u64; 32];
+    }
+    languages::gaps_from(words, rows, n)
 }
 
 // The items of template n at an offset, from the pattern sets of all templates.
@@ -263,12 +331,12 @@ fn search_template(
     clause: Clause,
     n: usize,
     words: &[u64; 544],
-    rows: [[u64; 4]; 32],
+    rows: &[u64; 128],
 ) -> usize
     requires { ⌜ n < 32 ⌝ }
-    ensures { λ r. ⌜ SearchesTemplate (now (s .entry)) from clause (now (words .entry)) rows n r ⌝ }
+    ensures { λ r. ⌜ SearchesTemplate (now (s .entry)) from clause (now (words .entry)) (now (rows .entry)) n r ⌝ }
 {
-    let takes = languages::gap_sets(words, rows, n);
+    let takes = takes_of(clause, n, words, rows);
     search_items(s, Position { at: from }, clause, n, words, &takes).wrong
 }
 
@@ -284,8 +352,7 @@ fn search_templates(
 ) -> [usize; 32]
     ensures { λ r. ⌜ SearchesTemplates (now (s .entry)) clause (now (words .entry)) (now (starts .entry)) count chosen table r ⌝ }
 {
-    let reading = clause.reading;
-    let rows = languages::settle(s, reading, words, starts, count);
+    let rows = rows_of(s, clause, words, starts, count);
     let mut lowest = table;
     let mut t = pattern_sets::first_member(chosen, 1);
     while t < 32 {
@@ -293,11 +360,51 @@ fn search_templates(
         if count < n {
             return lowest;
         }
-        let found = search_template(s, starts[n], clause, n, words, rows);
+        let found = search_template(s, starts[n], clause, n, words, &rows);
         lowest[n] = reach::lower(lowest[n], found);
         t = pattern_sets::first_member(chosen, t + 1);
     }
     lowest
+}
+
+// The clause, with contents looked at in any case.
+fn in_full(clause: Clause) -> Clause
+    ensures { λ r. ⌜ InFull clause r ⌝ }
+{
+    let reading = clause.reading;
+    Clause {
+        element: clause.element,
+        formula: clause.formula,
+        reading,
+        valued: clause.valued,
+        plain: false,
+    }
+}
+
+// The table made lower by one clause, for the templates of a set; pages come of those that `yields` has. Of these, contents need not be
+// looked at where facts are about attributes alone.
+fn search_clause(
+    s: &[u8],
+    clause: Clause,
+    words: &[u64; 544],
+    starts: &[usize; 32],
+    count: usize,
+    chosen: u64,
+    yields: u64,
+    table: [usize; 32],
+) -> [usize; 32]
+    ensures { λ r. ⌜ SearchesClause (now (s .entry)) clause (now (words .entry)) (now (starts .entry)) count chosen yields table r ⌝ }
+{
+    if !clause.plain {
+        return search_templates(s, clause, words, starts, count, chosen, table);
+    }
+    let known = pattern_sets::common(chosen, yields);
+    let lowest = search_templates(s, clause, words, starts, count, known, table);
+    let others = pattern_sets::without(chosen, yields);
+    if others == 0 {
+        return lowest;
+    }
+    search_templates(s, in_full(clause), words, starts, count, others, lowest)
 }
 
 // The table made lower by the clauses of element e's rule, which stand from an offset on, for the templates of a set.
@@ -309,9 +416,10 @@ fn search_rule(
     starts: &[usize; 32],
     count: usize,
     chosen: u64,
+    yields: u64,
     table: [usize; 32],
 ) -> [usize; 32]
-    ensures { λ r. ⌜ SearchesRule (now (s .entry)) e from (now (words .entry)) (now (starts .entry)) count chosen table r ⌝ }
+    ensures { λ r. ⌜ SearchesRule (now (s .entry)) e from (now (words .entry)) (now (starts .entry)) count chosen yields table r ⌝ }
 {
     if chosen == 0 {
         return table;
@@ -322,7 +430,7 @@ fn search_rule(
         let gathered = vocabularies::gather(s, Position { at: at + 1 }, vocabularies::no_facts());
         let facts = gathered.facts;
         let clause = clause_of(e, at + 1, facts);
-        let more = search_templates(s, clause, words, starts, count, chosen, lowest);
+        let more = search_clause(s, clause, words, starts, count, chosen, yields, lowest);
         lowest = more;
         let end = gathered.end;
         at = end.at;
@@ -331,7 +439,52 @@ fn search_rule(
 }
 
 // The table made lower by all clauses of all rules, for the templates that are reached; `standing` has the templates in which each
-// element stands.
+// element stands, and pages come of those that `yields` has.
+pub fn search_rules_given(
+    s: &[u8],
+    declared: u64,
+    clauses: &[usize; 64],
+    standing: &[u64; 64],
+    words: &[u64; 544],
+    starts: &[usize; 32],
+    count: usize,
+    reached: u64,
+    yields: u64,
+    table: [usize; 32],
+) -> [usize; 32]
+    ensures { λ r. ⌜ SearchesRulesGiven (now (s .entry)) declared (now (clauses .entry)) (now (standing .entry)) (now (words .entry)) (now (starts .entry)) count reached yields table r ⌝ }
+{
+    let mut lowest = table;
+    let mut e = occurrences::next_element(declared, 0);
+    while e < 64 {
+        let i = e as usize;
+        let chosen = pattern_sets::common(reached, standing[i]);
+        let more = search_rule(
+            s,
+            e as u8,
+            clauses[i],
+            words,
+            starts,
+            count,
+            chosen,
+            yields,
+            lowest,
+        );
+        lowest = more;
+        e = occurrences::next_element(declared, e + 1);
+    }
+    lowest
+}
+
+// The templates of which pages come.
+fn yielding(s: &[u8], words: &[u64; 544], starts: &[usize; 32], count: usize) -> u64
+    ensures { λ r. ⌜ TellsYielding (now (s .entry)) (now (words .entry)) (now (starts .entry)) count r ⌝ }
+{
+    let kinds = languages::settle(s, readings::root_reading(0), words, starts, count);
+    reach::yielding(kinds, count)
+}
+
+// The same where it is not known of which templates pages come.
 pub fn search_rules(
     s: &[u8],
     declared: u64,
@@ -345,14 +498,17 @@ pub fn search_rules(
 ) -> [usize; 32]
     ensures { λ r. ⌜ SearchesRules (now (s .entry)) declared (now (clauses .entry)) (now (standing .entry)) (now (words .entry)) (now (starts .entry)) count reached table r ⌝ }
 {
-    let mut lowest = table;
-    let mut e = occurrences::next_element(declared, 0);
-    while e < 64 {
-        let i = e as usize;
-        let chosen = pattern_sets::common(reached, standing[i]);
-        let more = search_rule(s, e as u8, clauses[i], words, starts, count, chosen, lowest);
-        lowest = more;
-        e = occurrences::next_element(declared, e + 1);
-    }
-    lowest
+    let yields = yielding(s, words, starts, count);
+    search_rules_given(
+        s,
+        declared,
+        clauses,
+        standing,
+        words,
+        starts,
+        count,
+        reached,
+        yields,
+        table,
+    )
 }

@@ -2,6 +2,7 @@ pub mod Tests
 pub mod Claims
 pub mod Slots
 pub mod Walks
+pub mod Among
 pub mod Items
 pub mod Loading
 pub mod StringSets
@@ -10,5 +11,6 @@ pub mod Held
 pub mod Gathering
 pub mod Flat
 pub mod GapWords
+pub mod Own
 pub mod Transfers
 pub mod Reading

@@ -36,6 +36,10 @@ pub few-bytes : (c : ℕ) → operandBytes c ≤ 9
 unfolding operandBytes operandsOf
 few-bytes c = few-found c formats refl
 
+-- The offset after a command whose operands are known.
+pub over-as : (s : List ℕ) (at code n k : ℕ) → code ≡ byte s at → code ≡ k → n ≡ operandBytes k → at + (1 + n) ≡ over s at
+over-as s at code n k e f q = rw (← e, f, ← q) (omega arith)
+
 -- A command other than 0 stands within the bytes.
 pub inside : (x : Context) (s : List ℕ) (at : ℕ) → allowed x 0 ≡ false → allowed x (byte s at) ≡ true → at < length s
 inside x s at n a = go (ltb at (length s)) refl

@@ -1,8 +1,9 @@
 -- The gaps of templates as words, read again from the bytes of their items.
-use Prim.Native.Nat.{ℕ, _+_, _≤_}
+use Prim.Native.Nat.{ℕ, _+_, _-_, _≤_}
 use mathlib.Core.Path.{_≡_}
 use mathlib.Core.List.{List}
-use mathlib.Core.Bool.{Bool, true, false, _&&_, _||_}
+use mathlib.Core.Bool.{Bool, true, false, cond, _&&_, _||_}
+use mathlib.Core.Logic.{_⊎_}
 use lib.ListN.{length, getD}
 use lib.Dec.{eqb, ltb}
 use Rattle.sets.specs.Sets.{member}
@@ -12,6 +13,8 @@ use Rattle.pages.specs.declared.Kind.the-variants.{Template}
 use Rattle.pages.specs.Items.{Items, gapIn, attributeGapIn}
 use Rattle.pages.specs.ItemReading.{items}
 use Rattle.programs.specs.Program.{templateAt}
+use Rattle.summaries.specs.Proposal.{Claim, root, gapFrom, attributeGapFrom, Fact}
+use Rattle.summaries.specs.Summaries.{saysClaim}
 
 -- Bit g of the word for gap g, bit 8 + h for attribute gap h.
 abbrev pub hasGap : ℕ → ℕ → Bool
@@ -49,3 +52,12 @@ attributeGapHere s at h = eqb (byte s at) 0x25 && eqb (byte s (at + 2)) h
 pub record GapsMore (s : List ℕ) (at word more : ℕ) : Type 0 where
   pub gaps : (g : ℕ) → hasGap more g ≡ (gapHere s at g || hasGap word g)
   pub attributes : (h : ℕ) → hasAttributeGap more h ≡ (attributeGapHere s at h || hasAttributeGap word h)
+
+-- What may be held of a template itself, by its bit: that it is an origin of gap k, at bit k; of attribute gap h, at bit 8 + h; that
+-- it is a root, at bit 16.
+abbrev pub ownClaim : ℕ → ℕ → Claim
+ownClaim t k = cond (ltb k 8) (gapFrom k t) (cond (ltb k 16) (attributeGapFrom (k - 8) t) (root t))
+
+-- What is in the second word is in the first, or an item says it.
+abbrev pub OwnMore : Fact → ℕ → ℕ → ℕ → Type 0
+OwnMore y t own more = (k : ℕ) → member more k ≡ true → (member own k ≡ true) ⊎ (saysClaim y (ownClaim t k) ≡ true)

@@ -1,10 +1,12 @@
 -- The items under a head, where they stand in the bytes of a job. Nothing here is a definition of document 01: it is what reading a
 -- proposal leaves for code that walks over the items again.
-use Prim.Native.Nat.{ℕ, _+_, _<_}
+use Prim.Native.Nat.{ℕ, _+_, _≤_, _<_}
 use mathlib.Core.Path.{_≡_}
 use mathlib.Core.List.{List, [], _∷_}
 use mathlib.Core.Bool.{Bool, true, false}
+use lib.ListN.{length}
 use Rattle.commands.specs.declared.Context.{Context}
+use Rattle.commands.specs.declared.Context.the-variants.{TemplateFacts}
 use Rattle.commands.specs.Commands.{byte, allowed, operandBytes}
 use Rattle.summaries.specs.Proposal.{Claim, root, edge, string, gapFrom, attributeGapFrom, Fact, claim, anyAt, oneString, anyString}
 use Rattle.summaries.specs.ProposalReading.{factAt}
@@ -36,3 +38,12 @@ over s at = at + 1 + operandBytes (byte s at)
 unfoldable pub Listed : Context → List ℕ → ℕ → List Fact → Type 0
 Listed x s at [] = allowed x (byte s at) ≡ false
 Listed x s at (y ∷ ys) = ItemAt x s at y × Listed x s (over s at) ys
+
+-- The same item of a template variable stands at two offsets, and takes so many bytes.
+pub record SameItem (s : List ℕ) (a b bytes : ℕ) : Type 0 where
+  pub permitted : allowed TemplateFacts (byte s a) ≡ true
+  pub code : byte s b ≡ byte s a
+  pub is : factAt s b (byte s b) ≡ factAt s a (byte s a)
+  pub first : over s a ≡ a + bytes
+  pub second : over s b ≡ b + bytes
+  pub inside : (a + bytes ≤ length s) × (b + bytes ≤ length s)

@@ -11,10 +11,10 @@ ghost use Rattle.programs.specs.Program.{templateAt};
 ghost use Rattle.summaries.specs.Proposal.{Claim, root, edge, string, gapFrom, attributeGapFrom, Fact, claim, anyAt};
 ghost use Rattle.summaries.specs.Summaries.{Summary, Within, fragment, plugSummary, plugStringSummary, saysClaim, saysString, held};
 ghost use Rattle.summaries.specs.Summaries as Summaries;
-ghost use Rattle.entries.specs.Listed.{ItemAt, over, Listed};
+ghost use Rattle.entries.specs.Listed.{ItemAt, over, Listed, SameItem};
 ghost use Rattle.entries.specs.Words.{SlotAt, holds, Keeps};
 ghost use Rattle.entries.specs.Passing.{isOf, passed, Decides};
-ghost use Rattle.entries.specs.Gaps.{GapsAre, ItemsStand, StartsAt, InnerAt, GapsMore};
+ghost use Rattle.entries.specs.Gaps.{GapsAre, ItemsStand, StartsAt, InnerAt, GapsMore, ownClaim, OwnMore};
 use commands::Context;
 use commands::Position;
 
@@ -98,12 +98,125 @@ fn slot_of(s: &[u8], at: usize) -> Slot
     }
 }
 
-// The offset after the command at an offset.
+// The offset after the command at an offset. Gaps and edges, of which there may be thousands, have arms of their own.
 fn over(s: &[u8], at: usize) -> usize
     requires { ⌜ at < length (now s) ⌝ }
     ensures { λ r. ⌜ r ≡ over (now (s .entry)) at ⌝ }
 {
-    at + 1 + commands::operand_bytes(commands::byte_at(s, at))
+    let code = commands::byte_at(s, at);
+    match code {
+        0x22 => at + 2,
+        0x42 => at + 4,
+        _ => at + 1 + commands::operand_bytes(code),
+    }
+}
+
+// How many bytes an item with one operand takes, where the same bytes stand at two offsets; or 0.
+fn same_one(s: &[u8], a: usize, b: usize) -> usize
+    requires { ⌜ (a < length (now s)) × (b < length (now s)) ⌝ }
+    ensures { λ r. ⌜ (0 < r → (r ≡ 2) × (a + 2 ≤ length (now (s .entry))) × (b + 2 ≤ length (now (s .entry))) × (byte (now (s .entry)) (a + 1) ≡ byte (now (s .entry)) (b + 1))) ⌝ }
+{
+    if s.len() - a < 2 {
+        return 0;
+    }
+    if s.len() - b < 2 {
+        return 0;
+    }
+    if s[a + 1] != s[b + 1] {
+        return 0;
+    }
+    2
+}
+
+// The same with two operands.
+fn same_two(s: &[u8], a: usize, b: usize) -> usize
+    requires { ⌜ (a < length (now s)) × (b < length (now s)) ⌝ }
+    ensures { λ r. ⌜ (0 < r → (r ≡ 3) × (a + 3 ≤ length (now (s .entry))) × (b + 3 ≤ length (now (s .entry))) × (byte (now (s .entry)) (a + 1) ≡ byte (now (s .entry)) (b + 1)) × (byte (now (s .entry)) (a + 2) ≡ byte (now (s .entry)) (b + 2))) ⌝ }
+{
+    if s.len() - a < 3 {
+        return 0;
+    }
+    if s.len() - b < 3 {
+        return 0;
+    }
+    if s[a + 1] != s[b + 1] {
+        return 0;
+    }
+    if s[a + 2] != s[b + 2] {
+        return 0;
+    }
+    3
+}
+
+// The same with three operands.
+fn same_three(s: &[u8], a: usize, b: usize) -> usize
+    requires { ⌜ (a < length (now s)) × (b < length (now s)) ⌝ }
+    ensures { λ r. ⌜ (0 < r → (r ≡ 4) × (a + 4 ≤ length (now (s .entry))) × (b + 4 ≤ length (now (s .entry))) × (byte (now (s .entry)) (a + 1) ≡ byte (now (s .entry)) (b + 1)) × (byte (now (s .entry)) (a + 2) ≡ byte (now (s .entry)) (b + 2)) × (byte (now (s .entry)) (a + 3) ≡ byte (now (s .entry)) (b + 3))) ⌝ }
+{
+    if s.len() - a < 4 {
+        return 0;
+    }
+    if s.len() - b < 4 {
+        return 0;
+    }
+    if s[a + 1] != s[b + 1] {
+        return 0;
+    }
+    if s[a + 2] != s[b + 2] {
+        return 0;
+    }
+    if s[a + 3] != s[b + 3] {
+        return 0;
+    }
+    4
+}
+
+// How many bytes the item at two offsets takes, where it is the same item; or 0.
+fn same_item(s: &[u8], a: usize, b: usize) -> usize
+    ensures { λ r. ⌜ (0 < r → SameItem (now (s .entry)) a b r) ⌝ }
+{
+    if s.len() <= a {
+        return 0;
+    }
+    if s.len() <= b {
+        return 0;
+    }
+    let code = s[a];
+    if code != s[b] {
+        return 0;
+    }
+    match code {
+        0x41 => same_one(s, a, b),
+        0x42 => same_three(s, a, b),
+        0x43 => same_three(s, a, b),
+        0x44 => same_two(s, a, b),
+        0x45 => same_two(s, a, b),
+        0x46 => same_two(s, a, b),
+        _ => 0,
+    }
+}
+
+// Whether the items from one offset on are seen at once to be among those from another on, both in order. Only a yes counts.
+fn items_among(s: &[u8], from: usize, there: usize) -> bool
+    ensures { λ r. ⌜ (r ≡ true → (xs ys : List Fact) → Listed Context.TemplateFacts (now (s .entry)) from xs → Listed Context.TemplateFacts (now (s .entry)) there ys → Within (held saysClaim xs) (held saysClaim ys)) ⌝ }
+{
+    let mut a = from;
+    let mut b = there;
+    loop {
+        let bytes = same_item(s, a, b);
+        if bytes != 0 {
+            a += bytes;
+            b += bytes;
+        } else {
+            if !is_item(s, a) {
+                return true;
+            }
+            if !is_item(s, b) {
+                return false;
+            }
+            b = over(s, b);
+        }
+    }
 }
 
 // The items under a head as words.
@@ -351,7 +464,7 @@ fn origin_holds(words: &[u64; 544], k: u8, n: u8, gaps: u64) -> bool
 }
 
 // Whether what is held of a template that is just loaded lies within the entry whose words are given.
-pub fn fragment_holds(words: &[u64; 544], t: u8, gaps: u64) -> bool
+fn fragment_holds(words: &[u64; 544], t: u8, gaps: u64) -> bool
     ensures { λ r. ⌜ ((φ : Items) (R : Summary) → GapsAre gaps φ → t < 32 → Keeps (now (words .entry)) R → Decides r (Within (fragment t φ) R)) ⌝ }
 {
     let n = t % 64;
@@ -371,7 +484,7 @@ pub fn fragment_holds(words: &[u64; 544], t: u8, gaps: u64) -> bool
 const NO_GAP: u8 = 8;
 
 // Whether one entry, the items from an offset on, lies within another, whose words are given.
-pub fn copy_holds(s: &[u8], from: usize, words: &[u64; 544]) -> bool
+fn copy_holds(s: &[u8], from: usize, words: &[u64; 544]) -> bool
     ensures { λ r. ⌜ ((xs : List Fact) (R : Summary) → Listed Context.TemplateFacts (now (s .entry)) from xs → Keeps (now (words .entry)) R → Decides r (Within (held saysClaim xs) R)) ⌝ }
 {
     let how = Passing {
@@ -388,7 +501,7 @@ pub fn copy_holds(s: &[u8], from: usize, words: &[u64; 544]) -> bool
 }
 
 // Whether the plug of the second entry into a gap of the first lies within the entry whose words are given.
-pub fn plug_holds(s: &[u8], first: usize, gap: u8, second: usize, words: &[u64; 544]) -> bool
+fn plug_holds(s: &[u8], first: usize, gap: u8, second: usize, words: &[u64; 544]) -> bool
     ensures { λ r. ⌜ ((xs ys : List Fact) (R : Summary) → Listed Context.TemplateFacts (now (s .entry)) first xs → Listed Context.TemplateFacts (now (s .entry)) second ys → Keeps (now (words .entry)) R → Decides r (Within (plugSummary gap (held saysClaim xs) (held saysClaim ys)) R)) ⌝ }
 {
     let plugging = Passing {
@@ -418,13 +531,7 @@ pub fn plug_holds(s: &[u8], first: usize, gap: u8, second: usize, words: &[u64; 
 }
 
 // Whether the plug of strings into an attribute gap of an entry lies within the entry whose words are given.
-pub fn fill_holds(
-    s: &[u8],
-    from: usize,
-    attribute: u8,
-    strings: Strings,
-    words: &[u64; 544],
-) -> bool
+fn fill_holds(s: &[u8], from: usize, attribute: u8, strings: Strings, words: &[u64; 544]) -> bool
     ensures { λ r. ⌜ ((xs : List Fact) (Y : Summaries.Strings) (R : Summary) → Listed Context.TemplateFacts (now (s .entry)) from xs → ((t : ℕ) → Y t ≡ isOf strings t) → Keeps (now (words .entry)) R → Decides r (Within (plugStringSummary attribute (held saysClaim xs) Y) R)) ⌝ }
 {
     let how = Passing {
@@ -435,4 +542,98 @@ pub fn fill_holds(
         strings,
     };
     items_hold(s, from, words, how)
+}
+
+// Whether one entry lies within another, both given by the offsets of their items.
+pub fn entry_within(s: &[u8], from: usize, there: usize) -> bool
+    ensures { λ r. ⌜ ((xs ys : List Fact) → Listed Context.TemplateFacts (now (s .entry)) from xs → Listed Context.TemplateFacts (now (s .entry)) there ys → Decides r (Within (held saysClaim xs) (held saysClaim ys))) ⌝ }
+{
+    if items_among(s, from, there) {
+        return true;
+    }
+    let words = load(s, there);
+    copy_holds(s, from, &words)
+}
+
+// The bits of what is held of a template itself, with that of the item at an offset: gap k is bit k, attribute gap h is bit 8 + h,
+// the root is bit 16.
+fn with_own(s: &[u8], at: usize, t: u8, own: u64) -> u64
+    ensures { λ r. ⌜ ((y : Fact) → ItemAt Context.TemplateFacts (now (s .entry)) at y → OwnMore y t own r) ⌝ }
+{
+    let here = Position { at };
+    let a = here.operand(s, 1);
+    let b = here.operand(s, 2);
+    match commands::byte_at(s, at) {
+        0x41 => {
+            if a != t {
+                return own;
+            }
+            sets::with(own, 16)
+        }
+        0x45 => {
+            if b != t {
+                return own;
+            }
+            sets::with(own, a % 8)
+        }
+        0x46 => {
+            if b != t {
+                return own;
+            }
+            sets::with(own, 8 + a % 8)
+        }
+        _ => own,
+    }
+}
+
+// The bits of what the items from an offset on hold of a template itself.
+fn own_of(s: &[u8], from: usize, t: u8) -> u64
+    ensures { λ r. ⌜ ((xs : List Fact) → Listed Context.TemplateFacts (now (s .entry)) from xs → (k : ℕ) → member r k ≡ true → held saysClaim xs (ownClaim t k) ≡ true) ⌝ }
+{
+    let mut own: u64 = 0;
+    let mut at = from;
+    while is_item(s, at) {
+        own = with_own(s, at, t, own);
+        at = over(s, at);
+    }
+    own
+}
+
+// Whether what is held of a template that is just loaded is seen at once to lie within the entry whose items stand at an offset. Only
+// a yes counts.
+fn fragment_among(s: &[u8], t: u8, gaps: u64, there: usize) -> bool
+    ensures { λ r. ⌜ (r ≡ true → (φ : Items) (ys : List Fact) → GapsAre gaps φ → Listed Context.TemplateFacts (now (s .entry)) there ys → Within (fragment t φ) (held saysClaim ys)) ⌝ }
+{
+    let own = own_of(s, there, t);
+    if !sets::has(own, 16) {
+        return false;
+    }
+    sets::is_within(gaps, own)
+}
+
+// Whether what is held of a template that is just loaded lies within the entry whose items stand at an offset.
+pub fn fragment_within(s: &[u8], t: u8, gaps: u64, there: usize) -> bool
+    ensures { λ r. ⌜ ((φ : Items) (ys : List Fact) → GapsAre gaps φ → t < 32 → Listed Context.TemplateFacts (now (s .entry)) there ys → Decides r (Within (fragment t φ) (held saysClaim ys))) ⌝ }
+{
+    if fragment_among(s, t, gaps, there) {
+        return true;
+    }
+    let words = load(s, there);
+    fragment_holds(&words, t, gaps)
+}
+
+// The same for the plug of the second entry into a gap of the first.
+pub fn plug_within(s: &[u8], first: usize, gap: u8, second: usize, there: usize) -> bool
+    ensures { λ r. ⌜ ((xs ys zs : List Fact) → Listed Context.TemplateFacts (now (s .entry)) first xs → Listed Context.TemplateFacts (now (s .entry)) second ys → Listed Context.TemplateFacts (now (s .entry)) there zs → Decides r (Within (plugSummary gap (held saysClaim xs) (held saysClaim ys)) (held saysClaim zs))) ⌝ }
+{
+    let words = load(s, there);
+    plug_holds(s, first, gap, second, &words)
+}
+
+// The same for the plug of strings into an attribute gap of an entry.
+pub fn fill_within(s: &[u8], from: usize, attribute: u8, strings: Strings, there: usize) -> bool
+    ensures { λ r. ⌜ ((xs : List Fact) (Y : Summaries.Strings) (zs : List Fact) → Listed Context.TemplateFacts (now (s .entry)) from xs → ((t : ℕ) → Y t ≡ isOf strings t) → Listed Context.TemplateFacts (now (s .entry)) there zs → Decides r (Within (plugStringSummary attribute (held saysClaim xs) Y) (held saysClaim zs))) ⌝ }
+{
+    let words = load(s, there);
+    fill_holds(s, from, attribute, strings, &words)
 }

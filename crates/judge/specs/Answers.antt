@@ -1,13 +1,12 @@
--- What the judge of a page answers once its vocabulary, or the page too, was read; and the four numbers that a host is given.
+-- What the judge of a page answers once its vocabulary, or the page too, was read.
 use Prim.Native.Nat.{ℕ}
 use mathlib.Core.Path.{_≡_}
-use mathlib.Core.List.{List, [], _∷_}
+use mathlib.Core.List.{List}
 use mathlib.Core.Bool.{cond}
 use Rattle.verdicts.specs.declared.Fault.the-variants.{NotRoot}
 use Rattle.verdicts.specs.declared.Refusal.the-variants as Refusals
 use Rattle.verdicts.specs.declared.Verdict.{Verdict}
 use Rattle.verdicts.specs.declared.Verdict.the-variants.{Accepted, Refused}
-use Rattle.verdicts.specs.declared.Numbers.{Numbers}
 use Rattle.commands.specs.Reading.{whole, enough}
 use Rattle.vocabularies.specs.declared.Tables.{Tables}
 use Rattle.vocabularies.specs.Vocabulary.{Vocabulary, declared}
@@ -33,6 +32,3 @@ JudgesRead v p t r = (D : Vocabulary) → Describes v D t → (φ : Items) (end 
 -- The same of any page.
 abbrev pub JudgesPage : List ℕ → List ℕ → Tables → Verdict → Type 0
 JudgesPage v p t r = (D : Vocabulary) → Describes v D t → r ≡ judged D (pageSlice D p)
-
-abbrev pub four : Numbers → List ℕ
-four n = n .n ∷ n .a ∷ n .b ∷ n .c ∷ []

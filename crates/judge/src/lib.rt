@@ -3,10 +3,9 @@ ghost use mathlib.Core.Path.{_≡_};
 ghost use mathlib.Core.Bool.{cond};
 ghost use lib.Dec.{eqb};
 ghost use Rattle.commands.specs.Commands.{byte};
-ghost use Rattle.verdicts.specs.Printed.{numbersOf};
 ghost use Rattle.judging.specs.Judgement.{pageVerdict, wrongVerdict};
 ghost use Rattle.judging.specs.Promises.{wrongOf};
-ghost use Rattle.judge.specs.Answers.{notRoot, firstRefusal, JudgesRead, JudgesPage, four};
+ghost use Rattle.judge.specs.Answers.{notRoot, firstRefusal, JudgesRead, JudgesPage};
 use commands::Part;
 use commands::Position;
 use verdicts::Fault;
@@ -133,14 +132,4 @@ pub fn judge(vocabulary: &[u8], page: &[u8]) -> Verdict
         }
         Part::Refused(form, at) => unreadable(form, at, 0),
     }
-}
-
-// The same for a host: N, A, B and C are written to `verdict`.
-#[no_mangle]
-pub extern "C" fn page_check_judge(vocabulary: &[u8], page: &[u8], verdict: &mut [usize; 4])
-    ensures verdict { λ _. ⌜ now (verdict .exit) ≡ four (numbersOf (pageVerdict (now (vocabulary .entry)) (now (page .entry)))) ⌝ }
-    ensures untouched { λ _. ⌜ (now (vocabulary .exit) ≡ now (vocabulary .entry)) × (now (page .exit) ≡ now (page .entry)) ⌝ }
-{
-    let numbers = verdicts::numbers_of(judge(vocabulary, page));
-    *verdict = [numbers.n, numbers.a, numbers.b, numbers.c];
 }

@@ -1,11 +1,12 @@
 -- What the code that judges promises, in terms of the definitions that read and judge. Each promise is about bytes that read; what
 -- the code answers on others is free, and no public call hands it others.
-use Prim.Native.Nat.{ℕ, zero, suc, _+_, _-_, _%_, _≤_, _<_}
+use Prim.Native.Nat.{ℕ, zero, suc, _+_, _-_, _/_, _%_, _≤_, _<_}
 use mathlib.Core.Path.{_≡_}
 use mathlib.Core.List.{List, [], _∷_}
 use mathlib.Core.Bool.{Bool, true, not, _&&_, _||_}
 use mathlib.Core.Option.{Option, some, none}
 use lib.ListN.{getD}
+use lib.Dec.{eqb}
 use Rattle.sets.specs.Sets.{member}
 use Rattle.commands.specs.Commands.{byte}
 use Rattle.commands.specs.Reading.{whole}
@@ -35,6 +36,10 @@ tableAtoms named strings inside preceding = record {
 -- The value and the end of the formula that stands at an offset.
 abbrev pub Holds : Atoms → List ℕ → ℕ → Held → Type 0
 Holds A v at r = (f depth end : ℕ) (ψ : Formula) → formula f v depth at ≡ whole ψ end → (r .next .at ≡ end) × (r .value ≡ truthOf A ψ)
+
+-- The two in one number: twice the end, and 1 for true.
+abbrev pub heldOf : ℕ → Held
+heldOf r = record { value = eqb (r % 2) 1; next = record { at = r / 2 } }
 
 -- No formula of formulas stands at an offset.
 abbrev pub NoConnective : List ℕ → ℕ → Type 0

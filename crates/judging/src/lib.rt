@@ -3,30 +3,19 @@ ghost use mathlib.Core.Path.{_≡_};
 ghost use mathlib.Core.Bool.{cond, not, _&&_, _||_};
 ghost use mathlib.Core.Option.{some};
 ghost use mathlib.Core.List.{List, [], _∷_, _++_};
-ghost use Prim.Native.Nat.{ℕ, _%_, _^_, _≤_, _<_};
+ghost use Prim.Native.Nat.{ℕ, _/_, _%_, _^_, _≤_, _<_};
 ghost use lib.ListN.{length, getD, replicate};
 ghost use lib.Dec.{eqb};
 ghost use Rattle.sets.specs.Sets.{member};
 ghost use Rattle.vocabularies.specs.Vocabulary.{Vocabulary};
 ghost use Rattle.judging.specs.Judgement.{orElse};
-ghost use Rattle.judging.specs.Promises.{tableAtoms, Holds, NoConnective, AllHold, Names, Containing, IsRight, Tabled, SpeltAgain, wrongOf, JudgesItem, JudgesItems};
+ghost use Rattle.judging.specs.Promises.{tableAtoms, heldOf, Holds, NoConnective, AllHold, Names, Containing, IsRight, Tabled, SpeltAgain, wrongOf, JudgesItem, JudgesItems};
 use commands::Position;
 
-// The truth of a formula, and the position after it.
+// The truth of a formula, and the position after it. `heldOf` of the definitions says how code has both in one number.
 pub struct Held {
     pub value: bool,
     pub next: Position,
-}
-
-impl Held {
-    fn new(value: bool, at: usize) -> Self
-        ensures { λ r. ⌜ r ≡ record { value = value; next = record { at = at } } ⌝ }
-    {
-        Held {
-            value,
-            next: Position { at },
-        }
-    }
 }
 
 // The names of an element's attributes, and the position after them.
@@ -94,91 +83,115 @@ fn is_valued(names: u64, strings: &[u8; 32], a: u8, m: u64) -> bool
     is_member(m, strings[k])
 }
 
-// The formula of one command here, for an element with these tables.
+// A truth and the offset after its formula as one number: twice the offset, and 1 for true.
+fn packed(value: bool, next: usize) -> usize
+    requires { ⌜ next < 2 ^ 63 ⌝ }
+    ensures { λ r. ⌜ (heldOf r ≡ record { value = value; next = record { at = next } }) × (r / 2 ≡ next) ⌝ }
+{
+    if value {
+        return next * 2 + 1;
+    }
+    next * 2
+}
+
+// The formula of one command here, for an element with these tables; 0 where none is whole.
 fn atom(
     v: &[u8],
-    here: Position,
+    at: usize,
     names: u64,
     strings: &[u8; 32],
     inside: u64,
     preceding: &[u64; 64],
-) -> Held
-    requires { ⌜ NoConnective (now v) (here .at) ⌝ }
-    ensures forward { λ r. ⌜ here .at ≤ r .next .at ⌝ }
-    ensures truth { λ r. ⌜ Holds (tableAtoms names (now (strings .entry)) inside (now (preceding .entry))) (now (v .entry)) (here .at) r ⌝ }
+) -> usize
+    requires { ⌜ (at < length (now v)) × NoConnective (now v) at ⌝ }
+    ensures forward { λ r. ⌜ (0 < r → at < r / 2) ⌝ }
+    ensures truth { λ r. ⌜ Holds (tableAtoms names (now (strings .entry)) inside (now (preceding .entry))) (now (v .entry)) at (heldOf r) ⌝ }
 {
-    let at = here.at;
-    if v.len() <= at {
-        return Held::new(false, at);
-    }
+    let left = v.len() - at;
     match v[at] {
-        0x13 => Held::new(true, at + 1),
-        0x14 => Held::new(is_member(names, commands::byte_at(v, at + 1)), at + 2),
-        0x15 => Held::new(is_member(inside, commands::byte_at(v, at + 1)), at + 2),
+        0x13 => packed(true, at + 1),
+        0x14 => {
+            if left < 2 {
+                return 0;
+            }
+            packed(is_member(names, v[at + 1]), at + 2)
+        }
+        0x15 => {
+            if left < 2 {
+                return 0;
+            }
+            packed(is_member(inside, v[at + 1]), at + 2)
+        }
         0x16 => {
-            let c = commands::byte_at(v, at + 1);
-            let d = commands::byte_at(v, at + 2);
-            Held::new(is_ordered(inside, preceding, c, d), at + 3)
+            if left < 3 {
+                return 0;
+            }
+            packed(is_ordered(inside, preceding, v[at + 1], v[at + 2]), at + 3)
         }
         0x17 => {
-            let a = commands::byte_at(v, at + 1);
-            let m = commands::set_at(v, at + 2);
-            Held::new(is_valued(names, strings, a, m), at + 10)
+            if left < 10 {
+                return 0;
+            }
+            let m = commands::inner_set(v, at + 2);
+            packed(is_valued(names, strings, v[at + 1], m), at + 10)
         }
-        _ => Held::new(false, at),
+        _ => 0,
     }
 }
 
-// The formula here, for an element with these tables; the forms stand in the order of source 000's grammar, the last five in `atom`.
+// The formula here, for an element with these tables; the forms stand in the order of source 000's grammar, the last five in `atom`. 0
+// where no formula is whole.
 fn holds(
     v: &[u8],
-    here: Position,
+    at: usize,
     names: u64,
     strings: &[u8; 32],
     inside: u64,
     preceding: &[u64; 64],
-) -> Held
-    ensures forward { λ r. ⌜ here .at ≤ r .next .at ⌝ }
-    ensures truth { λ r. ⌜ Holds (tableAtoms names (now (strings .entry)) inside (now (preceding .entry))) (now (v .entry)) (here .at) r ⌝ }
+) -> usize
+    ensures forward { λ r. ⌜ (0 < r → at < r / 2) ⌝ }
+    ensures truth { λ r. ⌜ Holds (tableAtoms names (now (strings .entry)) inside (now (preceding .entry))) (now (v .entry)) at (heldOf r) ⌝ }
 {
-    let at = here.at;
     if v.len() <= at {
-        return Held {
-            value: false,
-            next: here,
-        };
+        return 0;
     }
-    let inner = Position { at: at + 1 };
     match v[at] {
         0x10 => {
-            let first = holds(v, inner, names, strings, inside, preceding);
-            let middle = first.next;
-            let second = holds(v, middle, names, strings, inside, preceding);
-            if first.value {
+            let first = holds(v, at + 1, names, strings, inside, preceding);
+            if first == 0 {
+                return 0;
+            }
+            let second = holds(v, first / 2, names, strings, inside, preceding);
+            if first % 2 == 1 {
                 return second;
             }
-            let next = second.next;
-            Held { value: false, next }
+            second / 2 * 2
         }
         0x11 => {
-            let first = holds(v, inner, names, strings, inside, preceding);
-            let middle = first.next;
-            let second = holds(v, middle, names, strings, inside, preceding);
-            if first.value {
-                let next = second.next;
-                return Held { value: true, next };
+            let first = holds(v, at + 1, names, strings, inside, preceding);
+            if first == 0 {
+                return 0;
             }
-            second
+            let second = holds(v, first / 2, names, strings, inside, preceding);
+            if first % 2 == 0 {
+                return second;
+            }
+            if second == 0 {
+                return 0;
+            }
+            second / 2 * 2 + 1
         }
         0x12 => {
-            let only = holds(v, inner, names, strings, inside, preceding);
-            let next = only.next;
-            Held {
-                value: !only.value,
-                next,
+            let only = holds(v, at + 1, names, strings, inside, preceding);
+            if only == 0 {
+                return 0;
             }
+            if only % 2 == 1 {
+                return only - 1;
+            }
+            only + 1
         }
-        _ => atom(v, here, names, strings, inside, preceding),
+        _ => atom(v, at, names, strings, inside, preceding),
     }
 }
 
@@ -198,19 +211,11 @@ fn all_hold(
         if v[at] != 0x04 {
             return true;
         }
-        let held = holds(
-            v,
-            Position { at: at + 1 },
-            names,
-            strings,
-            inside,
-            preceding,
-        );
-        if !held.value {
+        let held = holds(v, at + 1, names, strings, inside, preceding);
+        if held % 2 == 0 {
             return false;
         }
-        let next = held.next;
-        at = next.at;
+        at = held / 2;
     }
     true
 }

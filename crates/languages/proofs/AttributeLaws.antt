@@ -1,33 +1,32 @@
 -- Attributes of a template, one after the other: every attribute gap has some string to take, or one has none.
 use Prim.Native.Nat.{ℕ, zero, suc, _+_, _^_, _<_, _≤_}
-use mathlib.Core.Path.{_≡_, refl, sym, ap, subst, _∙_}
-use mathlib.Core.List.{List, [], _∷_}
+use mathlib.Core.Path.{_≡_, refl, sym, _∙_}
+use mathlib.Core.List.{List, _∷_}
 use mathlib.Core.Bool.{Bool, true, false, cond, not, _&&_, false≢true}
-use mathlib.Core.Logic.{_⊎_, inl, inr, ⊎-elim}
+use mathlib.Core.Logic.{_⊎_, inl, inr}
 use native.Mathlib.Omega.{arith}
 use lib.Count.{trailingZeros}
 use lib.Dec.{eqb, leb}
 use borrow.Author.Tests.{ne-eqb, eqb-true, eqb-false, leb-true}
-use Rattle.sets.specs.Sets.{member}
 use Rattle.sets.proofs.Laws.{member-zero}
 use Rattle.commands.specs.declared.Context.the-variants.{TemplateAttributes}
 use Rattle.commands.specs.Commands.{attribute, byte, allowed, operandsOf, operandBytes, inRange, allInRange, strings}
 use Rattle.commands.specs.Reading.{whole}
-use Rattle.commands.proofs.Laws.{MovedOver, moved}
+use Rattle.commands.proofs.Laws.{moved}
 use Rattle.pages.specs.declared.Kind.the-variants.{Template}
-use Rattle.pages.specs.Items.{Value, string, open-gap, Attribute}
+use Rattle.pages.specs.Items.{string, open-gap, Attribute}
 use Rattle.pages.specs.ItemReading.{valueAt, attributes}
 use Rattle.pages.proofs.Whole.{never-unfinished, attributes-whole}
 use Rattle.summaries.specs.Proposal as Proposal
 use Rattle.summaries.specs.Summaries.{Summary}
-use Rattle.patterns.specs.Rounds.{anyBelow, valueTakes, attributesTake}
+use Rattle.patterns.specs.Rounds.{valueTakes, attributesTake}
 use Rattle.patterns.proofs.Tests.{or-cases, and-left, and-right, failed, any-below, below-any}
 use Rattle.pattern_sets.proofs.Members.{trailing-held, trailing-below}
 use Rattle.entries.specs.declared.Strings.{Strings}
 use Rattle.entries.specs.Words.{holds, Keeps}
 use Rattle.entries.specs.Passing.{isOf}
 use Rattle.languages.specs.declared.Filled.{Filled}
-use Rattle.languages.specs.Promises.{AttributeTakes, AttributesFilled, FillsAttributes}
+use Rattle.languages.specs.Promises.{AttributeTakes, FillsAttributes}
 
 -- ---- the strings of one gap
 
@@ -70,11 +69,11 @@ pub no-attribute : allowed TemplateAttributes 0 ≡ false
 unfolding allowed
 no-attribute = refl
 
-both-assoc : (a b c : Bool) → (a && (b && c)) ≡ ((a && b) && c)
+pub both-assoc : (a b c : Bool) → (a && (b && c)) ≡ ((a && b) && c)
 both-assoc true b c = refl
 both-assoc false b c = refl
 
-and-true : (a : Bool) → a ≡ (a && true)
+pub and-true : (a : Bool) → a ≡ (a && true)
 and-true true = refl
 and-true false = refl
 

@@ -1,9 +1,11 @@
 -- The sets of the templates to which a gap has edges, joined.
-use Prim.Native.Nat.{ℕ, zero, suc, _+_, _*_, _/_, _<_, _≤_}
-use mathlib.Core.Path.{_≡_, refl, sym, ap, subst, _∙_}
+use Prim.Native.Nat.{ℕ, suc, _+_, _*_, _/_, _<_, _≤_}
+use mathlib.Core.Path.{_≡_, refl, sym, subst, _∙_}
 use mathlib.Core.List.{List, [], _∷_}
 use mathlib.Core.Bool.{Bool, true, false, _&&_, _||_, false≢true}
 use mathlib.Core.Logic.{_⊎_, inl, inr, ⊎-elim}
+use native.Mathlib.Decide.{ℕ-discrete}
+use native.Mathlib.Nat.{add-zero}
 use native.Mathlib.Omega.{arith}
 use lib.ListN.{length, getD, set, length-set}
 use lib.Seq.{getD-set-same, getD-set-other}
@@ -18,20 +20,19 @@ use Rattle.patterns.specs.Given.{Bounded}
 use Rattle.patterns.specs.Rounds.{Sets, anyBelow}
 use Rattle.patterns.proofs.Tests.{or-left, or-right, or-cases, and-both, and-left, and-right, same-test, failed, any-below, below-any}
 use Rattle.pattern_sets.specs.PatternSets.{holds, FirstMember}
-use Rattle.readings.specs.Readings.{Is}
 use Rattle.entries.specs.Words.{Keeps}
-use Rattle.languages.specs.Tables.{SetsAre, gapWords, GapSetsAre}
+use Rattle.languages.specs.Tables.{fourAt, putFour, SetsAre, RowsOf, RowsAre, gapWords, GapSetsAre}
 use Rattle.languages.specs.Promises.{UnionOf}
 
 -- ---- stepping through the templates
 
-module _ (templates : ℕ) (sets : List (List ℕ)) where
+module _ (templates : ℕ) (rows : List ℕ) where
   -- The sets of the templates before a place, which is a template of the set, or 64.
   pub record UnionTo (m : ℕ) (r : List ℕ) : Type 0 where
     pub within : m ≤ 64
     pub is-held : m < 64 → member templates m ≡ true
-    pub complete : (k y : ℕ) → k < m → member templates k ≡ true → holds (getD sets k []) y ≡ true → holds r y ≡ true
-    pub sound : (y : ℕ) → holds r y ≡ true → (k : ℕ) × (k < 32) × (member templates k ≡ true) × (holds (getD sets k []) y ≡ true)
+    pub complete : (k y : ℕ) → k < m → member templates k ≡ true → holds (fourAt rows (k * 4)) y ≡ true → holds r y ≡ true
+    pub sound : (y : ℕ) → holds r y ≡ true → (k : ℕ) × (k < 32) × (member templates k ≡ true) × (holds (fourAt rows (k * 4)) y ≡ true)
 
   pub union-none : (m : ℕ) (r : List ℕ) → FirstMember templates 0 m → ((y : ℕ) → holds r y ≡ false) → UnionTo m r
   union-none m r f none = record {
@@ -42,7 +43,7 @@ module _ (templates : ℕ) (sets : List (List ℕ)) where
   }
 
   module _ (m onto : ℕ) (r more : List ℕ) (low : m < 32) (f : FirstMember templates (m + 1) onto)
-      (both : (y : ℕ) → holds more y ≡ (holds r y || holds (getD sets m []) y)) (so-far : UnionTo m r) where
+      (both : (y : ℕ) → holds more y ≡ (holds r y || holds (fourAt rows (m * 4)) y)) (so-far : UnionTo m r) where
     passed : (k : ℕ) → k < onto → member templates k ≡ true → (k < m) ⊎ (k ≡ m)
     passed k l h = go (ltb k m) refl (ltb m k) refl
       where
@@ -56,21 +57,21 @@ module _ (templates : ℕ) (sets : List (List ℕ)) where
       within = f .within;
       is-held = f .is-held;
       complete = λ k y l h p. both y ∙ ⊎-elim
-          (λ (q : k < m). or-left (holds r y) (holds (getD sets m []) y) (so-far .complete k y q h p))
-          (λ (q : k ≡ m). or-right (holds r y) (holds (getD sets m []) y) (subst (λ (i : ℕ). holds (getD sets i []) y ≡ true) q p))
+          (λ (q : k < m). or-left (holds r y) (holds (fourAt rows (m * 4)) y) (so-far .complete k y q h p))
+          (λ (q : k ≡ m). or-right (holds r y) (holds (fourAt rows (m * 4)) y) (subst (λ (i : ℕ). holds (fourAt rows (i * 4)) y ≡ true) q p))
           (passed k l h);
       sound = λ y h. ⊎-elim
           (λ (q : holds r y ≡ true). so-far .sound y q)
-          (λ (q : holds (getD sets m []) y ≡ true). (m, low, so-far .is-held (omega arith), q))
-          (or-cases (holds r y) (holds (getD sets m []) y) (sym (both y) ∙ h));
+          (λ (q : holds (fourAt rows (m * 4)) y ≡ true). (m, low, so-far .is-held (omega arith), q))
+          (or-cases (holds r y) (holds (fourAt rows (m * 4)) y) (sym (both y) ∙ h));
     }
 
-  pub union-all : (m : ℕ) (r : List ℕ) → 32 ≤ m → UnionTo m r → UnionOf templates sets r
+  pub union-all : (m : ℕ) (r : List ℕ) → 32 ≤ m → UnionTo m r → UnionOf templates rows r
   union-all m r l so-far = record { complete = λ k y h p q. so-far .complete k y (omega arith) p q; sound = so-far .sound }
 
--- ---- the table of a template's gaps
+-- ---- four words
 
-four-words : (s : List ℕ) → length s ≡ 4 → s ≡ getD s 0 0 ∷ getD s 1 0 ∷ getD s 2 0 ∷ getD s 3 0 ∷ []
+pub four-words : (s : List ℕ) → length s ≡ 4 → s ≡ fourAt s 0
 four-words [] e = absurd (omega arith)
 four-words (a ∷ []) e = absurd (omega arith)
 four-words (a ∷ b ∷ []) e = absurd (omega arith)
@@ -108,68 +109,89 @@ module _ (l : List ℕ) (i a b c d : ℕ) where
     stored-3 : getD stored (i + 3) 0 ≡ d
     stored-3 = getD-set-same (set (set (set l i a) (i + 1) b) (i + 2) c) (i + 3) d 0 (simp length-set room)
 
--- A table with the four words of gap g.
-abbrev pub written : List ℕ → ℕ → List ℕ → List ℕ
-written takes g row =
-    set (set (set (set takes (g * 4) (getD row 0 0)) (g * 4 + 1) (getD row 1 0)) (g * 4 + 2) (getD row 2 0)) (g * 4 + 3) (getD row 3 0)
+module _ (table : List ℕ) (i : ℕ) (words : List ℕ) where
+  pub put-length : length (putFour table i words) ≡ length table
+  put-length = simp length-set
 
-module _ (takes : List ℕ) (g : ℕ) (row : List ℕ) (room : length takes ≡ 32) (low : g < 8) where
-  pub written-length : length (written takes g row) ≡ 32
-  written-length = simp length-set room
+  pub put-same : i + 3 < length table → length words ≡ 4 → fourAt (putFour table i words) i ≡ words
+  put-same room four = rw (
+    stored-0 table i (getD words 0 0) (getD words 1 0) (getD words 2 0) (getD words 3 0) room,
+    stored-1 table i (getD words 0 0) (getD words 1 0) (getD words 2 0) (getD words 3 0) room,
+    stored-2 table i (getD words 0 0) (getD words 1 0) (getD words 2 0) (getD words 3 0) room,
+    stored-3 table i (getD words 0 0) (getD words 1 0) (getD words 2 0) (getD words 3 0) room,
+  ) (sym (four-words words four))
 
-  written-here : length row ≡ 4 → gapWords (written takes g row) g ≡ row
-  written-here four = rw (
-    stored-0 takes (g * 4) (getD row 0 0) (getD row 1 0) (getD row 2 0) (getD row 3 0) (omega arith),
-    stored-1 takes (g * 4) (getD row 0 0) (getD row 1 0) (getD row 2 0) (getD row 3 0) (omega arith),
-    stored-2 takes (g * 4) (getD row 0 0) (getD row 1 0) (getD row 2 0) (getD row 3 0) (omega arith),
-    stored-3 takes (g * 4) (getD row 0 0) (getD row 1 0) (getD row 2 0) (getD row 3 0) (omega arith),
-  ) (sym (four-words row four))
-
-  written-there : (k : ℕ) → (k ≡ g → ⊥) → gapWords (written takes g row) k ≡ gapWords takes k
-  written-there k ne = rw (
-    there (k * 4) (omega arith),
-    there (k * 4 + 1) (omega arith),
-    there (k * 4 + 2) (omega arith),
-    there (k * 4 + 3) (omega arith),
-  )
+  there : (j : ℕ) → (j < i) ⊎ (i + 3 < j) → getD (putFour table i words) j 0 ≡ getD table j 0
+  there j apart = stored-other table i (getD words 0 0) (getD words 1 0) (getD words 2 0) (getD words 3 0) j
+      (λ q. off 0 (omega arith) (q ∙ sym (add-zero i))) (λ q. off 1 (omega arith) q) (λ q. off 2 (omega arith) q) (λ q. off 3 (omega arith) q)
     where
-      there : (j : ℕ) → (j / 4 ≡ k) → getD (written takes g row) j 0 ≡ getD takes j 0
-      there j e = stored-other takes (g * 4) (getD row 0 0) (getD row 1 0) (getD row 2 0) (getD row 3 0) j
-          (λ q. ne (omega arith)) (λ q. ne (omega arith)) (λ q. ne (omega arith)) (λ q. ne (omega arith))
+      off : (k : ℕ) → k < 4 → j ≡ i + k → ⊥
+      off k l e = ⊎-elim (λ (h : j < i). omega arith) (λ (h : i + 3 < j). omega arith) apart
 
-pub record GapsTo (words : List ℕ) (n : ℕ) (sets : List (List ℕ)) (g : ℕ) (takes : List ℕ) : Type 0 where
-  pub within : g ≤ 8
-  pub room : length takes ≡ 32
-  pub unions : (k : ℕ) → k < g → UnionOf (getD words (32 + n * 8 + k) 0) sets (gapWords takes k)
+  -- Four words elsewhere stay.
+  pub put-other : (k : ℕ) → (k + 3 < i) ⊎ (i + 3 < k) → fourAt (putFour table i words) k ≡ fourAt table k
+  put-other k apart = rw (there k (away 0 (omega arith) (sym (add-zero k))), there (k + 1) (away 1 (omega arith) refl), there (k + 2) (away 2 (omega arith) refl), there (k + 3) (away 3 (omega arith) refl))
+    where
+      away : (d : ℕ) → d < 4 → {j : ℕ} → j ≡ k + d → (j < i) ⊎ (i + 3 < j)
+      away d l {j} e = ⊎-elim (λ (h : k + 3 < i). inl (omega arith)) (λ (h : i + 3 < k). inr (omega arith)) apart
 
-pub gaps-none : (words : List ℕ) (n : ℕ) (sets : List (List ℕ)) (takes : List ℕ) → length takes ≡ 32 → GapsTo words n sets 0 takes
-gaps-none words n sets takes room = record { within = omega arith; room = room; unions = λ k l. absurd (omega arith) }
+-- ---- the rows of all templates
 
-pub gaps-more : (words : List ℕ) (n : ℕ) (sets : List (List ℕ)) (g : ℕ) (takes row : List ℕ) → g < 8 → length row ≡ 4
-    → UnionOf (getD words (32 + n * 8 + g) 0) sets row → GapsTo words n sets g takes → GapsTo words n sets (g + 1) (written takes g row)
-gaps-more words n sets g takes row low four union so-far = record {
+pub record RowsTo (sets : List (List ℕ)) (n : ℕ) (rows : List ℕ) : Type 0 where
+  pub within : n ≤ 32
+  pub room : length rows ≡ 128
+  pub are : (k : ℕ) → k < n → fourAt rows (k * 4) ≡ getD sets k []
+
+pub rows-none : (sets : List (List ℕ)) (rows : List ℕ) → length rows ≡ 128 → RowsTo sets 0 rows
+rows-none sets rows room = record { within = omega arith; room = room; are = λ k l. absurd (omega arith) }
+
+pub rows-more : (sets : List (List ℕ)) (n : ℕ) (rows row : List ℕ) → n < 32 → row ≡ getD sets n [] → length row ≡ 4 → RowsTo sets n rows
+    → RowsTo sets (n + 1) (putFour rows (n * 4) row)
+rows-more sets n rows row low is four so-far = record {
   within = omega arith;
-  room = written-length takes g row (so-far .room) low;
-  unions = λ k l. go k l (eqb k g) refl;
+  room = put-length rows (n * 4) row ∙ so-far .room;
+  are = λ k l. go k l (ℕ-discrete k n);
 }
   where
-    go : (k : ℕ) → k < g + 1 → (t : Bool) → eqb k g ≡ t → UnionOf (getD words (32 + n * 8 + k) 0) sets (gapWords (written takes g row) k)
-    go k l true e =
-        let q : k ≡ g = eqb-true k g e in
-        rw (q, written-here takes g row (so-far .room) low four) union
-    go k l false e =
-        let ne : k ≡ g → ⊥ = eqb-false k g e in
-        rw (written-there takes g row (so-far .room) low k ne) (so-far .unions k (omega arith))
+    go : (k : ℕ) → k < n + 1 → Dec (k ≡ n) → fourAt (putFour rows (n * 4) row) (k * 4) ≡ getD sets k []
+    go k l (yes q) = rw q (put-same rows (n * 4) row (let h : length rows ≡ 128 = so-far .room in omega arith) four ∙ is)
+    go k l (no ne) = put-other rows (n * 4) row (k * 4) (inl (omega arith)) ∙ so-far .are k (omega arith)
 
-module _ (words : List ℕ) (n : ℕ) (sets : List (List ℕ)) (takes : List ℕ) (few : n < 32) (so-far : GapsTo words n sets 8 takes)
+pub rows-are : (φs : List Items) (M : Morphisms.Morphism) (X : Sets) (sets : List (List ℕ)) (rows : List ℕ) → length φs < 32 → RowsOf sets rows
+    → SetsAre φs M X sets → RowsAre φs M X rows
+rows-are φs M X sets rows few of are n h = rw (of n (omega arith)) (are n h)
+
+-- ---- the table of a template's gaps
+
+pub record GapsTo (words : List ℕ) (n : ℕ) (rows : List ℕ) (g : ℕ) (takes : List ℕ) : Type 0 where
+  pub within : g ≤ 8
+  pub room : length takes ≡ 32
+  pub unions : (k : ℕ) → k < g → UnionOf (getD words (32 + n * 8 + k) 0) rows (gapWords takes k)
+
+pub gaps-none : (words : List ℕ) (n : ℕ) (rows : List ℕ) (takes : List ℕ) → length takes ≡ 32 → GapsTo words n rows 0 takes
+gaps-none words n rows takes room = record { within = omega arith; room = room; unions = λ k l. absurd (omega arith) }
+
+pub gaps-more : (words : List ℕ) (n : ℕ) (rows : List ℕ) (g : ℕ) (takes row : List ℕ) → g < 8 → length row ≡ 4
+    → UnionOf (getD words (32 + n * 8 + g) 0) rows row → GapsTo words n rows g takes → GapsTo words n rows (g + 1) (putFour takes (g * 4) row)
+gaps-more words n rows g takes row low four union so-far = record {
+  within = omega arith;
+  room = put-length takes (g * 4) row ∙ so-far .room;
+  unions = λ k l. go k l (ℕ-discrete k g);
+}
+  where
+    go : (k : ℕ) → k < g + 1 → Dec (k ≡ g) → UnionOf (getD words (32 + n * 8 + k) 0) rows (gapWords (putFour takes (g * 4) row) k)
+    go k l (yes q) = rw (q, put-same takes (g * 4) row (let h : length takes ≡ 32 = so-far .room in omega arith) four) union
+    go k l (no ne) = rw (put-other takes (g * 4) row (k * 4) (inl (omega arith))) (so-far .unions k (omega arith))
+
+module _ (words : List ℕ) (n : ℕ) (rows : List ℕ) (takes : List ℕ) (few : n < 32) (so-far : GapsTo words n rows 8 takes)
     (φs : List Items) (G : Summary) (M : Morphisms.Morphism) (X : Sets) (small : length φs < 32) (bounded : Bounded φs G)
-    (keeps : Keeps words G) (are : SetsAre φs M X sets) where
+    (keeps : Keeps words G) (are : RowsAre φs M X rows) where
   -- A pattern that the table has is that of a template to which there is an edge.
   record Led (g x : ℕ) : Type 0 where
     to : ℕ
     there : to ≤ length φs
     leads : G (edge n g to) ≡ true
-    has : holds (getD sets to []) x ≡ true
+    has : holds (fourAt rows (to * 4)) x ≡ true
 
   led : (g x : ℕ) → g < 8 → holds (gapWords takes g) x ≡ true → Led g x
   led g x l h =

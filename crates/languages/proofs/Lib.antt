@@ -3,4 +3,5 @@ pub mod Closing
 pub mod GapSets
 pub mod AttributeLaws
 pub mod ItemLaws
+pub mod ListLaws
 pub mod RoundLaws

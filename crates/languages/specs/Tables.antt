@@ -2,9 +2,10 @@
 -- template, and for the walk over one template's items a table of what each of its gaps takes. The sets themselves, and what it means
 -- that they are exact, are defined in `patterns`, Rounds and Exactness.
 use Prim.Native.Nat.{ℕ, _+_, _*_, _≤_, _<_}
+use mathlib.Core.Path.{_≡_}
 use mathlib.Core.List.{List, [], _∷_}
 use mathlib.Core.Bool.{_&&_}
-use lib.ListN.{length, getD}
+use lib.ListN.{length, getD, set}
 use Rattle.vocabularies.specs.Vocabulary.{Formula}
 use Rattle.vocabularies.specs.Facts.{factsOf}
 use Rattle.pages.specs.Items.{Items}
@@ -24,13 +25,26 @@ pub data Used : Morphisms.Morphism → Type 0 where
   of-clause : (ψ : Formula) → Used (factMorphism (factsOf ψ))
   of-root : (root : ℕ) → Used (rootMorphism root)
 
--- The sets of all templates that are there, a row for each.
+-- Four words of a table, and a table with four words in place of its own.
+abbrev pub fourAt : List ℕ → ℕ → List ℕ
+fourAt table i = getD table i 0 ∷ getD table (i + 1) 0 ∷ getD table (i + 2) 0 ∷ getD table (i + 3) 0 ∷ []
+
+abbrev pub putFour : List ℕ → ℕ → List ℕ → List ℕ
+putFour table i words = set (set (set (set table i (getD words 0 0)) (i + 1) (getD words 1 0)) (i + 2) (getD words 2 0)) (i + 3) (getD words 3 0)
+
+-- The sets of all templates that are there, a row for each; and the rows one after the other.
 abbrev pub SetsAre : List Items → Morphisms.Morphism → Sets → List (List ℕ) → Type 0
 SetsAre φs M X sets = (n : ℕ) → n ≤ length φs → Is M (getD sets n []) (X n)
 
+abbrev pub RowsAre : List Items → Morphisms.Morphism → Sets → List ℕ → Type 0
+RowsAre φs M X rows = (n : ℕ) → n ≤ length φs → Is M (fourAt rows (n * 4)) (X n)
+
+abbrev pub RowsOf : List (List ℕ) → List ℕ → Type 0
+RowsOf sets rows = (n : ℕ) → n < 32 → fourAt rows (n * 4) ≡ getD sets n []
+
 -- The four words of a gap.
 abbrev pub gapWords : List ℕ → ℕ → List ℕ
-gapWords takes g = getD takes (g * 4) 0 ∷ getD takes (g * 4 + 1) 0 ∷ getD takes (g * 4 + 2) 0 ∷ getD takes (g * 4 + 3) 0 ∷ []
+gapWords takes g = fourAt takes (g * 4)
 
 -- What each gap of template n takes, from the sets of all templates.
 abbrev pub GapSetsAre : List Items → Summary → Morphisms.Morphism → Sets → ℕ → List ℕ → Type 0

@@ -134,16 +134,13 @@ holds-empty x = go (x / 64)
     go (suc (suc (suc zero))) = member-zero (x % 64)
     go (suc (suc (suc (suc q)))) = member-zero (x % 64)
 
-pub tells-empty : (s : List ℕ) (first : ℕ) → length s ≡ 4 → First s 0 first → (t : Bool) → eqb first 256 ≡ t → IsEmpty s t
-tells-empty s first l f true e = λ x. go x (ltb x 256) refl
+pub tells-empty : (s none : List ℕ) → ((x : ℕ) → holds none x ≡ false) → (t : Bool) → Same s none t → IsEmpty s t
+tells-empty s none empty true same = λ x. same x ∙ empty x
+tells-empty s none empty false (x, l, differs) = (x, l, go (holds s x) refl)
   where
-    go : (x : ℕ) (t : Bool) → ltb x 256 ≡ t → holds s x ≡ false
-    go x true b = f .skips x (omega arith) (omega (arith, ltb-true x 256 b, eqb-true first 256 e))
-    go x false b = holds-high s l x (ltb-false x 256 b)
-tells-empty s first l f false e =
-    let ne : first ≡ 256 → ⊥ = eqb-false first 256 e in
-    let b : first < 256 = omega (arith, f .within) in
-    (first, b, f .is-held b)
+    go : (t : Bool) → holds s x ≡ t → holds s x ≡ true
+    go true e = e
+    go false e = absurd (differs (e ∙ sym (empty x)))
 
 module _ (a b : List ℕ) where
   pub differ-at : (q : ℕ) → q < 4 → (t : Bool) → t ≡ false → SameMembers (getD a q 0) (getD b q 0) t → Same a b false

@@ -37,6 +37,15 @@ below (suc n) p t x h = elim (eq-or-lt-of-le (le-of-suc-le-suc h)) [
   | inr l ↦ below n p (second (p n) (allBelow n p) t) x l
 ]
 
+pub passed : (b : Bool) → T b → b ≡ true
+passed true t = refl
+passed false t = absurd t
+
+-- The word that has every number.
+pub all-members : (k : ℕ) → k < 64 → member 0xFFFF_FFFF_FFFF_FFFF k ≡ true
+unfolding member
+all-members k h = passed (member 0xFFFF_FFFF_FFFF_FFFF k) (below 64 (member 0xFFFF_FFFF_FFFF_FFFF) tt k h)
+
 agree : (a b : Bool) → T (same a b) → a ≡ b
 agree true true t = refl
 agree true false t = absurd t

@@ -231,7 +231,7 @@ pub fn next(set: [u64; 4], from: usize) -> usize
 pub fn is_empty(set: [u64; 4]) -> bool
     ensures { λ r. ⌜ IsEmpty set r ⌝ }
 {
-    next(set, 0) == 256
+    same(set, empty())
 }
 
 // Whether two words have the same members.

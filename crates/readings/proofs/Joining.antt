@@ -97,16 +97,17 @@ module _ (r : Reading) (fs : List Fact) (h : ReadsFacts r fs) where
       (λ i. ap (λ (n : ℕ). member n i) s ∙ member-single place i ∙ ap (eqb i) e)
       (omega arith)
 
-  pub single-none : (c place : ℕ) → length fs ≤ place → Places (r .facts) 0 c 0 place → 0 ≡ patternOf fs [] (c ∷ [])
+  -- A content that is no fact.
+  pub absent-none : (c : ℕ) → length fs ≤ placeOf (present c) fs → 0 ≡ patternOf fs [] (c ∷ [])
   unfolding patternOf
-  single-none c place l p = numbered-is fs (flagged [] (c ∷ [])) 0 (h .few) (omega arith)
-      (λ i b. member-zero i ∙ sym (one-flag c (getD fs i (present 0)) ∙ same-place fs (h .distinct) (present c) i b ∙ other i b))
+  absent-none c l = numbered-is fs (flagged [] (c ∷ [])) 0 (h .few) (omega arith)
+      (λ i b. member-zero i ∙ sym (one-flag c (getD fs i (present 0)) ∙ same-place fs (h .distinct) (present c) i b ∙ ne-eqb i (placeOf (present c) fs) (λ q. omega arith)))
       (λ i b. member-zero i)
-    where
-      other : (i : ℕ) → i < length fs → eqb i (placeOf (present c) fs) ≡ false
-      other i b =
-          let e : place ≡ placeOf (present c) fs = p .place fs (h .represents) (h .few) (present c) (content-written c) in
-          ne-eqb i (placeOf (present c) fs) (λ q. omega arith)
+
+  pub single-none : (c place : ℕ) → length fs ≤ place → Places (r .facts) 0 c 0 place → 0 ≡ patternOf fs [] (c ∷ [])
+  single-none c place l p =
+      let e : place ≡ placeOf (present c) fs = p .place fs (h .represents) (h .few) (present c) (content-written c) in
+      absent-none c (omega arith)
 
   module _ (x y : ℕ) (p : x < 2 ^ length fs) (q : y < 2 ^ length fs) where
     -- A flag of the patterns joined by the places that are kept.

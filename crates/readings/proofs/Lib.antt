@@ -5,3 +5,4 @@ pub mod Spreading
 pub mod Joining
 pub mod WordKinds
 pub mod Products
+pub mod FactContents

@@ -9,7 +9,7 @@ use Rattle.sets.specs.Sets.{member}
 use Rattle.vocabularies.specs.declared.Facts.{Facts}
 use Rattle.vocabularies.specs.Facts.{Fact, present}
 use Rattle.vocabularies.specs.VocabularyReading.{mostFacts}
-use Rattle.vocabularies.specs.Promises.{Written, Represents}
+use Rattle.vocabularies.specs.Promises.{Written, Stored, Represents}
 use Rattle.patterns.specs.Morphisms as Morphisms
 use Rattle.patterns.specs.Rounds.{Set, product}
 use Rattle.readings.specs.declared.Reading.{Reading}
@@ -47,6 +47,19 @@ OfReading r P = (R : Morphisms.Morphism) → Reads r R → P R
 -- The pattern of a word of one content.
 abbrev pub ReadsOne : Reading → ℕ → ℕ → Type 0
 ReadsOne r c p = OfReading r (λ R. p ≡ R .of (c ∷ []))
+
+-- A set with the content of the fact at a place.
+pub record AddsContent (t : Facts) (i set r : ℕ) : Type 0 where
+  pub keeps : (c : ℕ) → member set c ≡ true → member r c ≡ true
+  pub adds : (c : ℕ) → Stored t i (present c) → member r (c % 64) ≡ true
+
+-- A set that has every content of the facts.
+abbrev pub HasContents : Facts → ℕ → Type 0
+HasContents t set = OfFacts t (λ fs. (c i : ℕ) → i < length fs → getD fs i (present 0) ≡ present c → member set (c % 64) ≡ true)
+
+-- A word of one content outside the set has the pattern of the empty word.
+abbrev pub TellsContents : Reading → ℕ → Type 0
+TellsContents r set = (c : ℕ) → c < 64 → member set c ≡ false → ReadsOne r c 0
 
 -- Flag j of the result is the flag at place j.
 abbrev pub Spreads : ℕ → List ℕ → ℕ → Type 0

@@ -7,7 +7,7 @@ ghost use Rattle.patterns.specs.Morphisms.{joinKinds, rootMorphism};
 ghost use Rattle.pattern_sets.specs.PatternSets.{holds};
 ghost use Rattle.pattern_sets.specs.Images.{Joined};
 ghost use Rattle.readings.specs.Readings.{Reads};
-ghost use Rattle.readings.specs.Promises.{Places, PlacesBefore, PlacesAfter, AllBefores, AllAfters, KeepsFacts, ReadsOne, Spreads, Joins, HasMore, BothHaveMore, Multiplies};
+ghost use Rattle.readings.specs.Promises.{Places, PlacesBefore, PlacesAfter, AllBefores, AllAfters, KeepsFacts, ReadsOne, AddsContent, HasContents, TellsContents, Spreads, Joins, HasMore, BothHaveMore, Multiplies};
 use vocabularies::Facts;
 use vocabularies::ORDERED;
 use vocabularies::PRESENT;
@@ -169,6 +169,45 @@ pub fn single(r: Reading, c: u8) -> u8
         }
     }
     0
+}
+
+// A set of contents, with that of the fact at a place.
+fn with_content(facts: Facts, i: usize, set: u64) -> u64
+    requires { ⌜ i < 8 ⌝ }
+    ensures { λ r. ⌜ AddsContent facts i set r ⌝ }
+{
+    if facts.kinds[i] != PRESENT {
+        return set;
+    }
+    sets::with(set, facts.firsts[i] % 64)
+}
+
+// The contents of a clause's facts.
+fn present_contents(facts: Facts) -> u64
+    ensures { λ set. ⌜ HasContents facts set ⌝ }
+{
+    let count = facts.count;
+    let mut set: u64 = 0;
+    let mut i = 0;
+    while i < 8 {
+        if count <= i {
+            return set;
+        }
+        set = with_content(facts, i, set);
+        i += 1;
+    }
+    set
+}
+
+// The contents that have another pattern than the empty word, as words of one content, and maybe others.
+pub fn contents(r: Reading) -> u64
+    ensures { λ set. ⌜ TellsContents r set ⌝ }
+{
+    if r.rooted {
+        return 0xFFFF_FFFF_FFFF_FFFF;
+    }
+    let facts = r.facts;
+    present_contents(facts)
 }
 
 // The flags of a pattern at places, in their order.

@@ -1,21 +1,17 @@
 -- What is found in the tables of a show is what the verdict of its job asks there.
-use Prim.Native.Nat.{ℕ, zero, suc, _+_, _-_, _≤_, _<_}
+use Prim.Native.Nat.{ℕ, suc, _-_, _≤_, _<_}
 use native.Mathlib.Omega.{arith}
-use mathlib.Core.Path.{_≡_, refl, sym, ap, subst, _∙_}
+use mathlib.Core.Path.{_≡_, refl, sym, subst, _∙_}
 use mathlib.Core.List.{List, []}
-use mathlib.Core.Bool.{Bool, true, false, cond, _&&_, _||_}
+use mathlib.Core.Bool.{true}
 use mathlib.Core.Option.{Option, some, none}
-use mathlib.Core.Logic.{_↔_}
 use lib.ListN.{length, getD}
-use Rattle.sets.specs.Sets.{member}
 use Rattle.judging.specs.Promises.{wrongOf}
 use Rattle.summaries.specs.Proposal.{root}
 use Rattle.summaries.specs.Summaries.{Summary}
 use Rattle.summaries.specs.Languages.{graphShown}
 use Rattle.jobs.specs.Job.{Job}
 use Rattle.jobs.specs.JobVerdict.{NotRootAt}
-use Rattle.pattern_sets.specs.PatternSets.{holds}
-use Rattle.patterns.specs.Morphisms.{empty, other}
 use Rattle.patterns.specs.Shows.{Least, nowhere, least, Tables, ExactTables, notRoot, lowestOver, lowestRoot, lowestWrongIn, lowestWrong}
 use Rattle.patterns.proofs.Lowest.{least-iff, least-of, least-below, none-of, least-unique, least-test, least-over}
 use Rattle.patterns.proofs.ReadJobs.{GivenJob}

@@ -1,28 +1,25 @@
 -- The lowest wrong element of each template, from what is worked out of a graph whose exact tables are given.
-use Prim.Native.Nat.{ℕ, _≤_, _<_}
+use Prim.Native.Nat.{ℕ, _≤_}
 use native.Mathlib.Omega.{arith}
-use mathlib.Core.Path.{_≡_, refl, sym, ap, _∙_}
+use mathlib.Core.Path.{_≡_, sym, ap, _∙_}
 use mathlib.Core.List.{List}
 use mathlib.Core.Bool.{Bool, true, false, cond}
 use mathlib.Core.Option.{Option, none}
-use lib.ListN.{length, getD}
+use lib.ListN.{length}
 use Rattle.sets.specs.Sets.{member}
 use Rattle.vocabularies.specs.declared.Tables.{Tables}
 use Rattle.programs.specs.Program.{templateAt}
-use Rattle.judging.specs.Promises.{wrongOf}
 use Rattle.jobs.specs.Job.{Job}
 use Rattle.patterns.specs.Morphisms.{rootMorphism}
 use Rattle.patterns.specs.Given.{Bounded}
 use Rattle.patterns.specs.Exactness.{YieldsExact}
-use Rattle.patterns.specs.Elements.{wrongElement}
-use Rattle.patterns.specs.Shows.{lower, lowestMark, ExactTables, lowestWrongIn}
+use Rattle.patterns.specs.Shows.{lower, ExactTables, lowestWrongIn}
 use Rattle.patterns.specs.Shows as Decided
 use Rattle.patterns.proofs.ReadVocabularies.{Bytes}
 use Rattle.patterns.proofs.ReadJobs.{GivenJob, job-given}
 use Rattle.languages.specs.Tables.{SetsAre}
 use Rattle.reach.specs.Promises.{GraphKept, TellsYielding, TellsReached, TellsContents}
 use Rattle.reach.specs.Walking.{RulesKept, ContentsKept, TellsPlainlyWrong}
-use Rattle.reach.specs.PlainlyWrong.{plainlyWrong, wrongByClause}
 use Rattle.reach.proofs.Splitting.{lowest-split}
 use Rattle.elements.specs.Rules.{RulesStand, SearchesRules}
 use Rattle.shows.specs.declared.TemplateTables.{TemplateTables}

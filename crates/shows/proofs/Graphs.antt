@@ -1,17 +1,14 @@
 -- What is found at the show of a graph, 11 before 12.
-use Prim.Native.Nat.{ℕ, _-_, _≤_, _<_}
+use Prim.Native.Nat.{ℕ, _-_, _≤_}
 use native.Mathlib.Omega.{arith}
-use mathlib.Core.Path.{_≡_, refl, sym, ap, subst, _∙_}
+use mathlib.Core.Path.{_≡_, subst}
 use mathlib.Core.List.{List, []}
-use mathlib.Core.Bool.{Bool, true, false, _&&_, _||_}
-use mathlib.Core.Option.{Option, none}
 use lib.ListN.{length, getD}
 use Rattle.vocabularies.specs.declared.Tables.{Tables}
 use Rattle.pages.specs.Items.{Items}
 use Rattle.summaries.specs.Proposal.{root}
 use Rattle.summaries.specs.Summaries.{Summary}
 use Rattle.jobs.specs.Job.{Job}
-use Rattle.pattern_sets.specs.PatternSets.{holds}
 use Rattle.patterns.specs.Morphisms.{Morphism, empty, other, rootMorphism}
 use Rattle.patterns.specs.Rounds.{Sets}
 use Rattle.patterns.specs.Exactness.{Exact}

@@ -2,9 +2,9 @@
 use Prim.Native.Nat.{ℕ, zero, suc, _+_, _-_, _≤_, _<_}
 use native.Mathlib.Omega.{arith}
 use native.Mathlib.Numerals.{add-one}
-use mathlib.Core.Path.{_≡_, refl, sym, ap, subst, _∙_}
+use mathlib.Core.Path.{_≡_, refl, sym, ap, _∙_}
 use mathlib.Core.List.{List, []}
-use mathlib.Core.Bool.{Bool, true, false, cond, _&&_, _||_, not, false≢true}
+use mathlib.Core.Bool.{Bool, true, false, not, false≢true}
 use mathlib.Core.Logic.{_⊎_, inl, inr}
 use mathlib.Core.Option.{Option, some, none}
 use lib.ListN.{getD}
@@ -14,10 +14,9 @@ use Rattle.sets.specs.Sets.{member}
 use Rattle.judging.specs.Promises.{wrongOf}
 use Rattle.pattern_sets.specs.PatternSets.{holds}
 use Rattle.patterns.specs.Morphisms.{empty, other}
-use Rattle.patterns.specs.Shows.{Least, nowhere, least}
-use Rattle.shows.specs.declared.Shown.{Shown}
+use Rattle.patterns.specs.Shows.{nowhere, least}
 use Rattle.shows.specs.declared.Shown.the-variants.{Right, Wrong}
-use Rattle.shows.specs.Promises.{isOther, LowestRoot, IsBelow, Among, LowestIn, LowestWrong}
+use Rattle.shows.specs.Promises.{isOther, LowestRoot, IsBelow, Among, LowestWrong}
 
 not-true : (b : Bool) → not b ≡ true → b ≡ false
 not-true true h = absurd (false≢true h)

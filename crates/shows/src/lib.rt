@@ -1,7 +1,6 @@
 // The shows of a job (document 01, "Verdicts", 11 and 12): what a point shows, and what is wrong in the pages of its language.
 ghost use mathlib.Core.Path.{_≡_};
-ghost use mathlib.Core.Option.{Option};
-ghost use Prim.Native.Nat.{ℕ, _≤_, _<_};
+ghost use Prim.Native.Nat.{_<_};
 ghost use Rattle.shows.specs.Promises.{TellsShow, KeepsGraph, TabledBy, DecidesShow, isOther, LowestRoot, IsBelow, wrongAt, LowestWrong, WrongElements};
 use commands::Position;
 use vocabularies::Tables;

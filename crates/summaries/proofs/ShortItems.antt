@@ -9,7 +9,7 @@ use lib.Dec.{leb}
 use borrow.Author.Tests.{le-leb, lt-ltb}
 use Rattle.verdicts.specs.declared.Form.the-variants.{NotRising}
 use Rattle.commands.specs.declared.Context.{Context}
-use Rattle.commands.specs.declared.Context.the-variants.{TemplateFacts, StringFacts}
+use Rattle.commands.specs.declared.Context.the-variants.{Heads, TemplateFacts, StringFacts}
 use Rattle.commands.specs.declared.Position.{Position}
 use Rattle.commands.specs.declared.Decoded.the-variants.{Moved, Refused}
 use Rattle.commands.specs.declared.Part.{Part}
@@ -17,7 +17,7 @@ use Rattle.commands.specs.declared.Part.the-variants as Parts
 use Rattle.commands.specs.Commands.{byte, Operand, gap, string, template, operandsOf, operandBytes, widths, inRange, allInRange, allowed, command}
 use Rattle.commands.proofs.Laws.{moved, moves, MovedOver}
 use Rattle.summaries.specs.ProposalReading.{factAt, factThere, rank}
-use Rattle.summaries.specs.Promises.{presentAt, Ranked, testedFact, factHere, FactsRead, StepsOver, Short}
+use Rattle.summaries.specs.Promises.{presentAt, Ranked, testedFact, factHere, FactsRead, StepsOver, Short, testedHead, headHere}
 use Rattle.summaries.proofs.Items.{ranked}
 use Rattle.summaries.proofs.Here.{FactStands, fact-not-rising, fact-moves}
 use Rattle.summaries.proofs.Reading.{facts-refused, facts-go-on}
@@ -161,3 +161,16 @@ module _ (x : Context) (count : ℕ) (s : List ℕ) (least at next : ℕ) (S : S
 
   pub short-falls : length s - next < length s - at
   short-falls = let f = over x count s at next S .forward in let i = over x count s at next S .inside in omega arith
+
+-- ---- heads
+
+module _ (points : ℕ) (s : List ℕ) (least at : ℕ) (inside : 2 < length s - at) (is-head : byte s at ≡ 0x40) (p v : ℕ) (p-is : p ≡ byte s (at + 1)) (v-is : v ≡ byte s (at + 2)) where
+  pub short-head : v ≤ 7 → p < points → least ≤ p * 8 + v → (at + 2 < length s) × (headHere points s least at ≡ Moved 0x40 (record { at = at + 3 }))
+  unfolding allowed operandBytes operandsOf allInRange inRange
+  short-head low there rises =
+      let e : at + 1 + 1 ≡ at + 2 = omega arith in
+      let b : byte s (at + 2) ≤ 7 = rw v-is at low in
+      let q : at + 1 + 2 ≡ at + 3 = omega arith in
+      let m = moves Heads s at (omega arith) (rw is-head refl) (rw is-head (omega arith)) (rw (is-head, e, le-leb _ _ b) refl) in
+      let r : Moved 0x40 (record { at = at + 3 }) ≡ command Heads s at = rw (is-head, q) at m in
+      (omega arith, rw (← r, lt-ltb _ _ (rw p-is at there), le-leb _ _ (rw (p-is, v-is) at rises)))

@@ -1,5 +1,6 @@
 // Summaries: what a proposal claims of each variable at the entry of each point.
 ghost use mathlib.Core.Path.{_≡_};
+ghost use mathlib.Core.Bool.{true};
 ghost use Prim.Native.Nat.{ℕ, _+_, _*_, _≤_, _<_};
 ghost use lib.ListN.{length};
 ghost use lib.Dec.{leb};
@@ -227,8 +228,32 @@ fn head_number(s: &[u8], here: Position) -> usize
     (here.operand(s, 1) as usize) * 8 + (here.operand(s, 2) as usize)
 }
 
-// The head that may stand here, at least `least` as p * 8 + v, or `4F`.
-fn head_here(s: &[u8], here: Position, points: usize, least: usize) -> Decoded
+// Whether it is seen at once that a head of a number that is at least `least` stands here.
+fn is_head(s: &[u8], at: usize, points: usize, least: usize) -> bool
+    ensures { λ r. ⌜ (r ≡ true → (at + 2 < length (now (s .entry))) × (headHere points (now (s .entry)) least at ≡ Decoded.Moved 0x40 (record { at = at + 3 }))) ⌝ }
+{
+    if s.len() <= at {
+        return false;
+    }
+    if s.len() - at <= 2 {
+        return false;
+    }
+    if s[at] != 0x40 {
+        return false;
+    }
+    let p = inside(s, at + 1) as usize;
+    let v = inside(s, at + 2) as usize;
+    if 7 < v {
+        return false;
+    }
+    if points <= p {
+        return false;
+    }
+    least <= p * 8 + v
+}
+
+// The head that may stand here, at least `least` as p * 8 + v, or `4F`, test by test.
+fn tested_head(s: &[u8], here: Position, points: usize, least: usize) -> Decoded
     ensures { λ r. ⌜ r ≡ headHere points (now (s .entry)) least (here .at) ⌝ }
 {
     let d = here.command(s, Context::Heads);
@@ -245,6 +270,17 @@ fn head_here(s: &[u8], here: Position, points: usize, least: usize) -> Decoded
         return Decoded::Refused(Form::NotRising, here.at);
     }
     d
+}
+
+// The same, at once where it can be seen.
+fn head_here(s: &[u8], here: Position, points: usize, least: usize) -> Decoded
+    ensures { λ r. ⌜ r ≡ headHere points (now (s .entry)) least (here .at) ⌝ }
+{
+    let at = here.at;
+    if is_head(s, at, points, least) {
+        return Decoded::Moved(0x40, Position { at: at + 3 });
+    }
+    tested_head(s, here, points, least)
 }
 
 // The items that may stand under a head.

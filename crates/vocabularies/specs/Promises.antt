@@ -128,6 +128,12 @@ pub record Describes (s : List ℕ) (D : Vocabulary) (t : Tables) : Type 0 where
   pub rule : (e : ℕ) (r : Rule) → ruleOf (D .rules) e ≡ some r
       → RuleTables s r (getD (t .attributes) e 0) (getD (t .contents) e 0) (getD (t .clauses) e 0)
 
+-- The tables have an entry for each element.
+pub record Long (t : Tables) : Type 0 where
+  pub attributes-long : length (t .attributes) ≡ 64
+  pub contents-long : length (t .contents) ≡ 64
+  pub clauses-long : length (t .clauses) ≡ 64
+
 -- The same before the root is known: the tables of the rules so far.
 abbrev pub DescribesRules : List ℕ → List Rule → Tables → Type 0
 DescribesRules s rs t = Describes s (record { rules = rs; root = t .root }) t

@@ -6,7 +6,7 @@ ghost use mathlib.Core.Logic.{_⊎_};
 ghost use lib.ListN.{length};
 ghost use Rattle.commands.specs.Commands.{byte, setAt};
 ghost use Rattle.vocabularies.specs.Vocabulary.{order};
-ghost use Rattle.vocabularies.specs.Promises.{partOf, StepsOver, AddsMost, Short, FormulaReads, Represents, TellsSame, TellsAmong, Adds, FactsWith, LeafAdds, Gathers, NamesRead, ClausesRead, RuleReads, DescribesRules, AddsRule, rooted, VocabularyReads};
+ghost use Rattle.vocabularies.specs.Promises.{partOf, StepsOver, AddsMost, Short, FormulaReads, Represents, TellsSame, TellsAmong, Adds, FactsWith, LeafAdds, Gathers, NamesRead, ClausesRead, RuleReads, Long, DescribesRules, rooted, VocabularyReads};
 use commands::Context;
 use commands::Decoded;
 use commands::Part;
@@ -256,6 +256,17 @@ fn short_connective(s: &[u8], at: usize, depth: usize, facts: usize) -> usize
     short_formula(s, first / 16, depth + 1, first % 16)
 }
 
+// The same for the formula of a clause: most are one command.
+fn short_clause(s: &[u8], at: usize) -> usize
+    ensures { λ r. ⌜ (0 < r → Short (now (s .entry)) 0 at 0 r) ⌝ }
+{
+    let leaf = short_leaf(s, at, 0);
+    if leaf != 0 {
+        return leaf;
+    }
+    short_connective(s, at, 0, 0)
+}
+
 pub fn no_facts() -> Facts
     ensures { λ r. ⌜ Represents r [] ⌝ }
 {
@@ -410,7 +421,7 @@ pub fn read_clauses(s: &[u8], here: Position) -> Part
             return Part::Whole(place);
         }
         let start = Position { at: at + 1 };
-        let short = short_formula(s, at + 1, 0, 0);
+        let short = short_clause(s, at + 1);
         if short != 0 {
             place = Position { at: short / 16 };
         } else {
@@ -462,7 +473,8 @@ fn read_rule(s: &[u8], here: Position) -> RuleRead
 }
 
 fn no_tables() -> Tables
-    ensures { λ r. ⌜ ((s : List ℕ) → DescribesRules s [] r) ⌝ }
+    ensures long { λ r. ⌜ Long r ⌝ }
+    ensures empty { λ r. ⌜ ((s : List ℕ) → DescribesRules s [] r) ⌝ }
 {
     Tables {
         declared: 0,
@@ -471,20 +483,6 @@ fn no_tables() -> Tables
         clauses: [0usize; 64],
         root: 0,
     }
-}
-
-// The tables with the rule of element `e`, which had none.
-fn with_rule(tables: Tables, e: u8, rule: RuleRead) -> Tables
-    requires { ⌜ e < 64 ⌝ }
-    ensures { λ r. ⌜ AddsRule tables e rule r ⌝ }
-{
-    let i = e as usize;
-    let mut more = tables;
-    more.declared = sets::with(tables.declared, e);
-    more.attributes[i] = rule.attributes;
-    more.contents[i] = rule.contents;
-    more.clauses[i] = rule.clauses;
-    more
 }
 
 // What `05 e` makes of the rules that were read: `e` is the root, if it has a rule.
@@ -536,7 +534,11 @@ pub fn read_vocabulary(s: &[u8]) -> VocabularyRead
         let Part::Whole(end) = part else {
             return VocabularyRead { part, tables };
         };
-        tables = with_rule(tables, e, rule);
+        let i = e as usize;
+        tables.declared = sets::with(tables.declared, e);
+        tables.attributes[i] = rule.attributes;
+        tables.contents[i] = rule.contents;
+        tables.clauses[i] = rule.clauses;
         place = end;
     }
 }

@@ -1,5 +1,4 @@
 -- By what was found.
-use Prim.Native.Nat.{ℕ}
 use mathlib.Core.Path.{sym, ap}
 use borrow.Author.Needs.{needs}
 use Rattle.checker.specs.Promises.{faultAt}

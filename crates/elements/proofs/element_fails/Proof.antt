@@ -7,8 +7,8 @@ use Rattle.elements.proofs.element_fails.Tie as tie
 attributes-of-requires : tie.Need-attributes-of-requires
 attributes-of-requires c κs = search needs
 
-list-patterns-requires : tie.Need-list-patterns-requires
-list-patterns-requires c κs = search needs
+contents-of-requires : tie.Need-contents-of-requires
+contents-of-requires c κs = search needs
 
 product-requires : tie.Need-product-requires
 product-requires c κs = search needs
@@ -18,19 +18,19 @@ clause-fails-requires c κs = search needs
 
 returns : tie.Need-returns
 returns c =
-    let args = c .before .before .before .before .before .before .before .before .before .before .args in
-    let outer = c .before .before .before .before .before .before .before .attributes-of in
-    let inner = c .before .before .before .before .before .list-patterns in
+    let args = c .before .before .before .before .before .before .before .before .before .args in
+    let outer = c .before .before .before .before .before .before .attributes-of in
+    let inner = c .before .before .before .contents-of in
     let joined = c .before .before .product in
     clause-tested (args .s .now) (args .start .at) (args .clause) (args .words .now) (args .takes .now) (args .n)
-    (outer .result) (outer .ensures .1) (inner .result) (inner .ensures .1) (joined .result) (joined .ensures) (c .clause-fails .result) (c .clause-fails .ensures .1)
+    (outer .result) (outer .ensures .1) (inner .result) (inner .ensures) (joined .result) (joined .ensures) (c .clause-fails .result) (c .clause-fails .ensures .1)
 
 pub element-fails-spec : {M : Type 1} → statement M
 element-fails-spec =
     tie.close
     (tie.spec
     attributes-of-requires
-    list-patterns-requires
+    contents-of-requires
     product-requires
     clause-fails-requires
     returns)

@@ -9,15 +9,15 @@ use Rattle.elements.proofs.search_rule.Statement.{statement}
 use Rattle.elements.proofs.search_rule.Tie as tie
 
 abbrev Inv-loop : tie.InvT-loop
-Inv-loop s e from words starts count chosen lowest₀ at₀ lowest at = Ruling s e from words starts count chosen lowest₀ at lowest
+Inv-loop s e from words starts count chosen yields lowest₀ at₀ lowest at = Ruling s e from words starts count chosen yields lowest₀ at lowest
 
 abbrev μ-loop : tie.MeasureT-loop
-μ-loop s e from words starts count chosen lowest₀ at₀ lowest at = length s - at
+μ-loop s e from words starts count chosen yields lowest₀ at₀ lowest at = length s - at
 
 returns : tie.Need-returns Inv-loop μ-loop
 returns c =
     let args = c .before .before .args in
-    rule-nowhere (args .s .now) (args .e) (args .from) (args .words .now) (args .starts .now) (args .count) (args .chosen) (args .table) (c .if1 .taken)
+    rule-nowhere (args .s .now) (args .e) (args .from) (args .words .now) (args .starts .now) (args .count) (args .chosen) (args .yields) (args .table) (c .if1 .taken)
 
 loop-holds : tie.Need-loop-holds Inv-loop μ-loop
 loop-holds c = record { goes = λ r S. S }
@@ -40,8 +40,8 @@ add-clause-of-2 c = omega (arith, clause-inside (c .before .before .before .befo
 clause-of-requires : tie.Need-clause-of-requires Inv-loop μ-loop
 clause-of-requires c κs = search needs
 
-search-templates-requires : tie.Need-search-templates-requires Inv-loop μ-loop
-search-templates-requires c κs = search needs
+search-clause-requires : tie.Need-search-clause-requires Inv-loop μ-loop
+search-clause-requires c κs = search needs
 
 loop-less : tie.Need-loop-less Inv-loop μ-loop
 loop-less c = omega (arith, c .before .before .before .before .gather .ensures .onward, clause-inside (c .before .before .before .before .before .before .before .before .before .before .before .args .s .now) (c .before .before .before .before .before .before .before .before .loop .at) (sym (c .before .before .before .before .before .before .before .byte-at .ensures) ∙ c .before .before .before .before .before .before .if2 .taken))
@@ -52,9 +52,9 @@ loop-again c =
     let l = c .before .before .before .before .before .before .before .before .loop in
     let gathered = c .before .before .before .before .gather in
     let clause = c .before .before .clause-of in
-    let more = c .before .search-templates in
+    let more = c .before .search-clause in
     record {
-      goes = λ r S. l .inv .goes r (rule-goes (args .s .now) (args .e) (l .at) (args .words .now) (args .starts .now) (args .count) (args .chosen) (l .lowest)
+      goes = λ r S. l .inv .goes r (rule-goes (args .s .now) (args .e) (l .at) (args .words .now) (args .starts .now) (args .count) (args .chosen) (args .yields) (l .lowest)
           (c .before .before .before .before .before .no-facts .result) (c .before .before .before .before .before .no-facts .ensures) (gathered .result) (gathered .ensures) (clause .result) (clause .ensures)
           (more .result) (more .ensures) (sym (c .before .before .before .before .before .before .before .byte-at .ensures) ∙ c .before .before .before .before .before .before .if2 .taken) r S);
     }
@@ -63,7 +63,7 @@ returns-2 : tie.Need-returns-2 Inv-loop μ-loop
 returns-2 c =
     let args = c .before .before .before .before .before .args in
     let l = c .before .before .loop in
-    l .inv .goes (l .lowest) (rule-ends (args .s .now) (args .e) (l .at) (args .words .now) (args .starts .now) (args .count) (args .chosen) (l .lowest)
+    l .inv .goes (l .lowest) (rule-ends (args .s .now) (args .e) (l .at) (args .words .now) (args .starts .now) (args .count) (args .chosen) (args .yields) (l .lowest)
     (λ q. c .if2 .left (c .before .byte-at .ensures ∙ q)))
 
 pub search-rule-spec : {M : Type 1} → statement M
@@ -80,7 +80,7 @@ search-rule-spec =
     gather-requires
     add-clause-of-2
     clause-of-requires
-    search-templates-requires
+    search-clause-requires
     loop-less
     loop-again
     returns-2)

@@ -4,8 +4,8 @@ use Rattle.elements.proofs.Templates.{template-searched}
 use Rattle.elements.proofs.search_template.Statement.{statement}
 use Rattle.elements.proofs.search_template.Tie as tie
 
-gap-sets-requires : tie.Need-gap-sets-requires
-gap-sets-requires c κs = search needs
+takes-of-requires : tie.Need-takes-of-requires
+takes-of-requires c κs = search needs
 
 search-items-requires : tie.Need-search-items-requires
 search-items-requires c κs = search needs
@@ -13,9 +13,9 @@ search-items-requires c κs = search needs
 returns : tie.Need-returns
 returns c =
     let args = c .before .before .before .before .args in
-    let gaps = c .before .before .gap-sets in
-    template-searched (args .s .now) (args .from) (args .clause) (args .words .now) (args .rows) (args .n) (gaps .result) (gaps .ensures)
+    let gaps = c .before .before .takes-of in
+    template-searched (args .s .now) (args .from) (args .clause) (args .words .now) (args .rows .now) (args .n) (gaps .result) (gaps .ensures)
     (c .search-items .result) (c .search-items .ensures .1)
 
 pub search-template-spec : {M : Type 1} → statement M
-search-template-spec = tie.close (tie.spec gap-sets-requires search-items-requires returns)
+search-template-spec = tie.close (tie.spec takes-of-requires search-items-requires returns)

@@ -1,25 +1,51 @@
 -- The command's bytes are few, so the offset after it fits.
-use native.Mathlib.Omega.{arith}
+use mathlib.Core.Path.{refl}
 use borrow.Author.Needs.{needs}
-use Rattle.entries.proofs.Walks.{few-bytes}
+use Rattle.commands.specs.Commands.{operandsOf, operandBytes}
+use native.Mathlib.Omega.{arith}
+use Rattle.entries.proofs.Walks.{few-bytes, over-as}
 use Rattle.entries.proofs.over.Statement.{statement}
 use Rattle.entries.proofs.over.Tie as tie
-
-add-result : tie.Need-add-result
-add-result c = search needs
 
 byte-at-requires : tie.Need-byte-at-requires
 byte-at-requires c κs = search needs
 
+add-result : tie.Need-add-result
+add-result c = search needs
+
+add-result-2 : tie.Need-add-result-2
+add-result-2 c = search needs
+
+add-result-3 : tie.Need-add-result-3
+add-result-3 c = search needs
+
 operand-bytes-requires : tie.Need-operand-bytes-requires
 operand-bytes-requires c κs = search needs
 
-add-result-2 : tie.Need-add-result-2
-add-result-2 c = omega (arith, few-bytes (c .before .byte-at .result), c .operand-bytes .ensures)
+add-result-4 : tie.Need-add-result-4
+add-result-4 c = omega (arith, few-bytes (c .before .before .byte-at .result), c .operand-bytes .ensures)
 
 returns : tie.Need-returns
-returns c = rw (c .operand-bytes .ensures, c .before .byte-at .ensures)
+unfolding operandBytes operandsOf
+returns c = over-as (c .before .before .before .args .s .now) (c .before .before .before .args .at) _ 1 0x22 (c .before .byte-at .ensures) (c .match .keys1) refl
+
+returns-2 : tie.Need-returns-2
+unfolding operandBytes operandsOf
+returns-2 c = over-as (c .before .before .before .args .s .now) (c .before .before .before .args .at) _ 3 0x42 (c .before .byte-at .ensures) (c .match .keys2) refl
+
+returns-3 : tie.Need-returns-3
+returns-3 c = rw (c .operand-bytes .ensures, c .before .before .byte-at .ensures)
 
 pub over-spec : {M : Type 1} → statement M
 over-spec =
-    tie.close (tie.spec add-result byte-at-requires operand-bytes-requires add-result-2 returns)
+    tie.close
+    (tie.spec
+    byte-at-requires
+    add-result
+    add-result-2
+    add-result-3
+    operand-bytes-requires
+    add-result-4
+    returns
+    returns-2
+    returns-3)

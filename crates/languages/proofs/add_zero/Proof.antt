@@ -5,10 +5,6 @@ use borrow.Author.Needs.{needs}
 use Rattle.languages.proofs.Closing.{ZeroedTo, zeroed-none, zeroed-more, zeroed-all}
 use Rattle.languages.proofs.add_zero.Statement.{statement}
 use Rattle.languages.proofs.add_zero.Tie as tie
-use Rattle.languages.proofs.add_zero.Reads as reads
-use Rattle.languages.proofs.add_zero.Lts as lts
-use Rattle.pattern_sets.proofs.first_member.Reads as first-member-reads
-use Rattle.sets.proofs.with.Reads as with-reads
 
 abbrev Inv-loop : tie.InvT-loop
 Inv-loop words₀ templates first n₀ words n = ZeroedTo templates first words₀ n words

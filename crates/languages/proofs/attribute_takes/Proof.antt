@@ -4,11 +4,6 @@ use Rattle.languages.proofs.AttributeLaws.{other-takes, gap-takes}
 use borrow.Author.Needs.{needs}
 use Rattle.languages.proofs.attribute_takes.Statement.{statement}
 use Rattle.languages.proofs.attribute_takes.Tie as tie
-use Rattle.languages.proofs.attribute_takes.Reads as reads
-use Rattle.languages.proofs.attribute_takes.Lts as lts
-use Rattle.commands.proofs.Position.operand.Reads as operand-reads
-use Rattle.commands.proofs.byte_at.Reads as byte-at-reads
-use Rattle.languages.proofs.takes_string.Reads as takes-string-reads
 
 byte-at-requires : tie.Need-byte-at-requires
 byte-at-requires c κs = search needs

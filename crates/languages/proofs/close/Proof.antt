@@ -6,10 +6,6 @@ use borrow.Author.Needs.{needs}
 use Rattle.languages.proofs.Closing.{ClosedTo, closed-none, first-small, closed-more, closed-keeps}
 use Rattle.languages.proofs.close.Statement.{statement}
 use Rattle.languages.proofs.close.Tie as tie
-use Rattle.languages.proofs.close.Reads as reads
-use Rattle.languages.proofs.close.Lts as lts
-use Rattle.languages.proofs.add_zero.Reads as add-zero-reads
-use Rattle.languages.proofs.first_word.Reads as first-word-reads
 
 abbrev Inv-loop : tie.InvT-loop
 Inv-loop words closed₀ k₀ closed k = ClosedTo words k closed

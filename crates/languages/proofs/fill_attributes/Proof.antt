@@ -11,11 +11,6 @@ use Rattle.entries.proofs.Walks.{inside}
 use Rattle.languages.proofs.AttributeLaws.{Filling, no-attribute, adds-all, no-more, one-more}
 use Rattle.languages.proofs.fill_attributes.Statement.{statement}
 use Rattle.languages.proofs.fill_attributes.Tie as tie
-use Rattle.languages.proofs.fill_attributes.Reads as reads
-use Rattle.languages.proofs.fill_attributes.Lts as lts
-use Rattle.languages.proofs.attribute_takes.Reads as attribute-takes-reads
-use Rattle.languages.proofs.both.Reads as both-reads
-use Rattle.languages.proofs.is_attribute.Reads as is-attribute-reads
 
 abbrev Inv-loop : tie.InvT-loop
 Inv-loop s n words at₀ all₀ at all = Filling words n s at₀ at all

@@ -3,8 +3,6 @@ use borrow.Author.Tests.{lt-ltb, le-ltb}
 use borrow.Author.Needs.{needs}
 use Rattle.languages.proofs.first_word.Statement.{statement}
 use Rattle.languages.proofs.first_word.Tie as tie
-use Rattle.languages.proofs.first_word.Reads as reads
-use Rattle.languages.proofs.first_word.Lts as lts
 
 add-result : tie.Need-add-result
 add-result c = search needs

@@ -1,12 +1,8 @@
 -- The empty word's pattern changes nothing.
-use Rattle.languages.proofs.ItemLaws.{follows-unit, follows-product}
+use Rattle.languages.proofs.ListLaws.{follows-unit, follows-product}
 use borrow.Author.Needs.{needs}
 use Rattle.languages.proofs.followed.Statement.{statement}
 use Rattle.languages.proofs.followed.Tie as tie
-use Rattle.languages.proofs.followed.Reads as reads
-use Rattle.languages.proofs.followed.Lts as lts
-use Rattle.languages.proofs.is_unit.Reads as is-unit-reads
-use Rattle.readings.proofs.product.Reads as product-reads
 
 is-unit-requires : tie.Need-is-unit-requires
 is-unit-requires c κs = search needs

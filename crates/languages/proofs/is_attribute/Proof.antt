@@ -4,9 +4,6 @@ use Rattle.commands.specs.Commands.{allowed}
 use borrow.Author.Needs.{needs}
 use Rattle.languages.proofs.is_attribute.Statement.{statement}
 use Rattle.languages.proofs.is_attribute.Tie as tie
-use Rattle.languages.proofs.is_attribute.Reads as reads
-use Rattle.languages.proofs.is_attribute.Lts as lts
-use Rattle.commands.proofs.byte_at.Reads as byte-at-reads
 
 byte-at-requires : tie.Need-byte-at-requires
 byte-at-requires c κs = search needs

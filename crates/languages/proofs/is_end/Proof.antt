@@ -3,9 +3,6 @@ use borrow.Author.Tests.{eq-eqb, ne-eqb}
 use borrow.Author.Needs.{needs}
 use Rattle.languages.proofs.is_end.Statement.{statement}
 use Rattle.languages.proofs.is_end.Tie as tie
-use Rattle.languages.proofs.is_end.Reads as reads
-use Rattle.languages.proofs.is_end.Lts as lts
-use Rattle.commands.proofs.byte_at.Reads as byte-at-reads
 
 byte-at-requires : tie.Need-byte-at-requires
 byte-at-requires c κs = search needs

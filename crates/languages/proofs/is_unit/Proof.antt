@@ -1,12 +1,8 @@
 -- The set of one pattern, 0.
-use Rattle.languages.proofs.ItemLaws.{same-unit}
+use Rattle.languages.proofs.ListLaws.{same-unit}
 use borrow.Author.Needs.{needs}
 use Rattle.languages.proofs.is_unit.Statement.{statement}
 use Rattle.languages.proofs.is_unit.Tie as tie
-use Rattle.languages.proofs.is_unit.Reads as reads
-use Rattle.languages.proofs.is_unit.Lts as lts
-use Rattle.pattern_sets.proofs.only.Reads as only-reads
-use Rattle.pattern_sets.proofs.same.Reads as same-reads
 
 only-requires : tie.Need-only-requires
 only-requires c κs = search needs

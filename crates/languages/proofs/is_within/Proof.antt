@@ -3,10 +3,6 @@ use Rattle.languages.proofs.RoundLaws.{tells-within}
 use borrow.Author.Needs.{needs}
 use Rattle.languages.proofs.is_within.Statement.{statement}
 use Rattle.languages.proofs.is_within.Tie as tie
-use Rattle.languages.proofs.is_within.Reads as reads
-use Rattle.languages.proofs.is_within.Lts as lts
-use Rattle.pattern_sets.proofs.difference.Reads as difference-reads
-use Rattle.pattern_sets.proofs.is_empty.Reads as is-empty-reads
 
 difference-requires : tie.Need-difference-requires
 difference-requires c κs = search needs

@@ -5,8 +5,6 @@ use native.Mathlib.Omega.{arith}
 use borrow.Author.Needs.{needs}
 use Rattle.languages.proofs.taken.Statement.{statement}
 use Rattle.languages.proofs.taken.Tie as tie
-use Rattle.languages.proofs.taken.Reads as reads
-use Rattle.languages.proofs.taken.Lts as lts
 
 cast-i : tie.Need-cast-i
 cast-i c = search needs

@@ -3,9 +3,6 @@ use Rattle.languages.proofs.AttributeLaws.{any-taken, named-taken}
 use borrow.Author.Needs.{needs}
 use Rattle.languages.proofs.takes_string.Statement.{statement}
 use Rattle.languages.proofs.takes_string.Tie as tie
-use Rattle.languages.proofs.takes_string.Reads as reads
-use Rattle.languages.proofs.takes_string.Lts as lts
-use Rattle.entries.proofs.strings_at.Reads as strings-at-reads
 
 cast-strings-at : tie.Need-cast-strings-at
 cast-strings-at c = search needs

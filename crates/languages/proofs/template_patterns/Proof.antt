@@ -3,11 +3,6 @@ use Rattle.languages.proofs.RoundLaws.{template-zero, template-other}
 use borrow.Author.Needs.{needs}
 use Rattle.languages.proofs.template_patterns.Statement.{statement}
 use Rattle.languages.proofs.template_patterns.Tie as tie
-use Rattle.languages.proofs.template_patterns.Reads as reads
-use Rattle.languages.proofs.template_patterns.Lts as lts
-use Rattle.languages.proofs.gap_sets.Reads as gap-sets-reads
-use Rattle.languages.proofs.list_patterns.Reads as list-patterns-reads
-use Rattle.pattern_sets.proofs.only.Reads as only-reads
 
 only-requires : tie.Need-only-requires
 only-requires c κs = search needs
@@ -15,8 +10,8 @@ only-requires c κs = search needs
 returns : tie.Need-returns
 returns c φs G M X shown are h = template-zero _ _ _ _ φs G M X shown _ (c .before .if1 .taken) _ (c .only .ensures)
 
-gap-sets-requires : tie.Need-gap-sets-requires
-gap-sets-requires c κs = search needs
+gaps-from-requires : tie.Need-gaps-from-requires
+gaps-from-requires c κs = search needs
 
 mul-t11 : tie.Need-mul-t11
 mul-t11 c = search needs
@@ -30,7 +25,7 @@ list-patterns-requires c κs = search needs
 returns-2 : tie.Need-returns-2
 returns-2 c φs G M X shown are h =
     template-other _ _ _ _ φs G M X shown _ (c .before .before .before .before .before .if1 .left) h _
-    (c .before .before .before .before .gap-sets .ensures φs G M X (shown .few) (shown .bounded) (shown .keeps) are) (c .before .list-patterns .result) (c .before .list-patterns .ensures .1)
+    (c .before .before .before .before .gaps-from .ensures φs G M X (shown .few) (shown .bounded) (shown .keeps) are) (c .before .list-patterns .result) (c .before .list-patterns .ensures .1)
 
 pub template-patterns-spec : {M : Type 1} → statement M
 template-patterns-spec =
@@ -38,7 +33,7 @@ template-patterns-spec =
     (tie.spec
     only-requires
     returns
-    gap-sets-requires
+    gaps-from-requires
     mul-t11
     element-copy-out-t14
     list-patterns-requires

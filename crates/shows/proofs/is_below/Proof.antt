@@ -1,5 +1,4 @@
 -- A place that is there is not 0.
-use borrow.Author.Needs.{needs}
 use Rattle.shows.proofs.Lowest.{below-none, below-any, below-ltb}
 use Rattle.shows.proofs.is_below.Statement.{statement}
 use Rattle.shows.proofs.is_below.Tie as tie

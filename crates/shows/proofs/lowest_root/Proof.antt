@@ -1,5 +1,5 @@
 -- No template passed is such a root.
-use Prim.Native.Nat.{_+_, _-_, _≤_, _<_}
+use Prim.Native.Nat.{_+_, _-_, _≤_}
 use native.Mathlib.Omega.{arith}
 use borrow.Author.Needs.{needs}
 use Rattle.shows.proofs.Lowest.{NoneBelow, none-more, root-found, no-root-found}

@@ -5,7 +5,7 @@ use Rattle.vocabularies.proofs.no_tables.Statement.{statement}
 use Rattle.vocabularies.proofs.no_tables.Tie as tie
 
 returns : tie.Need-returns
-returns c = λ s. no-rules s _ refl
+returns c = (record { attributes-long = refl; contents-long = refl; clauses-long = refl }, λ s. no-rules s _ refl)
 
 pub no-tables-spec : {M : Type 1} → statement M
 no-tables-spec = tie.close (tie.spec returns)

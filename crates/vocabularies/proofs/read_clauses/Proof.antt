@@ -21,20 +21,20 @@ byte-at-requires c κs = search needs
 returns : tie.Need-returns Inv-loop μ-loop
 returns c = search clauses-end
 
-add-short-formula : tie.Need-add-short-formula Inv-loop μ-loop
-add-short-formula c = record { fits = search clause-fits }
+add-short-clause : tie.Need-add-short-clause Inv-loop μ-loop
+add-short-clause c = record { fits = search clause-fits }
 
-add-short-formula-2 : tie.Need-add-short-formula-2 Inv-loop μ-loop
-add-short-formula-2 c = record { fits = search clause-fits }
+add-short-clause-2 : tie.Need-add-short-clause-2 Inv-loop μ-loop
+add-short-clause-2 c = record { fits = search clause-fits }
 
-short-formula-requires : tie.Need-short-formula-requires Inv-loop μ-loop
-short-formula-requires c κs = search needs
+short-clause-requires : tie.Need-short-clause-requires Inv-loop μ-loop
+short-clause-requires c κs = search needs
 
 loop-less : tie.Need-loop-less Inv-loop μ-loop
-loop-less c = search (short-falls, c .before .short-formula .ensures)
+loop-less c = search (short-falls, c .before .short-clause .ensures)
 
 loop-again : tie.Need-loop-again Inv-loop μ-loop
-loop-again c = search (clauses-short, c .before .short-formula .ensures)
+loop-again c = search (clauses-short, c .before .short-clause .ensures)
 
 read-formula-requires : tie.Need-read-formula-requires Inv-loop μ-loop
 read-formula-requires c κs = search needs
@@ -72,9 +72,9 @@ read-clauses-spec =
     loop-holds
     byte-at-requires
     returns
-    add-short-formula
-    add-short-formula-2
-    short-formula-requires
+    add-short-clause
+    add-short-clause-2
+    short-clause-requires
     loop-less
     loop-again
     read-formula-requires

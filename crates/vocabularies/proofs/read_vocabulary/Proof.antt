@@ -1,14 +1,17 @@
 -- Each rule is put into the tables; what is read from the next one on is read from the start.
 use borrow.Author.Needs.{needs}
-use Prim.Native.Nat.{_-_}
-use lib.ListN.{length}
+use Prim.Native.Nat.{_-_, _<_}
+use native.Mathlib.Omega.{arith}
+use lib.ListN.{length, length-set}
+use Rattle.vocabularies.specs.Promises.{Long}
 use Rattle.vocabularies.proofs.Parts.{command-fits}
+use Rattle.vocabularies.proofs.Rules.{adds-rule}
 use Rattle.vocabularies.proofs.Vocabularies.{RulesContinue, rules-start, rules-refused, element-fits, rules-rooted, rules-twice, rules-broken, rules-more, rules-fall}
 use Rattle.vocabularies.proofs.read_vocabulary.Statement.{statement}
 use Rattle.vocabularies.proofs.read_vocabulary.Tie as tie
 
 abbrev Inv-loop : tie.InvT-loop
-Inv-loop s place₀ tables₀ place tables = RulesContinue s (place .at) tables
+Inv-loop s place₀ tables₀ place tables = Long tables × RulesContinue s (place .at) tables
 
 abbrev μ-loop : tie.MeasureT-loop
 μ-loop s place₀ tables₀ place tables = length s - place .at
@@ -17,7 +20,7 @@ no-tables-requires : tie.Need-no-tables-requires Inv-loop μ-loop
 no-tables-requires c κs = search needs
 
 loop-holds : tie.Need-loop-holds Inv-loop μ-loop
-loop-holds c = search rules-start
+loop-holds c = (c .no-tables .ensures .0, search rules-start)
 
 command-requires : tie.Need-command-requires Inv-loop μ-loop
 command-requires c κs = search needs
@@ -64,14 +67,47 @@ enum-told-2 c = search needs
 returns-4 : tie.Need-returns-4 Inv-loop μ-loop
 returns-4 c = search rules-broken
 
-with-rule-requires : tie.Need-with-rule-requires Inv-loop μ-loop
-with-rule-requires c κs = search element-fits
+cast-i : tie.Need-cast-i Inv-loop μ-loop
+cast-i c = search needs
+
+with-requires : tie.Need-with-requires Inv-loop μ-loop
+with-requires c κs = search element-fits
+
+mul-tables : tie.Need-mul-tables Inv-loop μ-loop
+mul-tables c = search needs
+
+element-write-tables : tie.Need-element-write-tables Inv-loop μ-loop
+element-write-tables c = search (element-fits, needs)
+
+mul-tables-2 : tie.Need-mul-tables-2 Inv-loop μ-loop
+mul-tables-2 c = search needs
+
+element-write-tables-2 : tie.Need-element-write-tables-2 Inv-loop μ-loop
+element-write-tables-2 c = search (element-fits, needs)
+
+mul-tables-3 : tie.Need-mul-tables-3 Inv-loop μ-loop
+mul-tables-3 c = search needs
+
+element-write-tables-3 : tie.Need-element-write-tables-3 Inv-loop μ-loop
+element-write-tables-3 c = search (element-fits, needs)
 
 loop-less : tie.Need-loop-less Inv-loop μ-loop
 loop-less c = search rules-fall
 
 loop-again : tie.Need-loop-again Inv-loop μ-loop
-loop-again c = search rules-more
+loop-again c =
+    let l = c .before .before .before .before .before .before .before .before .before .before .before .before .before .loop in
+    let e = c .before .before .before .before .before .before .before .before .byte-at in
+    let low : e .result < 64 = search element-fits in
+    let adds = adds-rule (l .tables) (e .result) (c .before .before .before .before .read-rule .result) (c .with .result) (c .with .ensures)
+    (omega (arith, low, l .inv .0 .attributes-long)) (omega (arith, low, l .inv .0 .contents-long)) (omega (arith, low, l .inv .0 .clauses-long)) in (
+      record {
+        attributes-long = simp length-set (l .inv .0 .attributes-long);
+        contents-long = simp length-set (l .inv .0 .contents-long);
+        clauses-long = simp length-set (l .inv .0 .clauses-long);
+      },
+      search (rules-more, adds),
+    )
 
 pub read-vocabulary-spec : {M : Type 1} → statement M
 read-vocabulary-spec =
@@ -96,6 +132,13 @@ read-vocabulary-spec =
     enum-known-part
     enum-told-2
     returns-4
-    with-rule-requires
+    cast-i
+    with-requires
+    mul-tables
+    element-write-tables
+    mul-tables-2
+    element-write-tables-2
+    mul-tables-3
+    element-write-tables-3
     loop-less
     loop-again)

@@ -1,0 +1,69 @@
+-- The gaps before the loop's are passed.
+use Prim.Native.Nat.{_-_}
+use borrow.Author.Needs.{needs}
+use Rattle.languages.proofs.RoundLaws.{TargetsTo, targets-none, targets-more, targets-all}
+use Rattle.languages.proofs.targets.Statement.{statement}
+use Rattle.languages.proofs.targets.Tie as tie
+
+abbrev Inv-loop : tie.InvT-loop
+Inv-loop words n all₀ g₀ all g = TargetsTo words n all g
+
+abbrev μ-loop : tie.MeasureT-loop
+μ-loop words n all₀ g₀ all g = 8 - g
+
+with-requires : tie.Need-with-requires Inv-loop μ-loop
+with-requires c κs = search needs
+
+loop-holds : tie.Need-loop-holds Inv-loop μ-loop
+loop-holds c = targets-none _ _ _ (c .with .ensures 63)
+
+mul-union : tie.Need-mul-union Inv-loop μ-loop
+mul-union c = search needs
+
+add-union : tie.Need-add-union Inv-loop μ-loop
+add-union c = search needs
+
+add-union-2 : tie.Need-add-union-2 Inv-loop μ-loop
+add-union-2 c = search needs
+
+mul-union-2 : tie.Need-mul-union-2 Inv-loop μ-loop
+mul-union-2 c = search needs
+
+element-copy-out-union : tie.Need-element-copy-out-union Inv-loop μ-loop
+element-copy-out-union c = search needs
+
+union-requires : tie.Need-union-requires Inv-loop μ-loop
+union-requires c κs = search needs
+
+add-g : tie.Need-add-g Inv-loop μ-loop
+add-g c = search needs
+
+loop-less : tie.Need-loop-less Inv-loop μ-loop
+loop-less c = search needs
+
+loop-again : tie.Need-loop-again Inv-loop μ-loop
+loop-again c =
+    let l = c .before .before .before .loop in
+    targets-more _ _ (l .all) (l .g) _ (c .before .before .loop-test .taken) (c .union .ensures) (l .inv)
+
+returns : tie.Need-returns Inv-loop μ-loop
+returns c = targets-all _ _ _ _ (c .loop-test .left) (c .before .loop .inv)
+
+pub targets-spec : {M : Type 1} → statement M
+targets-spec =
+    tie.close
+    (tie.spec
+    Inv-loop
+    μ-loop
+    with-requires
+    loop-holds
+    mul-union
+    add-union
+    add-union-2
+    mul-union-2
+    element-copy-out-union
+    union-requires
+    add-g
+    loop-less
+    loop-again
+    returns)
