@@ -39,7 +39,7 @@ all-held x h =
     (below 256 (holds (0xFFFF_FFFF_FFFF_FFFF ∷ 0xFFFF_FFFF_FFFF_FFFF ∷ 0xFFFF_FFFF_FFFF_FFFF ∷ 0xFFFF_FFFF_FFFF_FFFF ∷ [])) tt x h)
 
 -- A pattern of at most eight facts.
-small : (fs : List Fact) → length fs ≤ 8 → (x : ℕ) → x < 2 ^ length fs → x < 256
+pub small : (fs : List Fact) → length fs ≤ 8 → (x : ℕ) → x < 2 ^ length fs → x < 256
 small fs few x h = let p : 2 ^ length fs ≤ 2 ^ 8 = pow-mono few in omega arith
 
 module _ (t : Facts) where

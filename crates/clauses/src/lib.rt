@@ -5,7 +5,7 @@ ghost use Prim.Native.Nat.{ℕ, _≤_, _<_};
 ghost use Rattle.sets.specs.Sets.{member};
 ghost use Rattle.judging.specs.Promises.{NoConnective};
 ghost use Rattle.pattern_sets.specs.PatternSets.{holds, FirstMember};
-ghost use Rattle.clauses.specs.Promises.{Flags, IsPattern, NarrowsAt, Alike, AddsPatterns, ValuePatterns, FlaggedBy, IsUnbroken, IsValued, TruePatterns, ClauseFails};
+ghost use Rattle.clauses.specs.Promises.{Flags, IsPattern, NarrowsAt, Alike, AddsPatterns, ValuePatterns, FlaggedBy, IsUnbroken, IsValued, TruePatterns, ClauseFails, agree, meets, SureValued, SurePatterns, AlwaysHolds};
 use commands::Position;
 use vocabularies::Facts;
 use vocabularies::ORDERED;
@@ -297,4 +297,129 @@ pub fn clause_fails(
     let next = truths.next;
     let fails = !pattern_sets::is_empty(pattern_sets::difference(patterns, set));
     Tested { fails, next }
+}
+
+// The patterns of a set, or those that are not in it.
+fn signed(set: [u64; 4], sign: bool) -> [u64; 4]
+    ensures { λ r. ⌜ ((x : ℕ) → x < 256 → holds r x ≡ agree sign (holds set x)) ⌝ }
+{
+    if sign {
+        return set;
+    }
+    complement(set)
+}
+
+// The patterns of both sets, or of either.
+fn met(left: [u64; 4], right: [u64; 4], both: bool) -> [u64; 4]
+    ensures { λ r. ⌜ ((x : ℕ) → holds r x ≡ meets both (holds left x) (holds right x)) ⌝ }
+{
+    if both {
+        return pattern_sets::intersection(left, right);
+    }
+    pattern_sets::union(left, right)
+}
+
+// Attribute a has a string of the set m. Without the attribute the formula is true, so no pattern makes it false.
+fn sure_valued(facts: Facts, a: u8, m: u64, sign: bool) -> [u64; 4]
+    ensures { λ r. ⌜ SureValued facts a m sign r ⌝ }
+{
+    if sign {
+        return flagged_by(facts, VALUED, a, m);
+    }
+    pattern_sets::empty()
+}
+
+// The formula of one command here.
+fn sure_atoms(s: &[u8], here: Position, facts: Facts, sign: bool) -> Truths
+    requires { ⌜ NoConnective (now s) (here .at) ⌝ }
+    ensures forward { λ r. ⌜ here .at ≤ r .next .at ⌝ }
+    ensures sure { λ r. ⌜ SurePatterns facts sign (now (s .entry)) (here .at) r ⌝ }
+{
+    let at = here.at;
+    if s.len() <= at {
+        return nowhere(here);
+    }
+    match s[at] {
+        0x13 => Truths {
+            set: all_if(sign),
+            next: Position { at: at + 1 },
+        },
+        0x14 => Truths {
+            set: pattern_sets::empty(),
+            next: Position { at: at + 2 },
+        },
+        0x15 => Truths {
+            set: signed(
+                flagged_by(facts, PRESENT, commands::byte_at(s, at + 1), 0),
+                sign,
+            ),
+            next: Position { at: at + 2 },
+        },
+        0x16 => Truths {
+            set: signed(
+                unbroken(
+                    facts,
+                    commands::byte_at(s, at + 1),
+                    commands::byte_at(s, at + 2),
+                ),
+                sign,
+            ),
+            next: Position { at: at + 3 },
+        },
+        0x17 => Truths {
+            set: sure_valued(
+                facts,
+                commands::byte_at(s, at + 1),
+                commands::set_at(s, at + 2),
+                sign,
+            ),
+            next: Position { at: at + 10 },
+        },
+        _ => nowhere(here),
+    }
+}
+
+// Patterns under which the formula here has the truth value `sign` whatever the attributes are, and the position after it.
+fn sure_patterns(s: &[u8], here: Position, facts: Facts, sign: bool) -> Truths
+    ensures forward { λ r. ⌜ here .at ≤ r .next .at ⌝ }
+    ensures sure { λ r. ⌜ SurePatterns facts sign (now (s .entry)) (here .at) r ⌝ }
+{
+    let at = here.at;
+    if s.len() <= at {
+        return nowhere(here);
+    }
+    let inner = Position { at: at + 1 };
+    match s[at] {
+        0x10 => {
+            let first = sure_patterns(s, inner, facts, sign);
+            let left = first.set;
+            let middle = first.next;
+            let second = sure_patterns(s, middle, facts, sign);
+            let right = second.set;
+            let next = second.next;
+            let set = met(left, right, sign);
+            Truths { set, next }
+        }
+        0x11 => {
+            let first = sure_patterns(s, inner, facts, sign);
+            let left = first.set;
+            let middle = first.next;
+            let second = sure_patterns(s, middle, facts, sign);
+            let right = second.set;
+            let next = second.next;
+            let set = met(left, right, !sign);
+            Truths { set, next }
+        }
+        0x12 => sure_patterns(s, inner, facts, !sign),
+        _ => sure_atoms(s, here, facts, sign),
+    }
+}
+
+// Whether the formula here is known to be true under every pattern whatever the attributes are.
+pub fn always_holds(s: &[u8], here: Position, facts: Facts) -> bool
+    ensures { λ r. ⌜ AlwaysHolds facts (now (s .entry)) (here .at) r ⌝ }
+{
+    let truths = sure_patterns(s, here, facts, true);
+    let set = truths.set;
+    pattern_sets::is_empty(complement(set))
 }

@@ -36,7 +36,7 @@ use Rattle.reach.specs.PlainlyWrong.{clauseBy, wrongByClause}
 use Rattle.elements.specs.declared.Clause.{Clause}
 use Rattle.elements.specs.Attributes.{ClauseAt, patternsBy}
 use Rattle.elements.specs.Search.{failsAt}
-use Rattle.elements.specs.Rules.{ClauseOf, Standing, AllYield, Lowered, SearchesClause, SearchesRule, RulesStand, ExactClauses, SearchesRulesGiven}
+use Rattle.elements.specs.Rules.{ClauseOf, Standing, AllYield, Lowered, SearchesClause, SearchesRule, RulesStand, ExactClauses, SearchesRules}
 use Rattle.elements.proofs.LoweredTables.{lowered-nothing, lowered-never, lowered-then, lowered-same, lowered-wider}
 
 -- ---- the clauses of one rule
@@ -202,7 +202,7 @@ module _ (s : List ℕ) (declared : ℕ) (clauses standing words starts : List �
   }
 
   pub ruled-all : (e : ℕ) (lowest : List ℕ) → Ruled e lowest → 64 ≤ e → declared < 2 ^ 64
-      → SearchesRulesGiven s declared clauses standing words starts count reached yields table lowest
+      → SearchesRules s declared clauses standing words starts count reached yields table lowest
   ruled-all e lowest all l narrow φs G D X S Y R H exact = lowered-same φs reached
       (λ n e′ mark δ φ. ltb e′ e && wrongByClause φs G X D n e′ δ φ) (λ n e′ mark δ φ. wrongByClause φs G X D n e′ δ φ) table lowest
       (λ n e′ mark δ φ. go n e′ δ φ (ltb e′ e) refl) (all .lowers φs G D X S Y R H exact)

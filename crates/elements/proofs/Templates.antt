@@ -1,8 +1,8 @@
 -- One clause, template by template.
-use Prim.Native.Nat.{ℕ, _+_, _≤_, _<_}
-use mathlib.Core.Path.{_≡_, refl, sym, subst, _∙_}
+use Prim.Native.Nat.{ℕ, _+_, _^_, _≤_, _<_}
+use mathlib.Core.Path.{_≡_, refl, sym, ap, subst, _∙_}
 use mathlib.Core.List.{List, [], _∷_}
-use mathlib.Core.Bool.{Bool, true, false, cond, not, _&&_, false≢true}
+use mathlib.Core.Bool.{Bool, true, false, cond, not, _&&_, and-false, false≢true}
 use mathlib.Core.Option.{Option, none}
 use native.Mathlib.Omega.{arith}
 use lib.ListN.{length, getD, set, length-set}
@@ -11,33 +11,36 @@ use lib.Dec.{eqb, ltb}
 use borrow.Author.Tests.{eqb-true, eqb-false, ltb-true, ltb-false}
 use Rattle.sets.specs.Sets.{member}
 use Rattle.vocabularies.specs.Vocabulary.{Formula}
-use Rattle.pages.specs.Items.{Items}
+use Rattle.vocabularies.specs.Facts.{factsOf}
+use Rattle.pages.specs.Items.{Attribute, Items}
 use Rattle.pages.specs.Items as Items
+use Rattle.pages.specs.RightPages.{names}
 use Rattle.programs.specs.Program.{templateAt}
+use Rattle.judging.specs.Judgement.{truthOf}
 use Rattle.judging.specs.Promises.{wrongOf}
 use Rattle.summaries.specs.Summaries.{Summary}
-use Rattle.patterns.specs.Morphisms.{Morphism, rootMorphism}
+use Rattle.patterns.specs.Patterns.{atomsBy}
+use Rattle.patterns.specs.Morphisms.{Morphism}
 use Rattle.patterns.specs.Given.{Bounded}
-use Rattle.patterns.specs.Rounds.{Sets, rounds}
+use Rattle.patterns.specs.Rounds.{Sets}
 use Rattle.patterns.specs.Exactness.{Exact}
+use Rattle.patterns.specs.Elements.{elementPatterns, clauseFails}
 use Rattle.patterns.specs.Shows.{lower, lowestMark}
-use Rattle.patterns.proofs.Tests.{and-right}
-use Rattle.patterns.proofs.Lawful.{clause-lawful, root-lawful}
-use Rattle.patterns.proofs.Exact.{takes-exact, exact}
-use Rattle.patterns.proofs.Settling.{settles}
+use Rattle.patterns.proofs.Tests.{and-right, failed, below-any}
+use Rattle.patterns.proofs.Lawful.{clause-lawful}
+use Rattle.patterns.proofs.Exact.{takes-exact}
 use Rattle.pattern_sets.specs.PatternSets.{FirstMember}
-use Rattle.readings.specs.declared.Reading.{Reading}
-use Rattle.readings.specs.Readings.{Reads, of-facts}
+use Rattle.readings.specs.Readings.{of-facts}
+use Rattle.clauses.specs.Promises.{AlwaysHolds}
 use Rattle.entries.specs.Words.{Keeps}
-use Rattle.languages.specs.Tables.{of-clause, of-root, SetsAre, RowsAre, RowsOf, GapSetsAre, Shown}
-use Rattle.reach.specs.Promises as Reach
+use Rattle.languages.specs.Tables.{of-clause, SetsAre, RowsAre, RowsOf, GapSetsAre, Shown}
 use Rattle.elements.specs.declared.Clause.{Clause}
 use Rattle.elements.specs.declared.Searched.{Searched}
 use Rattle.elements.specs.Attributes.{ClauseAt, patternsBy}
 use Rattle.elements.specs.Search.{failsAt, SearchesItems}
-use Rattle.elements.specs.Rules.{InFull, Standing, RowsFor, TakesFor, SearchesTemplate, AllYield, Test, Lowered, SearchesTemplates, SearchesClause, TellsYielding}
+use Rattle.elements.specs.Rules.{InFull, Standing, RowsFor, TakesFor, SearchesTemplate, AllYield, Test, Lowered, SearchesTemplates, SearchesClause}
 use Rattle.elements.proofs.Lowers.{lower-none}
-use Rattle.elements.proofs.LoweredTables.{lowered-parts, lowered-known}
+use Rattle.elements.proofs.LoweredTables.{lowered-never, lowered-parts, lowered-known}
 
 pub template-searched : (s : List ℕ) (from : ℕ) (c : Clause) (words : List ℕ) (rows : List ℕ) (n : ℕ) (takes : List ℕ) → TakesFor c words rows n takes
     → (found : Searched) → SearchesItems s from c words takes n found → SearchesTemplate s from c words rows n (found .wrong)
@@ -185,9 +188,24 @@ module _ (s : List ℕ) (c : Clause) (words starts : List ℕ) (count chosen : �
         let few = S .graph .few in
         lowering-all φs chosen (λ n. failsAt φs G ψ X n (c .element)) table t lowest (omega arith) (T .lowers φs G ψ X S Y C exact)
 
+-- ---- a clause that always holds
+
+never-fails : (s : List ℕ) (c : Clause) (φs : List Items) (G : Summary) (ψ : Formula) (X : Sets) (n : ℕ) (δ : List Attribute) (φ : Items) (always : Bool)
+    → always ≡ true → AlwaysHolds (c .reading .facts) s (c .formula) always → ClauseAt s ψ c → clauseFails φs G ψ X n δ φ ≡ false
+unfolding clauseFails
+never-fails s c φs G ψ X n δ φ always e holds C = failed (clauseFails φs G ψ X n δ φ)
+    (λ q. let (x, b, p) = below-any (2 ^ length (factsOf ψ)) (λ x. elementPatterns φs G (factsOf ψ) X n δ φ x && not (truthOf (atomsBy (factsOf ψ) (names δ) x) ψ)) q in
+    let t = holds e (factsOf ψ) (C .reads .represents) (C .reads .few) (names δ) x b (C .fuel) (C .depth) (C .end) ψ (C .stands) in
+    false≢true (sym (ap not t) ∙ and-right (elementPatterns φs G (factsOf ψ) X n δ φ x) (not (truthOf (atomsBy (factsOf ψ) (names δ) x) ψ)) p))
+
 -- ---- with the templates of which pages come
 
 module _ (s : List ℕ) (c : Clause) (words starts : List ℕ) (count chosen yields : ℕ) (table : List ℕ) where
+  pub clause-always : (always : Bool) → always ≡ true → AlwaysHolds (c .reading .facts) s (c .formula) always
+      → SearchesClause s c words starts count chosen yields table table
+  clause-always always e holds φs G ψ X S Y C exact = lowered-never φs chosen (λ n. failsAt φs G ψ X n (c .element)) table
+      (λ n e′ mark δ φ. ap (λ (b : Bool). eqb e′ (c .element) && b) (never-fails s c φs G ψ X n δ φ always e holds C) ∙ and-false (eqb e′ (c .element)))
+
   pub clause-full : (r : List ℕ) → c .plain ≡ false → SearchesTemplates s c words starts count chosen table r
       → SearchesClause s c words starts count chosen yields table r
   clause-full r about searched φs G ψ X S Y C exact = searched φs G ψ X S (λ plain. absurd (false≢true (sym about ∙ plain))) C exact
@@ -226,23 +244,3 @@ clause-in-full c r is = rw is (record {
     stands = C .stands;
   };
 })
-
--- The templates of which pages come, by the kinds of their pages.
-pub yielding-told : (s words starts : List ℕ) (count : ℕ) (r : Reading) → Reads r (rootMorphism 0) → (kinds : List (List ℕ))
-    → ((φs : List Items) (G : Summary) (M : Morphism) (X : Sets) → Shown r s words starts φs G M → count ≡ length φs → Exact φs G M X → SetsAre φs M X kinds)
-    → (yields : ℕ) → Reach.TellsYielding kinds count yields → TellsYielding s words starts count yields
-yielding-told s words starts count r reads kinds settled yields tells φs G S n h e =
-    let (t, small, rest) = settles φs G (rootMorphism 0) in
-    let K = rounds φs G (rootMorphism 0) t in
-    let K-exact = exact φs G (S .graph .bounded) (rootMorphism 0) (root-lawful 0) t rest in
-    let k = S .graph .counts in
-    let few = S .graph .few in
-    let are = settled φs G (rootMorphism 0) K (record {
-      used = of-root 0;
-      reads = reads;
-      bounded = S .graph .bounded;
-      keeps = S .graph .keeps;
-      few = omega arith;
-      stand = S .stand;
-    }) k K-exact in
-    tells φs G 0 K k few are K-exact n h .0 e

@@ -113,16 +113,8 @@ pub record RulesStand (s : List ℕ) (D : Vocabulary) (declared : ℕ) (clauses 
 abbrev pub ExactClauses : List Items → Summary → Vocabulary → (Formula → Sets) → Type 0
 ExactClauses φs G D X = (e : ℕ) (r : Rule) (ψ : Formula) → ruleOf (D .rules) e ≡ some r → ψ ∈ r .clauses → Exact φs G (patternsBy ψ) (X ψ)
 
--- All clauses of all rules, where pages come of the templates of a set; and without such a set.
-abbrev pub SearchesRulesGiven : List ℕ → ℕ → List ℕ → List ℕ → List ℕ → List ℕ → ℕ → ℕ → ℕ → List ℕ → List ℕ → Type 0
-SearchesRulesGiven s declared clauses standing words starts count reached yields table r = (φs : List Items) (G : Summary) (D : Vocabulary) (X : Formula → Sets)
+-- All clauses of all rules, where pages come of the templates of a set.
+abbrev pub SearchesRules : List ℕ → ℕ → List ℕ → List ℕ → List ℕ → List ℕ → ℕ → ℕ → ℕ → List ℕ → List ℕ → Type 0
+SearchesRules s declared clauses standing words starts count reached yields table r = (φs : List Items) (G : Summary) (D : Vocabulary) (X : Formula → Sets)
     → Standing s φs G words count starts → AllYield φs G yields → RulesStand s D declared clauses → Occurrences φs standing → ExactClauses φs G D X
-    → Lowered φs reached (λ n e mark δ φ. wrongByClause φs G X D n e δ φ) table r
-
-abbrev pub TellsYielding : List ℕ → List ℕ → List ℕ → ℕ → ℕ → Type 0
-TellsYielding s words starts count r = (φs : List Items) (G : Summary) → Standing s φs G words count starts → AllYield φs G r
-
-abbrev pub SearchesRules : List ℕ → ℕ → List ℕ → List ℕ → List ℕ → List ℕ → ℕ → ℕ → List ℕ → List ℕ → Type 0
-SearchesRules s declared clauses standing words starts count reached table r = (φs : List Items) (G : Summary) (D : Vocabulary) (X : Formula → Sets)
-    → Standing s φs G words count starts → RulesStand s D declared clauses → Occurrences φs standing → ExactClauses φs G D X
     → Lowered φs reached (λ n e mark δ φ. wrongByClause φs G X D n e δ φ) table r

@@ -7,7 +7,7 @@ ghost use Rattle.judging.specs.Promises.{wrongOf};
 ghost use Rattle.patterns.specs.Shows.{lower, onlyIf};
 ghost use Rattle.readings.specs.Promises.{OfFacts};
 ghost use Rattle.elements.specs.Attributes.{Tells, TellsAlso, TellsPlain, HasPatterns, TakesAttribute, Attributes};
-ghost use Rattle.elements.specs.Rules.{ClauseOf, InFull, RowsFor, TakesFor, SearchesTemplate, SearchesTemplates, SearchesClause, SearchesRule, SearchesRulesGiven, TellsYielding, SearchesRules};
+ghost use Rattle.elements.specs.Rules.{ClauseOf, InFull, RowsFor, TakesFor, SearchesTemplate, SearchesTemplates, SearchesClause, SearchesRule, SearchesRules};
 ghost use Rattle.elements.specs.Search.{HasContents, ElementFails, SearchesItem, SearchesItems};
 use commands::Position;
 use readings::Reading;
@@ -382,7 +382,7 @@ fn in_full(clause: Clause) -> Clause
 }
 
 // The table made lower by one clause, for the templates of a set; pages come of those that `yields` has. Of these, contents need not be
-// looked at where facts are about attributes alone.
+// looked at where facts are about attributes alone. A clause that always holds makes no element wrong.
 fn search_clause(
     s: &[u8],
     clause: Clause,
@@ -395,6 +395,11 @@ fn search_clause(
 ) -> [usize; 32]
     ensures { λ r. ⌜ SearchesClause (now (s .entry)) clause (now (words .entry)) (now (starts .entry)) count chosen yields table r ⌝ }
 {
+    let reading = clause.reading;
+    let facts = reading.facts;
+    if clauses::always_holds(s, Position { at: clause.formula }, facts) {
+        return table;
+    }
     if !clause.plain {
         return search_templates(s, clause, words, starts, count, chosen, table);
     }
@@ -440,7 +445,7 @@ fn search_rule(
 
 // The table made lower by all clauses of all rules, for the templates that are reached; `standing` has the templates in which each
 // element stands, and pages come of those that `yields` has.
-pub fn search_rules_given(
+pub fn search_rules(
     s: &[u8],
     declared: u64,
     clauses: &[usize; 64],
@@ -452,7 +457,7 @@ pub fn search_rules_given(
     yields: u64,
     table: [usize; 32],
 ) -> [usize; 32]
-    ensures { λ r. ⌜ SearchesRulesGiven (now (s .entry)) declared (now (clauses .entry)) (now (standing .entry)) (now (words .entry)) (now (starts .entry)) count reached yields table r ⌝ }
+    ensures { λ r. ⌜ SearchesRules (now (s .entry)) declared (now (clauses .entry)) (now (standing .entry)) (now (words .entry)) (now (starts .entry)) count reached yields table r ⌝ }
 {
     let mut lowest = table;
     let mut e = occurrences::next_element(declared, 0);
@@ -474,41 +479,4 @@ pub fn search_rules_given(
         e = occurrences::next_element(declared, e + 1);
     }
     lowest
-}
-
-// The templates of which pages come.
-fn yielding(s: &[u8], words: &[u64; 544], starts: &[usize; 32], count: usize) -> u64
-    ensures { λ r. ⌜ TellsYielding (now (s .entry)) (now (words .entry)) (now (starts .entry)) count r ⌝ }
-{
-    let kinds = languages::settle(s, readings::root_reading(0), words, starts, count);
-    reach::yielding(kinds, count)
-}
-
-// The same where it is not known of which templates pages come.
-pub fn search_rules(
-    s: &[u8],
-    declared: u64,
-    clauses: &[usize; 64],
-    standing: &[u64; 64],
-    words: &[u64; 544],
-    starts: &[usize; 32],
-    count: usize,
-    reached: u64,
-    table: [usize; 32],
-) -> [usize; 32]
-    ensures { λ r. ⌜ SearchesRules (now (s .entry)) declared (now (clauses .entry)) (now (standing .entry)) (now (words .entry)) (now (starts .entry)) count reached table r ⌝ }
-{
-    let yields = yielding(s, words, starts, count);
-    search_rules_given(
-        s,
-        declared,
-        clauses,
-        standing,
-        words,
-        starts,
-        count,
-        reached,
-        yields,
-        table,
-    )
 }

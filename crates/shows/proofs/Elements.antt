@@ -54,7 +54,7 @@ module _ (s : List ℕ) (rules : Tables) (templates : TemplateTables) (count : �
       (reached : ℕ) (tells-reached : TellsReached words (templates .gaps) count yields reached)
       (within : List ℕ) (tells-contents : TellsContents words (templates .contents) (templates .outer) count yields within)
       (plain : List ℕ) (tells-plain : TellsPlainlyWrong s (rules .attributes) (rules .contents) starts count words within reached plain)
-      (table : List ℕ) (searches : SearchesRules s (rules .declared) (rules .clauses) (templates .occurrences) words starts count reached plain table) where
+      (table : List ℕ) (searches : SearchesRules s (rules .declared) (rules .clauses) (templates .occurrences) words starts count reached yields plain table) where
     yielding : YieldsExact (j .templates) (A .graph) (member yields)
     yielding = tells-yields (j .templates) (A .graph) (j .vocabulary .root) (T .kinds) (A .located .counted) (A .few) sets (exact .kinds)
 
@@ -67,7 +67,7 @@ module _ (s : List ℕ) (rules : Tables) (templates : TemplateTables) (count : �
         let counts = A .located .counted in
         let there : n ≤ length (j .templates) = omega arith in
         let is-reached = tells-reached (j .templates) (A .graph) graph-kept (A .tabled .gaps) yielding (T .reached) (exact .reached) n there in
-        let lowered = searches (j .templates) (A .graph) (j .vocabulary) (T .clauses) (record { graph = graph-kept; stand = A .stand }) rules-stand (A .tabled .occurrences) (exact .clauses) in
+        let lowered = searches (j .templates) (A .graph) (j .vocabulary) (T .clauses) (record { graph = graph-kept; stand = A .stand }) (λ k h e. yielding k h .0 e) rules-stand (A .tabled .occurrences) (exact .clauses) in
         rw (← is-reached) (joined (member reached n) (wrongAt plain n) (wrongAt table n) _ _ _
         (tells-plain (j .templates) (A .graph) (T .contents) (j .vocabulary) graph-kept rules-kept (A .located) contents-kept n there)
         (lowered .at n there)

@@ -169,6 +169,7 @@ fn wrong_elements(
         starts,
         count,
         reached,
+        yields,
         plain,
     )
 }
