@@ -40,14 +40,17 @@ fn rules(extra: usize) -> Vec<u8> {
     v
 }
 
-const CHILD: [u8; 8] = [0x23, 2, 0x24, 3, 5, 0x21, 0x26, 0x21];
+/// A small element and text. No two that stand side by side are alike.
+fn child(i: usize) -> [u8; 8] {
+    [0x23, 2, 0x24, 3, 1 + (i % 7) as u8, 0x21, 0x26, 0x21]
+}
 
 /// One element around as many small ones as fit.
 fn wide(quarters: usize) -> Pair {
     let size = MOST * quarters / 4;
     let mut page = vec![0x23, 1];
-    while page.len() + CHILD.len() + 2 <= size {
-        page.extend(CHILD);
+    for i in 0..(size - 4) / child(0).len() {
+        page.extend(child(i));
     }
     page.extend(std::iter::repeat(0x21).take(size - page.len() - 2));
     page.extend([0x26, 0x27]);
@@ -70,8 +73,8 @@ fn nested(quarters: usize) -> Pair {
 /// Small elements under a rule of 1,000 clauses.
 fn clauses(quarters: usize) -> Pair {
     let mut page = vec![0x23, 1];
-    for _ in 0..500 * quarters {
-        page.extend(CHILD);
+    for i in 0..500 * quarters {
+        page.extend(child(i));
     }
     page.extend([0x26, 0x27]);
     (rules(1000), page)
