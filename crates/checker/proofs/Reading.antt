@@ -1,7 +1,9 @@
 -- A job that was read: its parts as the check goes by them, and the verdicts of its reading and of its covering.
-use Prim.Native.Nat.{ℕ}
+use Prim.Native.Nat.{ℕ, _≤_, _<_}
+use native.Mathlib.Omega.{arith}
 use mathlib.Core.Path.{_≡_, subst}
 use mathlib.Core.List.{List}
+use lib.ListN.{length, getD}
 use Rattle.verdicts.specs.declared.Form.{Form}
 use Rattle.verdicts.specs.declared.Cover.{Cover}
 use Rattle.verdicts.specs.declared.Cover.the-variants.{Start, Step}
@@ -11,11 +13,14 @@ use Rattle.verdicts.specs.declared.Verdict.the-variants as Verdicts
 use Rattle.commands.specs.declared.Position.{Position}
 use Rattle.commands.specs.declared.Part.the-variants.{Whole, Refused}
 use Rattle.commands.specs.Reading.{whole}
+use Rattle.pages.specs.Items.{Items}
+use Rattle.programs.specs.Program.{templateAt}
 use Rattle.programs.proofs.Laws.{agrees-whole, agrees-refuses}
 use Rattle.jobs.specs.declared.JobRead.{JobRead}
 use Rattle.jobs.specs.Job.{Job, job}
 use Rattle.jobs.specs.Promises.{JobKept, JobReads}
 use Rattle.jobs.specs.JobVerdict.{AllCovered, JobVerdict, unreadable, start-uncovered, step-uncovered}
+use Rattle.entries.specs.Gaps.{GapsAre, StartsAt, GapsTable}
 use Rattle.covering.specs.declared.Covering.{Covering}
 use Rattle.covering.specs.declared.Covering.the-variants.{Covered, Uncovered}
 use Rattle.covering.specs.Promises.{Covers}
@@ -36,17 +41,27 @@ module _ (s : List ℕ) (j : Job) (end : ℕ) (reads : job s ≡ whole j end) wh
   pub covered : (r : Covering) → Covers j r → r ≡ Covered → AllCovered j
   covered r h e = subst (Covers j) e h
 
+  -- The gaps of its templates.
+  pub gaps-table : (read : JobRead) → JobKept s j read → (gaps : List ℕ)
+      → ((φs : List Items) → StartsAt s φs (read .templates .starts) → read .templates .count ≡ length φs → (t : ℕ) → t ≤ read .templates .count → t < 32 → GapsAre (getD gaps t 0) (templateAt φs t))
+      → GapsTable gaps (j .templates)
+  gaps-table read K gaps told t l =
+      let T = tables-of s j end read reads K in
+      let few = T .few-templates in
+      let is = T .count-is in
+      told (j .templates) (T .start) is t (omega (arith, l, is)) (omega (arith, l, is, few))
+
   -- What is known of its parts.
-  pub read-at : (read : JobRead) → JobKept s j read → (templates : TemplateTables) → TabledBy s (read .templates .starts) (read .templates .count) templates
+  pub read-at : (read : JobRead) → JobKept s j read → (gaps : List ℕ) → GapsTable gaps (j .templates) → (templates : TemplateTables) → TabledBy s gaps (read .templates .starts) (read .templates .count) templates
       → ReadAt s (read .tables) templates (read .templates .count) (read .templates .starts) (read .program .count) (read .program .places) (read .proposal .heads) j
-  read-at read K templates tabled =
+  read-at read K gaps table templates tabled =
       let T = tables-of s j end read reads K in
       record {
         end = end;
         reads = reads;
         vocabulary = K .vocabulary;
         located = K .templates;
-        tabled = tabled (j .templates) (T .start) (T .count-is) (T .few-templates);
+        tabled = tabled (j .templates) table (T .start) (T .count-is) (T .few-templates);
         names = read .program .named;
         parts = T;
       }

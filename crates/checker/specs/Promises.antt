@@ -1,7 +1,9 @@
 -- What the steps of the check promise, of a job that was read.
-use Prim.Native.Nat.{ℕ}
+use Prim.Native.Nat.{ℕ, _≤_, _<_}
 use mathlib.Core.Path.{_≡_}
 use mathlib.Core.List.{List}
+use mathlib.Core.Option.{some}
+use lib.ListN.{getD}
 use Rattle.verdicts.specs.declared.Fault.the-variants.{WrongElement}
 use Rattle.verdicts.specs.declared.Fault.the-variants as Faults
 use Rattle.verdicts.specs.declared.Refusal.the-variants as Refusals
@@ -12,7 +14,12 @@ use Rattle.vocabularies.specs.declared.Tables as Vocabularies
 use Rattle.vocabularies.specs.Vocabulary.{declared}
 use Rattle.vocabularies.specs.Promises.{Describes}
 use Rattle.pages.specs.Promises.{Located}
+use Rattle.summaries.specs.Proposal.{Claim}
+use Rattle.summaries.specs.Summaries.{Summary}
+use Rattle.summaries.specs.Languages.{graphShown}
 use Rattle.jobs.specs.Job.{Job, job}
+use Rattle.jobs.specs.JobVerdict.{ShowHolds}
+use Rattle.entries.specs.Words.{InWords, holds}
 use Rattle.covering.specs.Tables.{Tables}
 use Rattle.shows.specs.declared.TemplateTables.{TemplateTables}
 use Rattle.shows.specs.declared.Shown.{Shown}
@@ -34,3 +41,17 @@ pub record ReadAt (s : List ℕ) (rules : Vocabularies.Tables) (templates : Temp
   pub tabled : TablesOf (j .templates) count templates
   pub names : ℕ
   pub parts : Tables j s count starts points places names heads
+
+-- Every show whose graph has these words holds.
+abbrev pub RightWords : Job → List ℕ → Type 0
+RightWords j words = (q : ℕ) (G : Summary) → graphShown (j .program) (j .proposal) q ≡ some G → ((c : Claim) → InWords c → G c ≡ holds words c) → ShowHolds j q
+
+-- Where every show with these words holds, those of the points from one up to another do.
+pub record PassedBy (s heads places : List ℕ) (points : ℕ) (words : List ℕ) (from next : ℕ) : Type 0 where
+  pub forward : from ≤ next
+  pub hold : (rules : Vocabularies.Tables) (templates : TemplateTables) (count : ℕ) (starts : List ℕ) (j : Job)
+      → ReadAt s rules templates count starts points places heads j → RightWords j words → (q : ℕ) → from ≤ q → q < next → ShowHolds j q
+
+-- The words of two graphs are the same.
+abbrev pub SameWords : List ℕ → List ℕ → Type 0
+SameWords a b = (i : ℕ) → i < 544 → getD a i 0 ≡ getD b i 0

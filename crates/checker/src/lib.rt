@@ -1,16 +1,15 @@
 // The check of a job (document 01, "Verdicts", Check a job): its reading, its covering, and each show in turn.
 ghost use mathlib.Core.Path.{_≡_};
 ghost use mathlib.Core.List.{List};
-ghost use Prim.Native.Nat.{ℕ, _<_};
-ghost use lib.ListN.{getD};
+ghost use mathlib.Core.Bool.{true};
+ghost use Prim.Native.Nat.{ℕ};
 ghost use Rattle.commands.specs.Reading.{whole};
 ghost use Rattle.jobs.specs.Job.{Job, job};
 ghost use Rattle.jobs.specs.Promises.{JobKept};
 ghost use Rattle.jobs.specs.JobVerdict.{AllCovered, JobVerdict};
 ghost use Rattle.jobs.specs.Guarantee.{Guarantee};
-ghost use Rattle.shows.specs.Promises.{ShowFound};
 ghost use Rattle.checker.specs.Verdicts.{TheVerdict};
-ghost use Rattle.checker.specs.Promises.{faultAt, ReadAt};
+ghost use Rattle.checker.specs.Promises.{faultAt, ReadAt, SameWords, PassedBy};
 use commands::Part;
 use covering::Covering;
 use jobs::JobRead;
@@ -50,27 +49,46 @@ fn fault_at(p: usize, found: Shown) -> Verdict
     }
 }
 
-// What is found at a point, whose statement stands at an offset.
-fn found_at(
-    s: &[u8],
-    rules: Tables,
-    templates: TemplateTables,
-    count: usize,
-    starts: &[usize; 32],
-    heads: &[usize; 256],
-    place: usize,
-    p: usize,
-) -> Shown
-    ensures { λ r. ⌜ ((points : ℕ) (places : List ℕ) (j : Job) → ReadAt (now (s .entry)) rules templates count (now (starts .entry)) points places (now (heads .entry)) j → p < points → place ≡ getD places p 0 → ShowFound j p r) ⌝ }
+// Whether two graphs have the same words.
+fn same_words(a: &[u64; 544], b: &[u64; 544]) -> bool
+    ensures { λ r. ⌜ (r ≡ true → SameWords (now (a .entry)) (now (b .entry))) ⌝ }
 {
-    if !shows::is_show(s, place) {
-        return Shown::Right;
+    let mut i: usize = 0;
+    while i < 544 {
+        if a[i] != b[i] {
+            return false;
+        }
+        i += 1;
     }
-    let words = shows::shown_words(s, heads, place, p);
-    shows::decide(s, rules, templates, count, starts, &words)
+    true
 }
 
-// Each show in turn, the lowest point first.
+// The lowest point from one on whose show has other words than these, or the number of points.
+fn other_show(
+    s: &[u8],
+    heads: &[usize; 256],
+    places: &[usize; 32],
+    points: usize,
+    words: &[u64; 544],
+    from: usize,
+) -> usize
+    ensures { λ r. ⌜ PassedBy (now (s .entry)) (now (heads .entry)) (now (places .entry)) points (now (words .entry)) from r ⌝ }
+{
+    let mut q = from;
+    while q < points {
+        let at = places[q % 32];
+        if shows::is_show(s, at) {
+            let others = shows::shown_words(s, heads, at, q);
+            if !same_words(words, &others) {
+                return q;
+            }
+        }
+        q += 1;
+    }
+    q
+}
+
+// Each show in turn, the lowest point first. A show with the words of the one before it is right as that one was.
 fn first_fault(
     s: &[u8],
     rules: Tables,
@@ -86,12 +104,17 @@ fn first_fault(
     let mut p: usize = 0;
     while p < points {
         let place = places[p % 32];
-        let found = found_at(s, rules, templates, count, starts, heads, place, p);
-        let verdict = fault_at(p, found);
-        let Verdict::Accepted = verdict else {
-            return verdict;
-        };
-        p += 1;
+        if shows::is_show(s, place) {
+            let words = shows::shown_words(s, heads, place, p);
+            let found = shows::decide(s, rules, templates, count, starts, &words);
+            let verdict = fault_at(p, found);
+            let Verdict::Accepted = verdict else {
+                return verdict;
+            };
+            p = other_show(s, heads, places, points, &words, p + 1);
+        } else {
+            p += 1;
+        }
     }
     Verdict::Accepted
 }
@@ -100,21 +123,13 @@ fn first_fault(
 fn check_read(s: &[u8], read: JobRead) -> Verdict
     ensures { λ r. ⌜ ((j : Job) (end : ℕ) → job (now (s .entry)) ≡ whole j end → JobKept (now (s .entry)) j read → JobVerdict (now (s .entry)) r) ⌝ }
 {
-    let templates = read.templates;
-    let program = read.program;
-    let proposal = read.proposal;
-    let starts = templates.starts;
-    let places = program.places;
-    let heads = proposal.heads;
-    let covering = covering::first_uncovered(
-        s,
-        templates.count,
-        &starts,
-        program.count,
-        &places,
-        program.named,
-        &heads,
-    );
+    let count = read.templates.count;
+    let starts = read.templates.starts;
+    let points = read.program.count;
+    let places = read.program.places;
+    let heads = read.proposal.heads;
+    let gaps = entries::gaps_of(s, &starts, count);
+    let covering = covering::first_uncovered(s, &gaps, points, &places, read.program.named, &heads);
     match covering {
         Covering::Uncovered(cover) => Verdict::Refused(Refusal::Cover(cover)),
         Covering::Covered => {
@@ -122,10 +137,10 @@ fn check_read(s: &[u8], read: JobRead) -> Verdict
             first_fault(
                 s,
                 rules,
-                shows::tables_of(s, &starts, templates.count),
-                templates.count,
+                shows::tables_of(s, gaps, &starts, count),
+                count,
                 &starts,
-                program.count,
+                points,
                 &places,
                 &heads,
             )

@@ -1,4 +1,4 @@
 pub mod AttributeFlags
 pub mod StringSets
 pub mod TrueForms
-pub mod SureForms
+pub mod KnownForms

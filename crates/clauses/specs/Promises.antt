@@ -6,7 +6,6 @@ use mathlib.Core.Bool.{Bool, true, false, not, _&&_, _||_}
 use mathlib.Core.Logic.{_⊎_}
 use lib.ListN.{length}
 use Rattle.sets.specs.Sets.{member}
-use Rattle.commands.specs.declared.Position.{Position}
 use Rattle.commands.specs.Commands.{strings}
 use Rattle.commands.specs.Reading.{whole}
 use Rattle.vocabularies.specs.declared.Facts.{Facts}
@@ -15,7 +14,7 @@ use Rattle.vocabularies.specs.VocabularyReading.{formula}
 use Rattle.vocabularies.specs.Facts.{Fact, ordered, valued}
 use Rattle.vocabularies.specs.Promises.{Written, Stored}
 use Rattle.pages.specs.Items.{string, Attribute}
-use Rattle.judging.specs.Judgement.{Atoms, truthOf}
+use Rattle.judging.specs.Judgement.{truthOf}
 use Rattle.judging.specs.Promises.{Holds}
 use Rattle.patterns.specs.Patterns.{flagged, flagIn, atomsBy}
 use Rattle.patterns.specs.Morphisms.{factMorphism}
@@ -86,27 +85,3 @@ abbrev pub ClauseFails : Facts → ℕ → List ℕ → List ℕ → ℕ → Tes
 ClauseFails t names words v at r = OfFacts t (λ fs. (ns : List ℕ) → ((a : ℕ) → member names a ≡ isIn a ns)
     → (E : Set) → Is (factMorphism fs) words E → (f depth end : ℕ) (ψ : Formula) → formula f v depth at ≡ whole ψ end
     → (r .next .at ≡ end) × (r .fails ≡ anyBelow (2 ^ length fs) (λ x. E x && not (truthOf (atomsBy fs ns x) ψ))))
-
--- Both, or either.
-abbrev pub meets : Bool → Bool → Bool → Bool
-meets true p q = p && q
-meets false p q = p || q
-
--- The formula at an offset ends there, and has this truth value if that is sure.
-pub record Sure (A : Atoms) (v : List ℕ) (at : ℕ) (sign sure : Bool) (next : Position) : Type 0 where
-  pub value : Bool
-  pub judged : Holds A v at (record { value = value; next = next })
-  pub is-sure : sure ≡ true → value ≡ sign
-
--- Every pattern of the set gives the formula at an offset one truth value whatever the names of the attributes are; and its end.
-abbrev pub SurePatterns : Facts → Bool → List ℕ → ℕ → Truths → Type 0
-SurePatterns t sign v at r = OfFacts t (λ fs. (ns : List ℕ) (x : ℕ) → x < 2 ^ length fs → Sure (atomsBy fs ns x) v at sign (holds (r .set) x) (r .next))
-
--- The same of a formula about an attribute's string, which is true where the attribute is absent.
-abbrev pub SureValued : Facts → ℕ → ℕ → Bool → List ℕ → Type 0
-SureValued t a m sign r = OfFacts t (λ fs. (b : Bool) (x : ℕ) → x < 2 ^ length fs → holds r x ≡ true → (not b || flagIn fs x (valued a m)) ≡ sign)
-
--- If so answered, the formula at an offset is true under every pattern whatever the names of the attributes are.
-abbrev pub AlwaysHolds : Facts → List ℕ → ℕ → Bool → Type 0
-AlwaysHolds t v at r = r ≡ true → OfFacts t (λ fs. (ns : List ℕ) (x : ℕ) → x < 2 ^ length fs
-    → (f depth end : ℕ) (ψ : Formula) → formula f v depth at ≡ whole ψ end → truthOf (atomsBy fs ns x) ψ ≡ true)

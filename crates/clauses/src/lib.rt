@@ -1,11 +1,13 @@
 // Clauses of a rule: the patterns that an attribute can have, and the patterns under which a clause is true.
 ghost use mathlib.Core.Path.{_≡_};
-ghost use mathlib.Core.Bool.{not};
-ghost use Prim.Native.Nat.{ℕ, _≤_, _<_};
+ghost use mathlib.Core.Bool.{true, not};
+ghost use Prim.Native.Nat.{ℕ, _+_, _≤_, _<_};
+ghost use lib.ListN.{length};
 ghost use Rattle.sets.specs.Sets.{member};
 ghost use Rattle.judging.specs.Promises.{NoConnective};
 ghost use Rattle.pattern_sets.specs.PatternSets.{holds, FirstMember};
-ghost use Rattle.clauses.specs.Promises.{Flags, IsPattern, NarrowsAt, Alike, AddsPatterns, ValuePatterns, FlaggedBy, IsUnbroken, IsValued, TruePatterns, ClauseFails, agree, meets, SureValued, SurePatterns, AlwaysHolds};
+ghost use Rattle.clauses.specs.Promises.{Flags, IsPattern, NarrowsAt, Alike, AddsPatterns, ValuePatterns, FlaggedBy, IsUnbroken, IsValued, TruePatterns, ClauseFails};
+ghost use Rattle.clauses.specs.Leaves.{meets, PutsLeaf, PlacesLeaf, LeafSet, KnowsLeaf, KnowsValue, NamedSet, Knows, AlwaysHolds};
 use commands::Position;
 use vocabularies::Facts;
 use vocabularies::ORDERED;
@@ -299,127 +301,332 @@ pub fn clause_fails(
     Tested { fails, next }
 }
 
-// The patterns of a set, or those that are not in it.
-fn signed(set: [u64; 4], sign: bool) -> [u64; 4]
-    ensures { λ r. ⌜ ((x : ℕ) → x < 256 → holds r x ≡ agree sign (holds set x)) ⌝ }
-{
-    if sign {
-        return set;
-    }
-    complement(set)
+// Formulas that are true whatever the facts are. A leaf, `15 c`, `16 c d` or `17 a m`, is told by its command and two numbers. An
+// assignment has in bit i the truth of leaf i, of at most 8; those with the same highest two bits of 8 are kept in a word.
+const MOST_LEAVES: usize = 8;
+
+const ALL: u64 = 0xFFFF_FFFF_FFFF_FFFF;
+
+// The assignments of a word under which a formula is known to have one truth value, how many leaves there are then, and the position
+// after the formula.
+struct Known {
+    set: u64,
+    count: usize,
+    next: Position,
 }
 
-// The patterns of both sets, or of either.
-fn met(left: [u64; 4], right: [u64; 4], both: bool) -> [u64; 4]
-    ensures { λ r. ⌜ ((x : ℕ) → holds r x ≡ meets both (holds left x) (holds right x)) ⌝ }
+fn are_same(code: u64, first: u64, second: u64, k: u64, a: u64, m: u64) -> bool
+    ensures { λ r. ⌜ (r ≡ true → (code ≡ k) × (first ≡ a) × (second ≡ m)) ⌝ }
 {
-    if both {
-        return pattern_sets::intersection(left, right);
+    if code != k {
+        return false;
     }
-    pattern_sets::union(left, right)
+    if first != a {
+        return false;
+    }
+    second == m
 }
 
-// Attribute a has a string of the set m. Without the attribute the formula is true, so no pattern makes it false.
-fn sure_valued(facts: Facts, a: u8, m: u64, sign: bool) -> [u64; 4]
-    ensures { λ r. ⌜ SureValued facts a m sign r ⌝ }
+// A leaf is put at a place.
+fn put_leaf(leaves: &mut [u64; 24], i: usize, code: u64, first: u64, second: u64)
+    requires { ⌜ (length (now leaves) ≡ 24) × (i < 8) ⌝ }
+    ensures long { λ _. ⌜ length (now (leaves .exit)) ≡ 24 ⌝ }
+    ensures put { λ _. ⌜ PutsLeaf (now (leaves .entry)) i code first second (now (leaves .exit)) ⌝ }
+{
+    leaves[i] = code;
+    leaves[i + 8] = first;
+    leaves[i + 16] = second;
+}
+
+// The place of a leaf, which is put after the others if it is not there; 8 if there is no room.
+fn place_leaf(leaves: &mut [u64; 24], count: usize, code: u64, first: u64, second: u64) -> usize
+    requires { ⌜ (length (now leaves) ≡ 24) × (count ≤ 8) ⌝ }
+    ensures long { λ _. ⌜ length (now (leaves .exit)) ≡ 24 ⌝ }
+    ensures placed { λ r. ⌜ PlacesLeaf (now (leaves .entry)) count code first second r (now (leaves .exit)) ⌝ }
+{
+    let mut i = 0;
+    while i < count {
+        if are_same(
+            leaves[i],
+            leaves[i + 8],
+            leaves[i + 16],
+            code,
+            first,
+            second,
+        ) {
+            return i;
+        }
+        i += 1;
+    }
+    if count < MOST_LEAVES {
+        put_leaf(leaves, count, code, first, second);
+    }
+    count
+}
+
+// How many leaves there are when one has got a place.
+fn with_place(count: usize, place: usize) -> usize
+    requires { ⌜ (count ≤ 8) × (place ≤ count) ⌝ }
+    ensures { λ r. ⌜ (count ≤ r) × (r ≤ 8) × (place < 8 → place < r) × (r ≤ count + 1) ⌝ }
+{
+    if place < count {
+        return count;
+    }
+    if count < MOST_LEAVES {
+        return count + 1;
+    }
+    count
+}
+
+// All assignments of a word, or none.
+fn all_of(is_true: bool) -> u64
+    ensures { λ r. ⌜ ((k : ℕ) → member r k ≡ true → «is_true» ≡ true) ⌝ }
+{
+    if is_true {
+        return ALL;
+    }
+    0
+}
+
+// The assignments of a word under which the leaf at a place has the truth value `sign`.
+fn leaf_set(place: usize, w: usize, sign: bool) -> u64
+    requires { ⌜ (place ≤ 8) × (w < 4) ⌝ }
+    ensures { λ r. ⌜ LeafSet place w sign r ⌝ }
+{
+    if MOST_LEAVES <= place {
+        return 0;
+    }
+    let flagged = pattern_sets::flagged(place as u8);
+    if sign {
+        return flagged[w];
+    }
+    pattern_sets::without(ALL, flagged[w])
+}
+
+fn known_leaf(
+    leaves: &mut [u64; 24],
+    count: usize,
+    code: u64,
+    first: u64,
+    second: u64,
+    w: usize,
+    sign: bool,
+    next: Position,
+) -> Known
+    requires { ⌜ (length (now leaves) ≡ 24) × (count ≤ 8) × (w < 4) ⌝ }
+    ensures after { λ r. ⌜ r .next ≡ «next» ⌝ }
+    ensures long { λ _. ⌜ length (now (leaves .exit)) ≡ 24 ⌝ }
+    ensures known { λ r. ⌜ KnowsLeaf code first second sign w (now (leaves .entry)) count r (now (leaves .exit)) ⌝ }
+{
+    let place = place_leaf(leaves, count, code, first, second);
+    Known {
+        set: leaf_set(place, w, sign),
+        count: with_place(count, place),
+        next,
+    }
+}
+
+// Attribute a is absent, or has a string of the set m.
+fn known_value(
+    leaves: &mut [u64; 24],
+    count: usize,
+    ever: u64,
+    a: u8,
+    m: u64,
+    w: usize,
+    sign: bool,
+    next: Position,
+) -> Known
+    requires { ⌜ (length (now leaves) ≡ 24) × (count ≤ 8) × (w < 4) ⌝ }
+    ensures after { λ r. ⌜ r .next ≡ «next» ⌝ }
+    ensures long { λ _. ⌜ length (now (leaves .exit)) ≡ 24 ⌝ }
+    ensures known { λ r. ⌜ KnowsValue ever a m sign w (now (leaves .entry)) count r (now (leaves .exit)) ⌝ }
+{
+    if is_member(ever, a) {
+        return known_leaf(leaves, count, 0x17, a as u64, m, w, sign, next);
+    }
+    Known {
+        set: all_of(sign),
+        count,
+        next,
+    }
+}
+
+// Attribute a is there, for elements that have all attributes of `always` and none outside `ever`.
+fn named_set(always: u64, ever: u64, a: u8, sign: bool) -> u64
+    ensures { λ r. ⌜ NamedSet always ever a sign r ⌝ }
 {
     if sign {
-        return flagged_by(facts, VALUED, a, m);
+        return all_of(is_member(always, a));
     }
-    pattern_sets::empty()
+    all_of(!is_member(ever, a))
+}
+
+fn unknown(count: usize, here: Position) -> Known
+    ensures { λ r. ⌜ (r .count ≡ count) × (r .next ≡ here) ⌝ }
+{
+    Known {
+        set: 0,
+        count,
+        next: here,
+    }
 }
 
 // The formula of one command here.
-fn sure_atoms(s: &[u8], here: Position, facts: Facts, sign: bool) -> Truths
-    requires { ⌜ NoConnective (now s) (here .at) ⌝ }
+fn known_atom(
+    s: &[u8],
+    here: Position,
+    leaves: &mut [u64; 24],
+    count: usize,
+    always: u64,
+    ever: u64,
+    w: usize,
+    sign: bool,
+) -> Known
+    requires { ⌜ NoConnective (now s) (here .at) × (length (now leaves) ≡ 24) × (count ≤ 8) × (w < 4) ⌝ }
     ensures forward { λ r. ⌜ here .at ≤ r .next .at ⌝ }
-    ensures sure { λ r. ⌜ SurePatterns facts sign (now (s .entry)) (here .at) r ⌝ }
+    ensures long { λ _. ⌜ length (now (leaves .exit)) ≡ 24 ⌝ }
+    ensures known { λ r. ⌜ Knows always ever sign w (now (s .entry)) (here .at) (now (leaves .entry)) count r (now (leaves .exit)) ⌝ }
 {
     let at = here.at;
     if s.len() <= at {
-        return nowhere(here);
+        return unknown(count, here);
     }
     match s[at] {
-        0x13 => Truths {
-            set: all_if(sign),
+        0x13 => Known {
+            set: all_of(sign),
+            count,
             next: Position { at: at + 1 },
         },
-        0x14 => Truths {
-            set: pattern_sets::empty(),
+        0x14 => Known {
+            set: named_set(always, ever, commands::byte_at(s, at + 1), sign),
+            count,
             next: Position { at: at + 2 },
         },
-        0x15 => Truths {
-            set: signed(
-                flagged_by(facts, PRESENT, commands::byte_at(s, at + 1), 0),
-                sign,
-            ),
-            next: Position { at: at + 2 },
-        },
-        0x16 => Truths {
-            set: signed(
-                unbroken(
-                    facts,
-                    commands::byte_at(s, at + 1),
-                    commands::byte_at(s, at + 2),
-                ),
-                sign,
-            ),
-            next: Position { at: at + 3 },
-        },
-        0x17 => Truths {
-            set: sure_valued(
-                facts,
-                commands::byte_at(s, at + 1),
-                commands::set_at(s, at + 2),
-                sign,
-            ),
-            next: Position { at: at + 10 },
-        },
-        _ => nowhere(here),
+        0x15 => known_leaf(
+            leaves,
+            count,
+            0x15,
+            commands::byte_at(s, at + 1) as u64,
+            0,
+            w,
+            sign,
+            Position { at: at + 2 },
+        ),
+        0x16 => known_leaf(
+            leaves,
+            count,
+            0x16,
+            commands::byte_at(s, at + 1) as u64,
+            commands::byte_at(s, at + 2) as u64,
+            w,
+            sign,
+            Position { at: at + 3 },
+        ),
+        0x17 => known_value(
+            leaves,
+            count,
+            ever,
+            commands::byte_at(s, at + 1),
+            commands::set_at(s, at + 2),
+            w,
+            sign,
+            Position { at: at + 10 },
+        ),
+        _ => unknown(count, here),
     }
 }
 
-// Patterns under which the formula here has the truth value `sign` whatever the attributes are, and the position after it.
-fn sure_patterns(s: &[u8], here: Position, facts: Facts, sign: bool) -> Truths
+// The assignments of both sets, or of either.
+fn met(left: u64, right: u64, both: bool) -> u64
+    ensures { λ r. ⌜ ((k : ℕ) → member r k ≡ meets both (member left k) (member right k)) ⌝ }
+{
+    if both {
+        return pattern_sets::common(left, right);
+    }
+    sets::union(left, right)
+}
+
+// The assignments of a word under which the formula here is known to have the truth value `sign`.
+fn known_formula(
+    s: &[u8],
+    here: Position,
+    leaves: &mut [u64; 24],
+    count: usize,
+    always: u64,
+    ever: u64,
+    w: usize,
+    sign: bool,
+) -> Known
+    requires { ⌜ (length (now leaves) ≡ 24) × (count ≤ 8) × (w < 4) ⌝ }
     ensures forward { λ r. ⌜ here .at ≤ r .next .at ⌝ }
-    ensures sure { λ r. ⌜ SurePatterns facts sign (now (s .entry)) (here .at) r ⌝ }
+    ensures long { λ _. ⌜ length (now (leaves .exit)) ≡ 24 ⌝ }
+    ensures known { λ r. ⌜ Knows always ever sign w (now (s .entry)) (here .at) (now (leaves .entry)) count r (now (leaves .exit)) ⌝ }
 {
     let at = here.at;
     if s.len() <= at {
-        return nowhere(here);
+        return unknown(count, here);
     }
     let inner = Position { at: at + 1 };
     match s[at] {
         0x10 => {
-            let first = sure_patterns(s, inner, facts, sign);
-            let left = first.set;
+            let first = known_formula(s, inner, leaves, count, always, ever, w, sign);
             let middle = first.next;
-            let second = sure_patterns(s, middle, facts, sign);
-            let right = second.set;
+            let second = known_formula(s, middle, leaves, first.count, always, ever, w, sign);
             let next = second.next;
-            let set = met(left, right, sign);
-            Truths { set, next }
+            Known {
+                set: met(first.set, second.set, sign),
+                count: second.count,
+                next,
+            }
         }
         0x11 => {
-            let first = sure_patterns(s, inner, facts, sign);
-            let left = first.set;
+            let first = known_formula(s, inner, leaves, count, always, ever, w, sign);
             let middle = first.next;
-            let second = sure_patterns(s, middle, facts, sign);
-            let right = second.set;
+            let second = known_formula(s, middle, leaves, first.count, always, ever, w, sign);
             let next = second.next;
-            let set = met(left, right, !sign);
-            Truths { set, next }
+            Known {
+                set: met(first.set, second.set, !sign),
+                count: second.count,
+                next,
+            }
         }
-        0x12 => sure_patterns(s, inner, facts, !sign),
-        _ => sure_atoms(s, here, facts, sign),
+        0x12 => known_formula(s, inner, leaves, count, always, ever, w, !sign),
+        _ => known_atom(s, here, leaves, count, always, ever, w, sign),
     }
 }
 
-// Whether the formula here is known to be true under every pattern whatever the attributes are.
-pub fn always_holds(s: &[u8], here: Position, facts: Facts) -> bool
-    ensures { λ r. ⌜ AlwaysHolds facts (now (s .entry)) (here .at) r ⌝ }
+// Whether a formula is known to hold, and the position after it.
+pub struct Holding {
+    pub holds: bool,
+    pub next: Position,
+}
+
+// Whether the formula here is known to be true whatever the facts are, for elements that have all attributes of `always` and none
+// outside `ever`.
+pub fn always_holds(s: &[u8], here: Position, always: u64, ever: u64) -> Holding
+    ensures forward { λ r. ⌜ here .at ≤ r .next .at ⌝ }
+    ensures told { λ r. ⌜ AlwaysHolds always ever (now (s .entry)) (here .at) r ⌝ }
 {
-    let truths = sure_patterns(s, here, facts, true);
-    let set = truths.set;
-    pattern_sets::is_empty(complement(set))
+    let mut leaves = [0u64; 24];
+    let mut count = 0;
+    let mut at = here.at;
+    let mut w = 0;
+    while w < 4 {
+        let formula = known_formula(s, here, &mut leaves, count, always, ever, w, true);
+        let next = formula.next;
+        if formula.set != ALL {
+            return Holding { holds: false, next };
+        }
+        count = formula.count;
+        if count <= 6 {
+            return Holding { holds: true, next };
+        }
+        at = next.at;
+        w += 1;
+    }
+    Holding {
+        holds: true,
+        next: Position { at },
+    }
 }

@@ -13,7 +13,7 @@ use Rattle.commands.specs.declared.Context.{Context}
 use Rattle.commands.specs.declared.Position.{Position}
 use Rattle.commands.specs.declared.Decoded.{Decoded}
 use Rattle.commands.specs.declared.Decoded.the-variants.{Moved, Refused}
-use Rattle.commands.specs.Commands.{Operand, element, attribute, string, widths, byte, operandsOf, operandBytes, inRange, allInRange, between, allowed, command}
+use Rattle.commands.specs.Commands.{Operand, element, attribute, string, widths, byte, operandsOf, operandBytes, inRange, allInRange, between, allowed, Single, command}
 use Rattle.commands.specs.Reading.{Read, whole, refused, unfinished, andThen, onDecoded, onCommand, when}
 
 pub byte-past : (s : List ℕ) (at : ℕ) → length s ≤ at → byte s at ≡ 0
@@ -69,6 +69,14 @@ module _ (x : Context) (s : List ℕ) (at : ℕ) (here : at < length s) where
       let e : at + 3 ≡ at + 1 + 2 = omega arith in
       let z : at + 1 + 1 ≡ at + 2 = omega arith in
       rw e (moves-as x s at 0x24 (attribute ∷ string ∷ []) here code may refl (omega arith) (rw (le-leb _ _ a, z, lt-ltb (byte s (at + 2)) 64 (omega arith))))
+
+pub single-moves : (x : Context) (s : List ℕ) (at k most : ℕ) → Single x k most → at < length s → byte s at ≡ k → at + 2 ≤ length s → byte s (at + 1) ≤ most
+    → Moved k (record { at = at + 2 }) ≡ command x s at
+unfolding allInRange
+single-moves x s at k most S here code fits range =
+    let w : widths (S .operand ∷ []) ≡ 1 = omega (arith, S .is-byte) in
+    let e : at + 2 ≡ at + 1 + widths (S .operand ∷ []) = omega (arith, w) in
+    rw e (moves-as x s at k (S .operand ∷ []) here code (S .may-stand) (S .alone) (omega (arith, w, fits)) (rw (S .range s (at + 1), le-leb _ _ range)))
 
 -- What a command that was read tells.
 pub record MovedOver (x : Context) (s : List ℕ) (at code : ℕ) (next : Position) : Type 0 where

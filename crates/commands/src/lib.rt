@@ -5,7 +5,7 @@ ghost use mathlib.Core.Bool.{true, _&&_};
 ghost use Prim.Native.Nat.{_+_, _*_, _^_, _≤_, _<_};
 ghost use lib.ListN.{length};
 ghost use lib.Dec.{leb};
-ghost use Rattle.commands.specs.Commands.{byte, spelt, setAt, either, between, allowed, operandsOf, operandBytes, inRange, element, attribute, strings-set, allInRange, command};
+ghost use Rattle.commands.specs.Commands.{byte, spelt, setAt, either, between, allowed, operandsOf, operandBytes, inRange, element, attribute, strings-set, allInRange, Single, command};
 use verdicts::Form;
 
 // Where reading stands: an offset of the bytes.
@@ -305,6 +305,27 @@ impl Position {
             return self.command(s, context);
         }
         Decoded::Moved(0x23, Position { at: at + 2 })
+    }
+
+    // The same where a command of one operand may stand: with an operand of at most `most` it is seen at once.
+    pub fn name_command(self, s: &[u8], context: Context, code: u8, most: u8) -> Decoded
+        requires { ⌜ Single context code most ⌝ }
+        ensures { λ r. ⌜ r ≡ command context (now (s .entry)) (self .at) ⌝ }
+    {
+        let at = self.at;
+        if s.len() <= at {
+            return self.command(s, context);
+        }
+        if s[at] != code {
+            return self.command(s, context);
+        }
+        if s.len() - at < 2 {
+            return self.command(s, context);
+        }
+        if most < s[at + 1] {
+            return self.command(s, context);
+        }
+        Decoded::Moved(code, Position { at: at + 2 })
     }
 
     // The same where an attribute with a string may stand: `24 a s` is seen at once.

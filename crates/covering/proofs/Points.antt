@@ -16,7 +16,8 @@ use Rattle.jobs.specs.Job.{Job}
 use Rattle.jobs.specs.JobVerdict.{StatementHolds, StepHolds, nextOf}
 use Rattle.entries.proofs.Tests.{and-left, and-right}
 use Rattle.covering.specs.declared.Covering.the-variants.{Covered, Uncovered}
-use Rattle.covering.specs.Tables.{EntriesAt, StatementStands, Tables, GapsTable, PointAt, StepAt}
+use Rattle.entries.specs.Gaps.{GapsTable}
+use Rattle.covering.specs.Tables.{EntriesAt, StatementStands, Tables, PointAt, StepAt}
 use Rattle.covering.specs.Promises.{Lowest, PointUncovered, PointCovers, NextsAt}
 
 module _ (j : Job) (s : List ℕ) (count : ℕ) (starts : List ℕ) (points : ℕ) (places : List ℕ) (names : ℕ) (heads : List ℕ)

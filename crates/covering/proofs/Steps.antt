@@ -23,9 +23,9 @@ use Rattle.jobs.specs.Job.{Job}
 use Rattle.entries.specs.declared.Strings.{Strings}
 use Rattle.entries.specs.Listed.{Listed}
 use Rattle.entries.specs.Passing.{isOf, Decides}
-use Rattle.entries.specs.Gaps.{GapsAre}
+use Rattle.entries.specs.Gaps.{GapsAre, GapsTable}
 use Rattle.entries.proofs.Tests.{alike, decides-map}
-use Rattle.covering.specs.Tables.{EntriesAt, StatementStands, GapsTable, PointAt}
+use Rattle.covering.specs.Tables.{EntriesAt, StatementStands, PointAt}
 use Rattle.covering.specs.Promises.{Lowest}
 use Rattle.covering.proofs.Statements.{template-left, templates-left, string-left, strings-left, template-copied, template-set, template-plugged, template-filled, string-copied, string-set, string-any, set-there, copy-range, string-copy-range, string-range, PlugRange, plug-range, fill-range}
 
@@ -109,21 +109,21 @@ module _ (j : Job) (s gaps heads : List ℕ) (place p : ℕ) (a : Act) (P : Poin
         (h (under (j .proposal) p (templates x)) (template-listed s heads (j .proposal) p (P .low) (P .entry) x from f from-is))
 
   -- The strings of a string variable.
-  pub string-stays : (y c : ℕ) → c ≡ o 1 → (y ≡ c → ⊥) → (from : ℕ) → y < 4 → (p < 32 → y < 4 → from ≡ getD heads (p * 8 + (4 + y)) 0) → (set : Strings)
-      → ((ys : List Fact) → Listed StringFacts s from ys → (t : ℕ) → held saysString ys t ≡ isOf set t) → (t : ℕ) → transferString a E y t ≡ isOf set t
+  pub string-stays : (y c : ℕ) → c ≡ o 1 → (y ≡ c → ⊥) → (from : ℕ) → y < 4 → (p < 32 → y < 4 → from ≡ getD heads (p * 8 + (4 + y)) 0) → (R : Summaries.Strings) (r : Bool)
+      → ((xs : List Fact) → Listed StringFacts s from xs → Decides r (Within (held saysString xs) R)) → Decides r (Within (transferString a E y) R)
   unfolding entries
-  string-stays y c c-is n from f from-is set h t =
+  string-stays y c c-is n from f from-is R r h =
       rw (string-left E (byte s place) o a (P .first) (P .second) (is _ refl) y (λ q. n (q ∙ sym c-is)))
-      (h (under (j .proposal) p (strings y)) (string-listed s heads (j .proposal) p (P .low) (P .entry) y from f from-is) t)
+      (h (under (j .proposal) p (strings y)) (string-listed s heads (j .proposal) p (P .low) (P .entry) y from f from-is))
 
   module _ (code : ℕ) (code-is : code ≡ byte s place) (y : ℕ) (first : y ≡ o 1) (f : y < 4) where
-    pub string-copied-is : code ≡ 0x32 → (b from : ℕ) → b ≡ o 2 → (p < 32 → b < 4 → from ≡ getD heads (p * 8 + (4 + b)) 0) → (set : Strings)
-        → ((ys : List Fact) → Listed StringFacts s from ys → (t : ℕ) → held saysString ys t ≡ isOf set t) → (t : ℕ) → transferString a E y t ≡ isOf set t
+    pub string-copied-decides : code ≡ 0x32 → (b from : ℕ) → b ≡ o 2 → (p < 32 → b < 4 → from ≡ getD heads (p * 8 + (4 + b)) 0) → (R : Summaries.Strings) (r : Bool)
+        → ((xs : List Fact) → Listed StringFacts s from xs → Decides r (Within (held saysString xs) R)) → Decides r (Within (transferString a E y) R)
     unfolding entries
-    string-copied-is e b from b-is from-is set h t =
+    string-copied-decides e b from b-is from-is R r h =
         let l : b < 4 = rw b-is (string-copy-range s place code (ranges code code-is) e) in
         rw (string-copied (j .templates) E code o a (P .first) (P .second) (is code code-is) y first e, ← b-is)
-        (h (under (j .proposal) p (strings b)) (string-listed s heads (j .proposal) p (P .low) (P .entry) b from l from-is) t)
+        (h (under (j .proposal) p (strings b)) (string-listed s heads (j .proposal) p (P .low) (P .entry) b from l from-is))
 
     pub string-set-is : code ≡ 0x33 → (b named : ℕ) → b ≡ o 2 → ((k : ℕ) → member named k ≡ (eqb k (b % 64) || member 0 k)) → (t : ℕ) → transferString a E y t ≡ member named t
     string-set-is e b named b-is h t =
@@ -134,23 +134,12 @@ module _ (j : Job) (s gaps heads : List ℕ) (place p : ℕ) (a : Act) (P : Poin
     pub string-any-is : code ≡ 0x34 → (t : ℕ) → transferString a E y t ≡ true
     string-any-is e t = string-any (j .templates) E code o a (P .first) (P .second) (is code code-is) y first e t
 
-    pub string-unset-is : (code ≡ 0x32 → ⊥) → (code ≡ 0x33 → ⊥) → (code ≡ 0x34 → ⊥) → (from : ℕ) → (p < 32 → y < 4 → from ≡ getD heads (p * 8 + (4 + y)) 0) → (set : Strings)
-        → ((ys : List Fact) → Listed StringFacts s from ys → (t : ℕ) → held saysString ys t ≡ isOf set t) → (t : ℕ) → transferString a E y t ≡ isOf set t
+    pub string-unset-decides : (code ≡ 0x32 → ⊥) → (code ≡ 0x33 → ⊥) → (code ≡ 0x34 → ⊥) → (from : ℕ) → (p < 32 → y < 4 → from ≡ getD heads (p * 8 + (4 + y)) 0) → (R : Summaries.Strings) (r : Bool)
+        → ((xs : List Fact) → Listed StringFacts s from xs → Decides r (Within (held saysString xs) R)) → Decides r (Within (transferString a E y) R)
     unfolding entries
-    string-unset-is n₂ n₃ n₄ from from-is set h t =
+    string-unset-decides n₂ n₃ n₄ from from-is R r h =
         rw (strings-left E code o a (P .first) (P .second) (is code code-is) y n₂ n₃ n₄)
-        (h (under (j .proposal) p (strings y)) (string-listed s heads (j .proposal) p (P .low) (P .entry) y from f from-is) t)
-
--- Strings, by the sets that the code compares.
-pub within-same : (F F′ G G′ : ℕ → Bool) → ((t : ℕ) → F t ≡ F′ t) → ((t : ℕ) → G t ≡ G′ t) → (r : Bool) → Decides r (Within F′ G′) → Decides r (Within F G)
-within-same F F′ G G′ e f r d = decides-map r (λ w t h. f t ∙ w t (sym (e t) ∙ h)) (λ w t h. sym (f t) ∙ w t (e t ∙ h)) d
-
-pub string-decides : (s heads : List ℕ) (hs : List Head) (next : ℕ) → next < 32 → EntriesAt s heads hs next → (y there-at : ℕ) → y < 4 → (next < 32 → y < 4 → there-at ≡ getD heads (next * 8 + (4 + y)) 0)
-    → (F : ℕ → Bool) (from there : Strings) → ((t : ℕ) → F t ≡ isOf from t) → ((ys : List Fact) → Listed StringFacts s there-at ys → (t : ℕ) → held saysString ys t ≡ isOf there t)
-    → (r : Bool) → Decides r (Within (isOf from) (isOf there)) → Decides r (Within F (entries hs next .string y))
-unfolding entries
-string-decides s heads hs next low entry y there-at f there-is F from there e g r d =
-    within-same F (isOf from) (held saysString (under hs next (strings y))) (isOf there) e (g (under hs next (strings y)) (string-listed s heads hs next low entry y there-at f there-is)) r d
+        (h (under (j .proposal) p (strings y)) (string-listed s heads (j .proposal) p (P .low) (P .entry) y from f from-is))
 
 -- Variables as `40` numbers them.
 module _ (φs : List Items) (a : Act) (E F : Environment) (v : ℕ) (r : Bool) where

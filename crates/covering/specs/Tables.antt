@@ -8,7 +8,6 @@ use lib.ListN.{length, getD}
 use Rattle.sets.specs.Sets.{member}
 use Rattle.commands.specs.declared.Context.the-variants.{TemplateFacts, StringFacts}
 use Rattle.commands.specs.Commands.{byte, operandsOf, allInRange}
-use Rattle.pages.specs.Items.{Items}
 use Rattle.programs.specs.Program.{Act, Statement, step, Variable, templates, strings, statementAt, templateAt, named}
 use Rattle.programs.specs.ProgramReading.{statementRead, templatesThere, actTemplatesThere, pointsThere}
 use Rattle.summaries.specs.Proposal.{Head}
@@ -16,7 +15,7 @@ use Rattle.summaries.specs.ProposalReading.{variableOf}
 use Rattle.summaries.specs.Summaries.{under}
 use Rattle.jobs.specs.Job.{Job}
 use Rattle.entries.specs.Listed.{Listed}
-use Rattle.entries.specs.Gaps.{GapsAre, StartsAt}
+use Rattle.entries.specs.Gaps.{StartsAt, GapsTable}
 
 -- The items under each head of a point stand where the table says. Variable v, as `40` numbers it, has place 8 p + v; where there is
 -- no head, the table may name any offset at which no item stands.
@@ -44,10 +43,6 @@ pub record Tables (j : Job) (s : List ℕ) (count : ℕ) (starts : List ℕ) (po
   pub points-there : (p : ℕ) → p < points → pointsThere points (statementAt (j .program) p) ≡ true
   pub names-are : NamesAre j names
   pub entry : (p : ℕ) → p < 32 → EntriesAt s heads (j .proposal) p
-
--- The gaps of every template.
-abbrev pub GapsTable : List ℕ → List Items → Type 0
-GapsTable gaps φs = (t : ℕ) → t ≤ length φs → GapsAre (getD gaps t 0) (templateAt φs t)
 
 -- What is known where the statement of a point, with this act, is compared.
 pub record PointAt (j : Job) (s gaps heads : List ℕ) (place p : ℕ) (a : Act) : Type 0 where

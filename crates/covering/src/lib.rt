@@ -7,13 +7,14 @@ ghost use Rattle.commands.specs.Commands.{byte};
 ghost use Rattle.programs.specs.Program.{Act};
 ghost use Rattle.summaries.specs.Proposal.{Fact, Head};
 ghost use Rattle.summaries.specs.ProposalReading.{variableOf};
-ghost use Rattle.summaries.specs.Summaries.{Within, saysClaim, held, entries, transfer, transferTemplate, transferString};
+ghost use Rattle.summaries.specs.Summaries.{Within, saysClaim, saysString, held, entries, transfer, transferTemplate, transferString};
 ghost use Rattle.summaries.specs.Covering.{WithinAt, startEnvironment, StepCovered};
 ghost use Rattle.jobs.specs.Job.{Job};
 ghost use Rattle.jobs.specs.JobVerdict.{StartHolds};
+ghost use Rattle.entries.specs.Gaps.{GapsTable};
 ghost use Rattle.entries.specs.Listed.{Listed};
 ghost use Rattle.entries.specs.Passing.{isOf, Decides};
-ghost use Rattle.covering.specs.Tables.{EntriesAt, NamesAre, Tables, GapsTable, PointAt, StepAt};
+ghost use Rattle.covering.specs.Tables.{EntriesAt, NamesAre, Tables, PointAt, StepAt};
 ghost use Rattle.covering.specs.Promises.{Lowest, Covers, PointCovers, StepsCover, NextsAt};
 use commands::Context;
 use commands::Position;
@@ -91,23 +92,37 @@ fn template_holds(
     entries::entry_within(s, template_head(heads, p, x), there)
 }
 
-// The strings that the statement of a point gives string variable y, its first operand.
-fn assigned_strings(s: &[u8], heads: &[usize; 256], place: usize, p: usize, y: usize) -> Strings
-    ensures { λ r. ⌜ ((j : Job) (gaps : List ℕ) (a : Act) → PointAt j (now (s .entry)) gaps (now (heads .entry)) place p a → y ≡ byte (now (s .entry)) (place + 1) → y < 4 → (t : ℕ) → transferString a (entries (j .proposal) p) y t ≡ isOf r t) ⌝ }
+// Whether the strings that the statement of a point gives string variable y, its first operand, lie within those whose items stand at
+// an offset.
+fn assigned_strings_hold(
+    s: &[u8],
+    heads: &[usize; 256],
+    place: usize,
+    p: usize,
+    y: usize,
+    there: usize,
+) -> bool
+    ensures { λ r. ⌜ ((j : Job) (gaps : List ℕ) (a : Act) (zs : List Fact) → PointAt j (now (s .entry)) gaps (now (heads .entry)) place p a → y ≡ byte (now (s .entry)) (place + 1) → y < 4 → Listed Context.StringFacts (now (s .entry)) there zs → Decides r (Within (transferString a (entries (j .proposal) p) y) (held saysString zs))) ⌝ }
 {
     let here = Position { at: place };
     let b = here.operand(s, 2);
     match commands::byte_at(s, place) {
-        0x32 => entries::strings_of(s, string_head(heads, p, b as usize)),
-        0x33 => Strings {
-            named: sets::with(0, b % 64),
-            any: false,
-        },
-        0x34 => Strings {
-            named: 0,
-            any: true,
-        },
-        _ => entries::strings_of(s, string_head(heads, p, y)),
+        0x32 => entries::strings_entry_within(s, string_head(heads, p, b as usize), there),
+        0x33 => {
+            let one = Strings {
+                named: sets::with(0, b % 64),
+                any: false,
+            };
+            entries::strings_within(one, entries::strings_of(s, there))
+        }
+        0x34 => {
+            let all = Strings {
+                named: 0,
+                any: true,
+            };
+            entries::strings_within(all, entries::strings_of(s, there))
+        }
+        _ => entries::strings_entry_within(s, string_head(heads, p, y), there),
     }
 }
 
@@ -122,12 +137,12 @@ fn string_holds(
 ) -> bool
     ensures { λ r. ⌜ ((j : Job) (gaps : List ℕ) (a : Act) → StepAt j (now (s .entry)) gaps (now (heads .entry)) place p next a → y < 4 → Decides r (Within (transferString a (entries (j .proposal) p) y) (entries (j .proposal) next .string y))) ⌝ }
 {
-    let there = entries::strings_of(s, string_head(heads, next, y));
+    let there = string_head(heads, next, y);
     let here = Position { at: place };
     if y == (here.operand(s, 1) as usize) {
-        return entries::strings_within(assigned_strings(s, heads, place, p, y), there);
+        return assigned_strings_hold(s, heads, place, p, y, there);
     }
-    entries::strings_within(entries::strings_of(s, string_head(heads, p, y)), there)
+    entries::strings_entry_within(s, string_head(heads, p, y), there)
 }
 
 // Whether a variable, as `40` numbers it, is covered in the step of a point to a next point.
@@ -224,6 +239,7 @@ fn point_uncovered(
         return Covering::Covered;
     }
     let next = here.operand(s, first) as usize;
+    let other = here.operand(s, first + 1) as usize;
     let v = lowest_uncovered(s, gaps, heads, names, place, p, next);
     if v < 8 {
         return Covering::Uncovered(Cover::Step {
@@ -232,7 +248,6 @@ fn point_uncovered(
             variable: v,
         });
     }
-    let other = here.operand(s, first + 1) as usize;
     if other == next {
         return Covering::Covered;
     }
@@ -307,23 +322,21 @@ fn start_uncovered(s: &[u8], heads: &[usize; 256], names: u64) -> usize
 }
 
 // Whether the proposal of a job that was read covers its program, and what it does not cover first: the start (9), then the steps
-// (10). What reading the job keeps of it is given: the number of its templates and the offsets of their items, the number of its
-// points and the offsets of their statements, the variables that some statement names, and the offsets of the items under each head.
+// (10). What is known of the job is given: the gaps of its templates, the number of its points and the offsets of their statements,
+// the variables that some statement names, and the offsets of the items under each head.
 pub fn first_uncovered(
     s: &[u8],
-    templates: usize,
-    starts: &[usize; 32],
+    gaps: &[u64; 32],
     points: usize,
     places: &[usize; 32],
     names: u64,
     heads: &[usize; 256],
 ) -> Covering
-    ensures { λ r. ⌜ ((j : Job) → Tables j (now (s .entry)) templates (now (starts .entry)) points (now (places .entry)) names (now (heads .entry)) → Covers j r) ⌝ }
+    ensures { λ r. ⌜ ((j : Job) (count : ℕ) (starts : List ℕ) → Tables j (now (s .entry)) count starts points (now (places .entry)) names (now (heads .entry)) → GapsTable (now (gaps .entry)) (j .templates) → Covers j r) ⌝ }
 {
     let v = start_uncovered(s, heads, names);
     if v < 8 {
         return Covering::Uncovered(Cover::Start(v));
     }
-    let gaps = entries::gaps_of(s, starts, templates);
-    steps_uncovered(s, &gaps, heads, names, places, points)
+    steps_uncovered(s, gaps, heads, names, places, points)
 }

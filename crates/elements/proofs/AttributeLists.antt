@@ -1,8 +1,8 @@
 -- Attributes one after the other: what each adds to the names and to the patterns.
-use Prim.Native.Nat.{ℕ, zero, suc, _+_, _%_, _≤_}
+use Prim.Native.Nat.{ℕ, zero, suc, _+_, _%_}
 use mathlib.Core.Path.{_≡_, refl, sym, ap, subst, _∙_}
 use mathlib.Core.List.{List, [], _∷_}
-use mathlib.Core.Bool.{Bool, true, false, _||_, or-false, false≢true}
+use mathlib.Core.Bool.{Bool, true, false, _&&_, _||_, or-false, false≢true}
 use mathlib.Core.Logic.{inl, inr}
 use native.Mathlib.Omega.{arith}
 use lib.Dec.{eqb}
@@ -21,34 +21,33 @@ use Rattle.pages.specs.RightPages.{names}
 use Rattle.pages.proofs.Whole.{never-unfinished, attributes-whole}
 use Rattle.summaries.specs.Summaries.{Summary}
 use Rattle.patterns.specs.Patterns.{patternOf}
-use Rattle.patterns.specs.Rounds.{Set, product, only}
+use Rattle.patterns.specs.Rounds.{Set, product, only, valueTakes, attributesTake}
 use Rattle.patterns.specs.Elements.{valuePatterns, attributePatterns}
+use Rattle.patterns.proofs.Tests.{and-left, and-right}
 use Rattle.patterns.proofs.Products.{clause-monoid, product-assoc, product-unit-left}
 use Rattle.pattern_sets.specs.PatternSets.{holds}
 use Rattle.readings.specs.Readings.{Is, of-facts}
 use Rattle.readings.specs.Promises.{Multiplies}
 use Rattle.languages.specs.Tables.{of-clause}
-use Rattle.languages.specs.Promises.{AttributeTakes}
 use Rattle.languages.proofs.Uses.{is-as}
-use Rattle.languages.proofs.AttributeLaws.{attribute-width, gap-range}
+use Rattle.languages.proofs.AttributeLaws.{attribute-width}
 use Rattle.languages.proofs.ItemLaws.{unit-set}
 use Rattle.elements.specs.declared.Clause.{Clause}
 use Rattle.elements.specs.declared.Attributed.{Attributed}
 use Rattle.elements.specs.Attributes.{OfClause, ClauseAt, patternsBy, AttributeAt, nameHere, valueHere, HasPatterns, TakesAttribute, Attributes}
-use Rattle.elements.proofs.PatternSets.{product-nothing, product-empty}
-use Rattle.elements.proofs.Values.{name-low, untold-value, no-value}
+use Rattle.elements.proofs.PatternSets.{product-nothing}
+use Rattle.elements.proofs.Values.{name-low, untold-value}
 
 -- ---- one attribute
 
 module _ (s : List ℕ) (at : ℕ) (c : Clause) (words : List ℕ) (n : ℕ) (set : List ℕ) where
   pub with-told : (value r : List ℕ) → HasPatterns s at (c .reading .facts) words n value → Multiplies (c .reading) set value r
       → TakesAttribute s at c words n set r
-  with-told value r patterned joined ψ G C kept here A is =
+  with-told value r patterned joined ψ G C kept here takes A is =
       joined (patternsBy ψ) (of-facts (C .reads)) A (valuePatterns G (factsOf ψ) n (nameHere s at) (valueHere s at)) is
       (patterned (factsOf ψ) (C .reads .represents) (C .reads .few) G kept here)
 
-  module _ (a : ℕ) (is-name : a ≡ byte s (at + 1)) (b : Bool) (told : b ≡ member (c .valued) (a % 64)) (untold : b ≡ false)
-      (taken : Bool) (takes : AttributeTakes words n s at taken) where
+  module _ (a : ℕ) (is-name : a ≡ byte s (at + 1)) (b : Bool) (told : b ≡ member (c .valued) (a % 64)) (untold : b ≡ false) where
     not-told : (ψ : Formula) → ClauseAt s ψ c → AttributeAt s at → (m : ℕ)
         → isAmong (valued (nameHere s at) m) (factsOf ψ) ≡ true → ⊥
     not-told ψ C here m e =
@@ -56,37 +55,30 @@ module _ (s : List ℕ) (at : ℕ) (c : Clause) (words : List ℕ) (n : ℕ) (se
         let q : a % 64 ≡ byte s (at + 1) = omega arith in
         false≢true (sym untold ∙ told ∙ ap (member (c .valued)) q ∙ C .tells (byte s (at + 1)) m (omega arith) e)
 
-    pub with-untold : taken ≡ true → TakesAttribute s at c words n set set
-    with-untold t ψ G C kept here A is =
+    pub with-untold : TakesAttribute s at c words n set set
+    with-untold ψ G C kept here takes A is =
         product-nothing (patternsBy ψ) (clause-monoid ψ) set A (valuePatterns G (factsOf ψ) n (nameHere s at) (valueHere s at))
-        (λ x h. untold-value (factsOf ψ) (nameHere s at) (not-told ψ C here) G n (valueHere s at) (sym (takes G kept (gap-range words n s at (here .ranges))) ∙ t) x) is
-
-    pub with-nothing : taken ≡ false → (r : List ℕ) → ((y : ℕ) → holds r y ≡ false) → TakesAttribute s at c words n set r
-    with-nothing t r none ψ G C kept here A is =
-        product-empty (patternsBy ψ) r A (valuePatterns G (factsOf ψ) n (nameHere s at) (valueHere s at)) none
-        (λ x h. no-value G (factsOf ψ) n (nameHere s at) (valueHere s at) (sym (takes G kept (gap-range words n s at (here .ranges))) ∙ t) x)
+        (λ x h. untold-value (factsOf ψ) (nameHere s at) (not-told ψ C here) G n (valueHere s at) takes x) is
 
 -- ---- attributes one after the other
 
 -- What the attributes δ add to the names and the patterns before them.
-pub record Added (ψ : Formula) (G : Summary) (n named : ℕ) (set : List ℕ) (δ : List Attribute) (end : ℕ) (r : Attributed) : Type 0 where
-  pub ends : r .next .at ≡ end
+pub record Added (ψ : Formula) (G : Summary) (n named : ℕ) (set : List ℕ) (δ : List Attribute) (r : Attributed) : Type 0 where
   pub has : (a : ℕ) → member (r .names) a ≡ (member named a || isIn a (names δ))
   pub patterns : (A : Set) → Is (patternsBy ψ) set A → Is (patternsBy ψ) (r .set) (product (patternsBy ψ) A (attributePatterns G (factsOf ψ) n δ))
 
 module _ (s : List ℕ) (c : Clause) (words : List ℕ) (n : ℕ) where
   abbrev pub Adds : ℕ → ℕ → List ℕ → List ℕ → Attributed → Type 0
   Adds at named set earlier r = OfClause s c words (λ ψ G. (f end : ℕ) (δ : List Attribute) → attributes f Template s earlier at ≡ whole δ end
-      → Added ψ G n named set δ end r)
+      → attributesTake G n δ ≡ true → Added ψ G n named set δ r)
 
   -- What is added to nothing is all there is.
   pub adds-all : (at : ℕ) (set : List ℕ) (r : Attributed) → ((y : ℕ) → holds set y ≡ eqb y 0) → Adds at 0 set [] r → Attributes s at c words n r
-  adds-all at set r one A ψ G C kept f end δ e =
-      let a = A ψ G C kept f end δ e in
+  adds-all at set r one A ψ G C kept f end δ e takes =
+      let a = A ψ G C kept f end δ e takes in
       let M = patternsBy ψ in
       let unit : Is M set (only (M .of [])) = unit-set (of-facts (C .reads)) (of-clause ψ) set one in
       record {
-        ends = a .ends;
         has = λ k. a .has k ∙ rw (member-zero k);
         patterns = is-as (r .set) (product M (only (M .of [])) (attributePatterns G (factsOf ψ) n δ)) (attributePatterns G (factsOf ψ) n δ)
             (a .patterns (only (M .of [])) unit) (λ x h. product-unit-left M (clause-monoid ψ) (attributePatterns G (factsOf ψ) n δ) x h);
@@ -94,12 +86,11 @@ module _ (s : List ℕ) (c : Clause) (words : List ℕ) (n : ℕ) where
 
   module _ (at named : ℕ) (set earlier : List ℕ) where
     -- Where no attribute stands.
-    pub adds-none : allowed TemplateAttributes (byte s at) ≡ false → Adds at named set earlier (record { names = named; set = set; next = record { at = at } })
+    pub adds-none : allowed TemplateAttributes (byte s at) ≡ false → Adds at named set earlier (record { names = named; set = set })
     unfolding attributes
-    adds-none n₀ ψ G C kept zero end δ e = never-unfinished e
-    adds-none n₀ ψ G C kept (suc f) end δ e = elim (attributes-whole f Template s earlier at δ end e) [
+    adds-none n₀ ψ G C kept zero end δ e takes = never-unfinished e
+    adds-none n₀ ψ G C kept (suc f) end δ e takes = elim (attributes-whole f Template s earlier at δ end e) [
       | inl r ↦ rw (r .no-more) (record {
-        ends = sym (r .here);
         has = λ a. unfold isIn in sym (or-false (member named a));
         patterns = λ A is. unfold attributePatterns in product-nothing (patternsBy ψ) (clause-monoid ψ) set A (only (patternOf (factsOf ψ) [] [])) (λ x h. refl) is;
       })
@@ -108,7 +99,7 @@ module _ (s : List ℕ) (c : Clause) (words : List ℕ) (n : ℕ) where
 
     -- One attribute, and then the others.
     module _ (b named′ : ℕ) (is-name : b ≡ byte s (at + 1)) (with-name : (k : ℕ) → member named′ k ≡ (eqb k (b % 64) || member named k))
-        (set′ : List ℕ) (takes : TakesAttribute s at c words n set set′) where
+        (set′ : List ℕ) (with-one : TakesAttribute s at c words n set set′) where
       swapped : (e m i : Bool) → ((e || m) || i) ≡ (m || (e || i))
       swapped true true i = refl
       swapped true false i = refl
@@ -117,32 +108,33 @@ module _ (s : List ℕ) (c : Clause) (words : List ℕ) (n : ℕ) where
 
       pub adds-one : allowed TemplateAttributes (byte s at) ≡ true → (r : Attributed)
           → Adds (at + 3) named′ set′ (byte s (at + 1) ∷ earlier) r → Adds at named set earlier r
-      unfolding attributes isIn attributePatterns
-      adds-one y r A ψ G C kept zero end δ e = never-unfinished e
-      adds-one y r A ψ G C kept (suc f) end δ e = elim (attributes-whole f Template s earlier at δ end e) [
+      unfolding attributes isIn attributePatterns attributesTake
+      adds-one y r A ψ G C kept zero end δ e takes = never-unfinished e
+      adds-one y r A ψ G C kept (suc f) end δ e takes = elim (attributes-whole f Template s earlier at δ end e) [
         | inl w ↦ absurd (false≢true (sym (w .not-attribute) ∙ y))
         | inr w ↦
             let m = moved TemplateAttributes s at (byte s at) (w .next) (w .stands) in
             let here : AttributeAt s at = record { permitted = y; ranges = m .ranges } in
             let three : w .next .at ≡ at + 3 = m .after ∙ attribute-width words n s at y in
-            let a = A ψ G C kept f end (w .rest) (subst (λ (k : ℕ). attributes f Template s (byte s (at + 1) ∷ earlier) k ≡ whole (w .rest) end) three (w .reads-rest)) in
+            let take : (valueTakes G n (valueHere s at) && attributesTake G n (w .rest)) ≡ true = rw (w .is-more) at takes in
+            let a = A ψ G C kept f end (w .rest) (subst (λ (k : ℕ). attributes f Template s (byte s (at + 1) ∷ earlier) k ≡ whole (w .rest) end) three (w .reads-rest))
+            (and-right (valueTakes G n (valueHere s at)) (attributesTake G n (w .rest)) take) in
             let l = name-low s at here in
             let q : b % 64 ≡ byte s (at + 1) = omega arith in
             let M = patternsBy ψ in
             let here-set : Set = valuePatterns G (factsOf ψ) n (nameHere s at) (valueHere s at) in
             let rest-set : Set = attributePatterns G (factsOf ψ) n (w .rest) in
             rw (w .is-more) (record {
-              ends = a .ends;
               has = λ k. a .has k
                   ∙ ap (λ (t : Bool). t || isIn k (names (w .rest))) (with-name k ∙ ap (λ (x : ℕ). eqb k x || member named k) q)
                   ∙ swapped (eqb k (byte s (at + 1))) (member named k) (isIn k (names (w .rest)));
               patterns = λ B is. is-as (r .set) (product M (product M B here-set) rest-set) (product M B (product M here-set rest-set))
-                  (a .patterns (product M B here-set) (takes ψ G C kept here B is)) (λ x h. product-assoc M (clause-monoid ψ) B here-set rest-set x);
+                  (a .patterns (product M B here-set) (with-one ψ G C kept here (and-left (valueTakes G n (valueHere s at)) (attributesTake G n (w .rest)) take) B is))
+                  (λ x h. product-assoc M (clause-monoid ψ) B here-set rest-set x);
             })
       ]
 
 -- Where reading has come: what the attributes from here on add to these names and patterns is what all of them add to nothing.
 pub record Going (s : List ℕ) (c : Clause) (words : List ℕ) (n at₀ : ℕ) (set₀ : List ℕ) (at named : ℕ) (set : List ℕ) : Type 0 where
-  pub forward : at₀ ≤ at
   pub earlier : List ℕ
   pub goes : (r : Attributed) → Adds s c words n at named set earlier r → Adds s c words n at₀ 0 set₀ [] r

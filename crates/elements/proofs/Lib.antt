@@ -7,4 +7,3 @@ pub mod Searches
 pub mod LoweredTables
 pub mod Templates
 pub mod Rules
-pub mod WrongElements

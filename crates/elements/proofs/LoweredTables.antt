@@ -2,7 +2,7 @@
 use Prim.Native.Nat.{ℕ, _≤_}
 use mathlib.Core.Path.{_≡_, refl, sym, ap, ap₂, _∙_}
 use mathlib.Core.List.{List}
-use mathlib.Core.Bool.{Bool, true, false, cond, not, _&&_, _||_, false≢true}
+use mathlib.Core.Bool.{Bool, true, false, cond, _&&_, _||_, false≢true}
 use mathlib.Core.Option.{Option, none}
 use lib.ListN.{length, getD}
 use lib.Dec.{eqb}
@@ -11,37 +11,52 @@ use Rattle.sets.specs.Sets.{member}
 use Rattle.sets.proofs.Laws.{member-zero}
 use Rattle.pages.specs.Items.{Attribute, Item, text, gap, element, Items, more}
 use Rattle.pages.specs.Items as Items
-use Rattle.pages.specs.RightPages.{SomeElement}
 use Rattle.programs.specs.Program.{templateAt}
 use Rattle.judging.specs.Promises.{wrongOf}
 use Rattle.patterns.specs.Shows.{lower, onlyIf, lowestMark, lowestMarkIn}
-use Rattle.patterns.proofs.Tests.{and-left}
-use Rattle.patterns.proofs.Standing.{some-into}
-use Rattle.patterns.proofs.Lowest.{least-none, least-mark, mark-either}
+use Rattle.patterns.proofs.Standing.{Saying}
+use Rattle.patterns.proofs.Lowest.{mark-either}
+use Rattle.occurrences.specs.Occurrences.{AllElements, AllElementsOf}
+use Rattle.occurrences.proofs.Names.{all-into}
 use Rattle.reach.proofs.Marks.{mark-same}
 use Rattle.elements.specs.Rules.{Test, Lowered}
 use Rattle.elements.proofs.Lowers.{lower-none, lower-assoc}
 
--- A test that no element passes.
-module _ (p : ℕ → ℕ → List Attribute → Items → Bool) (never : (e mark : ℕ) (δ : List Attribute) (φ : Items) → p e mark δ φ ≡ false) where
+-- What is true of every element is true of all that stand in items.
+module _ (P : Saying) (each : (e mark : ℕ) (δ : List Attribute) (φ : Items) → P e mark δ φ) where
   mutual
-    unfolding lowestMark
+    unfolding AllElements
 
-    mark-never : (φ : Items) → lowestMark p φ ≡ none
-    mark-never Items.none = refl
-    mark-never (more i φ) = ap₂ lower (mark-never-in i) (mark-never φ)
+    all-of : (φ : Items) → AllElements P φ
+    all-of Items.none = tt
+    all-of (more i φ) = (all-of-item i, all-of φ)
 
-    mark-never-in : (i : Item) → lowestMarkIn p i ≡ none
-    mark-never-in text = refl
-    mark-never-in (gap g) = refl
-    mark-never-in (element e mark δ φ) = ap₂ lower (ap (λ (b : Bool). onlyIf b mark) (never e mark δ φ)) (mark-never φ)
+    all-of-item : (i : Item) → AllElementsOf P i
+    all-of-item text = tt
+    all-of-item (gap g) = tt
+    all-of-item (element e mark δ φ) = (each e mark δ φ, all-of φ)
 
--- A test of elements of a name that does not occur.
-mark-absent : (e : ℕ) (p : ℕ → ℕ → List Attribute → Items → Bool) (φ : Items) → (SomeElement (λ e′ mark δ χ. e′ ≡ e) φ → ⊥)
-    → lowestMark (λ e′ mark δ χ. eqb e′ e && p e′ mark δ χ) φ ≡ none
-mark-absent e p φ absent = least-none (least-mark (λ e′ mark δ χ. eqb e′ e && p e′ mark δ χ) φ)
-    (λ at s. absent (some-into (λ e′ mark δ χ. (mark ≡ at) × ((eqb e′ e && p e′ mark δ χ) ≡ true)) (λ e′ mark δ χ. e′ ≡ e)
-    (λ e′ mark δ χ h. eqb-true e′ e (and-left (eqb e′ e) (p e′ mark δ χ) (h .1))) φ s))
+-- A test that no element passes.
+module _ (p : ℕ → ℕ → List Attribute → Items → Bool) where
+  mutual
+    unfolding lowestMark AllElements
+
+    mark-never : (φ : Items) → AllElements (λ e mark δ χ. p e mark δ χ ≡ false) φ → lowestMark p φ ≡ none
+    mark-never Items.none h = refl
+    mark-never (more i φ) h = ap₂ lower (mark-never-in i (h .0)) (mark-never φ (h .1))
+
+    mark-never-in : (i : Item) → AllElementsOf (λ e mark δ χ. p e mark δ χ ≡ false) i → lowestMarkIn p i ≡ none
+    mark-never-in text h = refl
+    mark-never-in (gap g) h = refl
+    mark-never-in (element e mark δ φ) h = ap₂ lower (ap (λ (b : Bool). onlyIf b mark) (h .0)) (mark-never φ (h .1))
+
+-- A test of elements of one name, which those of that name do not pass.
+pub other-name : (e′ e : ℕ) (b : Bool) → (e′ ≡ e → b ≡ false) → (eqb e′ e && b) ≡ false
+other-name e′ e b h = go (eqb e′ e) refl
+  where
+    go : (t : Bool) → eqb e′ e ≡ t → (t && b) ≡ false
+    go true q = h (eqb-true e′ e q)
+    go false q = refl
 
 module _ (φs : List Items) where
   pub lowered-nothing : (test : Test) (table : List ℕ) → Lowered φs 0 test table table
@@ -51,11 +66,16 @@ module _ (φs : List Items) where
   unchanged true o m e = sym (ap (lower o) e ∙ lower-none o)
   unchanged false o m e = refl
 
+  pub lowered-unmet : (chosen : ℕ) (test : Test) (table : List ℕ)
+      → ((n : ℕ) → n ≤ length φs → AllElements (λ e mark δ φ. test n e mark δ φ ≡ false) (templateAt φs n)) → Lowered φs chosen test table table
+  lowered-unmet chosen test table unmet = record {
+    at = λ n l. unchanged (member chosen n) (wrongOf (getD table n 0)) (lowestMark (test n) (templateAt φs n)) (mark-never (test n) (templateAt φs n) (unmet n l));
+  }
+
   pub lowered-never : (chosen : ℕ) (test : Test) (table : List ℕ) → ((n e mark : ℕ) (δ : List Attribute) (φ : Items) → test n e mark δ φ ≡ false)
       → Lowered φs chosen test table table
-  lowered-never chosen test table never = record {
-    at = λ n l. unchanged (member chosen n) (wrongOf (getD table n 0)) (lowestMark (test n) (templateAt φs n)) (mark-never (test n) (never n) (templateAt φs n));
-  }
+  lowered-never chosen test table never =
+      lowered-unmet chosen test table (λ n l. all-of (λ e mark δ φ. test n e mark δ φ ≡ false) (never n) (templateAt φs n))
 
   -- Two tests, one after the other.
   pub lowered-then : (chosen : ℕ) (first second : Test) (table middle lowest : List ℕ) → Lowered φs chosen first table middle
@@ -81,37 +101,10 @@ module _ (φs : List Items) where
         (mark-same (test n) (other n) (same n) (templateAt φs n));
   }
 
-  -- The templates of a set in two parts.
-  pub lowered-parts : (chosen known others : ℕ) (test : Test) (table middle lowest : List ℕ) (yields : ℕ)
-      → ((k : ℕ) → member known k ≡ (member chosen k && member yields k)) → ((k : ℕ) → member others k ≡ (member chosen k && not (member yields k)))
-      → Lowered φs known test table middle → Lowered φs others test middle lowest → Lowered φs chosen test table lowest
-  lowered-parts chosen known others test table middle lowest yields first second F S = record {
-    at = λ n l. S .at n l ∙ go n (member chosen n) (member yields n) (first n) (second n) (F .at n l);
-  }
-    where
-      here : ℕ → Option ℕ
-      here n = lowestMark (test n) (templateAt φs n)
-
-      go : (n : ℕ) (a b : Bool) → member known n ≡ (a && b) → member others n ≡ (a && not b)
-          → wrongOf (getD middle n 0) ≡ cond (member known n) (lower (wrongOf (getD table n 0)) (here n)) (wrongOf (getD table n 0))
-          → cond (member others n) (lower (wrongOf (getD middle n 0)) (here n)) (wrongOf (getD middle n 0))
-          ≡ cond a (lower (wrongOf (getD table n 0)) (here n)) (wrongOf (getD table n 0))
-      go n true true p q e = rw (q, e, p)
-      go n true false p q e = rw (q, e, p)
-      go n false true p q e = rw (q, e, p)
-      go n false false p q e = rw (q, e, p)
-
-  -- Nothing is left of a set without all of its members.
-  pub lowered-known : (chosen known others : ℕ) (test : Test) (table lowest : List ℕ) (yields : ℕ) → others ≡ 0
-      → ((k : ℕ) → member known k ≡ (member chosen k && member yields k)) → ((k : ℕ) → member others k ≡ (member chosen k && not (member yields k)))
-      → Lowered φs known test table lowest → Lowered φs chosen test table lowest
-  lowered-known chosen known others test table lowest yields z first second F =
-      lowered-parts chosen known others test table lowest lowest yields first second F (rw z (lowered-nothing test lowest))
-
   -- Templates in which no element of the name stands may be left out.
   pub lowered-wider : (chosen reached standing e : ℕ) (test : Test) (table lowest : List ℕ)
       → ((k : ℕ) → member chosen k ≡ (member reached k && member standing k))
-      → ((n : ℕ) → n ≤ length φs → SomeElement (λ e′ mark δ φ. e′ ≡ e) (templateAt φs n) → member standing n ≡ true)
+      → ((n : ℕ) → n ≤ length φs → AllElements (λ e′ mark δ φ. e′ ≡ e → member standing n ≡ true) (templateAt φs n))
       → Lowered φs chosen (λ n e′ mark δ φ. eqb e′ e && test n e′ mark δ φ) table lowest
       → Lowered φs reached (λ n e′ mark δ φ. eqb e′ e && test n e′ mark δ φ) table lowest
   lowered-wider chosen reached standing e test table lowest common stands L = record {
@@ -126,5 +119,7 @@ module _ (φs : List Items) where
           ≡ cond a (lower (wrongOf (getD table n 0)) (here n)) (wrongOf (getD table n 0))
       go n l true true h c = rw c
       go n l true false h c = rw c (unchanged true (wrongOf (getD table n 0)) (here n)
-          (mark-absent e (test n) (templateAt φs n) (λ s. false≢true (sym h ∙ stands n l s))))
+          (mark-never (λ e′ mark δ φ. eqb e′ e && test n e′ mark δ φ) (templateAt φs n)
+          (all-into (λ e′ mark δ φ. e′ ≡ e → member standing n ≡ true) (λ e′ mark δ φ. (eqb e′ e && test n e′ mark δ φ) ≡ false)
+          (λ e′ mark δ φ there. other-name e′ e (test n e′ mark δ φ) (λ q. absurd (false≢true (sym h ∙ there q)))) (templateAt φs n) (stands n l))))
       go n l false b h c = rw c

@@ -15,90 +15,101 @@ use Rattle.commands.specs.Reading.{whole}
 use Rattle.commands.proofs.Laws.{byte-past}
 use Rattle.vocabularies.specs.declared.Facts.{Facts}
 use Rattle.vocabularies.specs.declared.Gathered.{Gathered}
-use Rattle.vocabularies.specs.declared.Tables.{Tables}
 use Rattle.vocabularies.specs.Vocabulary.{Formula, Rule, Vocabulary, ruleOf, isSome}
-use Rattle.vocabularies.specs.Facts.{factsOf}
-use Rattle.vocabularies.specs.VocabularyReading.{formula}
+use Rattle.vocabularies.specs.VocabularyReading.{mostFacts}
 use Rattle.vocabularies.specs.VocabularyReading as Reading
-use Rattle.vocabularies.specs.Promises.{Represents, Gathers, Describes}
+use Rattle.vocabularies.specs.Facts.{factsOf}
+use Rattle.vocabularies.specs.Promises.{Represents, Gathers}
 use Rattle.vocabularies.proofs.Clauses.{Clausal, no-more, one-more, clauses-formed}
 use Rattle.pages.specs.Items.{Attribute, Items}
-use Rattle.pages.specs.RightPages.{_∈_}
+use Rattle.pages.specs.RightPages.{_∈_, names}
 use Rattle.pages.proofs.Whole.{never-unfinished}
+use Rattle.programs.specs.Program.{templateAt}
 use Rattle.summaries.specs.Summaries.{Summary}
 use Rattle.patterns.specs.Rounds.{Sets}
 use Rattle.patterns.specs.Exactness.{Exact}
 use Rattle.patterns.specs.Elements.{clauseFails, someClauseFails}
-use Rattle.patterns.proofs.Bits.{facts-distinct}
+use Rattle.patterns.proofs.Tests.{and-left}
 use Rattle.pattern_sets.specs.PatternSets.{FirstMember}
-use Rattle.occurrences.specs.Occurrences.{Occurrences}
+use Rattle.clauses.specs.declared.Holding.{Holding}
+use Rattle.clauses.specs.Leaves.{NamesBetween, AlwaysHolds}
+use Rattle.occurrences.specs.Occurrences.{Tells, Occurrences}
+use Rattle.occurrences.proofs.Names.{all-into}
 use Rattle.reach.specs.PlainlyWrong.{clauseBy, wrongByClause}
-use Rattle.elements.specs.declared.Clause.{Clause}
-use Rattle.elements.specs.Attributes.{ClauseAt, patternsBy}
+use Rattle.elements.specs.Attributes.{patternsBy}
 use Rattle.elements.specs.Search.{failsAt}
-use Rattle.elements.specs.Rules.{ClauseOf, Standing, AllYield, Lowered, SearchesClause, SearchesRule, RulesStand, ExactClauses, SearchesRules}
+use Rattle.elements.specs.Rules.{Standing, AllYield, Lowered, Bears, SearchesClause, SearchesRule, RulesStand, ExactClauses, SearchesRules}
+use Rattle.elements.proofs.Templates.{clause-always}
 use Rattle.elements.proofs.LoweredTables.{lowered-nothing, lowered-never, lowered-then, lowered-same, lowered-wider}
 
 -- ---- the clauses of one rule
 
-module _ (s : List ℕ) (e at : ℕ) (words starts : List ℕ) (count chosen yields : ℕ) (table : List ℕ) where
+module _ (s : List ℕ) (e at : ℕ) (words gaps lone starts : List ℕ) (count chosen always ever : ℕ) (table : List ℕ) where
   -- No template is chosen.
-  pub rule-nowhere : chosen ≡ 0 → SearchesRule s e at words starts count chosen yields table table
-  rule-nowhere z φs G X S Y f end ψs reads exact = rw z (lowered-nothing φs (λ n e′ mark δ φ. eqb e′ e && someClauseFails φs G X ψs n δ φ) table)
+  pub rule-nowhere : chosen ≡ 0 → SearchesRule s e at words gaps lone starts count chosen always ever table table
+  rule-nowhere z φs G X S Y B f end ψs reads exact = rw z (lowered-nothing φs (λ n e′ mark δ φ. eqb e′ e && someClauseFails φs G X ψs n δ φ) table)
 
   -- No clause is left.
-  pub rule-ends : (byte s at ≡ 0x04 → ⊥) → SearchesRule s e at words starts count chosen yields table table
+  pub rule-ends : (byte s at ≡ 0x04 → ⊥) → SearchesRule s e at words gaps lone starts count chosen always ever table table
   unfolding Reading.clauses someClauseFails
-  rule-ends n φs G X S Y zero end ψs reads exact = never-unfinished reads
-  rule-ends n φs G X S Y (suc f) end ψs reads exact = go (clauses-formed f s at ψs end reads)
+  rule-ends n φs G X S Y B zero end ψs reads exact = never-unfinished reads
+  rule-ends n φs G X S Y B (suc f) end ψs reads exact = go (clauses-formed f s at ψs end reads)
     where
       go : Clausal f s at ψs end → Lowered φs chosen (λ n e′ mark δ φ. eqb e′ e && someClauseFails φs G X ψs n δ φ) table table
       go (no-more k q z) = rw q (lowered-never φs chosen (λ n e′ mark δ φ. eqb e′ e && false) table (λ n e′ mark δ φ. and-false (eqb e′ e)))
       go (one-more k ψ next rest r l t q) = absurd (n k)
 
-  -- A clause, and then the others.
-  module _ (t₀ : Facts) (nothing : Represents t₀ []) (gathered : Gathered) (G₀ : Gathers s (at + 1) t₀ gathered)
-      (c : Clause) (C₀ : ClauseOf (gathered .facts) e (at + 1) c) (middle : List ℕ) (T : SearchesClause s c words starts count chosen yields table middle) where
-    clause-stands : (f next : ℕ) (ψ : Formula) → formula f s 0 (at + 1) ≡ whole ψ next → length (factsOf ψ) ≤ 8 → ClauseAt s ψ c
-    clause-stands f next ψ reads few =
-        let kept : Represents (gathered .facts) (factsOf ψ) = G₀ .gathers f 0 ψ next reads [] nothing in
-        record {
-          reads = C₀ .reads (factsOf ψ) kept few (facts-distinct ψ);
-          tells = C₀ .tells (factsOf ψ) kept few;
-          is-plain = C₀ .is-plain (factsOf ψ) kept few;
-          fuel = f;
-          depth = 0;
-          end = next;
-          stands = subst (λ (k : ℕ). formula f s 0 k ≡ whole ψ next) (sym (C₀ .stands-at)) reads;
-        }
-
+  -- A clause, which makes the first table the second, and then the others.
+  module _ (middle : List ℕ) (after : ℕ) (T : (φs : List Items) (G : Summary) (X : Sets) → Standing s φs G words gaps lone starts count → AllYield φs G chosen
+      → Bears φs e always ever → (f next : ℕ) (ψ : Formula) → Reading.formula f s 0 (at + 1) ≡ whole ψ next → length (factsOf ψ) ≤ mostFacts
+      → Exact φs G (patternsBy ψ) X → (after ≡ next) × Lowered φs chosen (λ n. failsAt φs G ψ X n e) table middle) where
     either-clause : (b p q : Bool) → ((b && p) || (b && q)) ≡ (b && (p || q))
     either-clause true p q = refl
     either-clause false p q = refl
 
-    pub rule-goes : byte s at ≡ 0x04 → (lowest : List ℕ) → SearchesRule s e (gathered .end .at) words starts count chosen yields middle lowest
-        → SearchesRule s e at words starts count chosen yields table lowest
+    clause-then : byte s at ≡ 0x04 → (lowest : List ℕ) → SearchesRule s e after words gaps lone starts count chosen always ever middle lowest
+        → SearchesRule s e at words gaps lone starts count chosen always ever table lowest
     unfolding Reading.clauses someClauseFails
-    rule-goes code lowest later φs G X S Y zero end ψs reads exact = never-unfinished reads
-    rule-goes code lowest later φs G X S Y (suc f) end ψs reads exact = go (clauses-formed f s at ψs end reads) exact
+    clause-then code lowest later φs G X S Y B zero end ψs reads exact = never-unfinished reads
+    clause-then code lowest later φs G X S Y B (suc f) end ψs reads exact = go (clauses-formed f s at ψs end reads) exact
       where
         go : Clausal f s at ψs end → ((ψ : Formula) → ψ ∈ ψs → Exact φs G (patternsBy ψ) (X ψ))
             → Lowered φs chosen (λ n e′ mark δ φ. eqb e′ e && someClauseFails φs G X ψs n δ φ) table lowest
         go (no-more n q z) each = absurd (n code)
         go (one-more k ψ next rest reads-ψ few reads-rest q) each =
             let each′ = subst (λ (l : List Formula). (χ : Formula) → χ ∈ l → Exact φs G (patternsBy χ) (X χ)) q each in
-            let here : Lowered φs chosen (λ n. failsAt φs G ψ (X ψ) n (c .element)) table middle =
-            T φs G ψ (X ψ) S Y (clause-stands f next ψ reads-ψ few) (each′ ψ (List·Memᴰ·head refl)) in
-            let after = later φs G X S Y f end rest
-            (subst (λ (j : ℕ). Reading.clauses f s j ≡ whole rest end) (sym (G₀ .ends f 0 ψ next reads-ψ)) reads-rest)
+            let (ends, here) = T φs G (X ψ) S Y B f next ψ reads-ψ few (each′ ψ (List·Memᴰ·head refl)) in
+            let others = later φs G X S Y B f end rest (subst (λ (j : ℕ). Reading.clauses f s j ≡ whole rest end) (sym ends) reads-rest)
             (λ χ m. each′ χ (List·Memᴰ·tail m)) in
             rw q (lowered-same φs chosen
-            (λ n e′ mark δ φ. (eqb e′ (c .element) && clauseFails φs G ψ (X ψ) n δ φ) || (eqb e′ e && someClauseFails φs G X rest n δ φ))
+            (λ n e′ mark δ φ. (eqb e′ e && clauseFails φs G ψ (X ψ) n δ φ) || (eqb e′ e && someClauseFails φs G X rest n δ φ))
             (λ n e′ mark δ φ. eqb e′ e && (clauseFails φs G ψ (X ψ) n δ φ || someClauseFails φs G X rest n δ φ)) table lowest
-            (λ n e′ mark δ φ.
-            ap (λ (j : ℕ). (eqb e′ j && clauseFails φs G ψ (X ψ) n δ φ) || (eqb e′ e && someClauseFails φs G X rest n δ φ)) (C₀ .of-element)
-            ∙ either-clause (eqb e′ e) (clauseFails φs G ψ (X ψ) n δ φ) (someClauseFails φs G X rest n δ φ))
-            (lowered-then φs chosen (λ n. failsAt φs G ψ (X ψ) n (c .element)) (λ n e′ mark δ φ. eqb e′ e && someClauseFails φs G X rest n δ φ) table middle lowest here after))
+            (λ n e′ mark δ φ. either-clause (eqb e′ e) (clauseFails φs G ψ (X ψ) n δ φ) (someClauseFails φs G X rest n δ φ))
+            (lowered-then φs chosen (λ n. failsAt φs G ψ (X ψ) n e) (λ n e′ mark δ φ. eqb e′ e && someClauseFails φs G X rest n δ φ) table middle lowest here others))
+
+  pub rule-goes : (t₀ : Facts) → Represents t₀ [] → (gathered : Gathered) → Gathers s (at + 1) t₀ gathered
+      → (middle : List ℕ) → SearchesClause s e (at + 1) (gathered .facts) words gaps lone starts count chosen table middle
+      → byte s at ≡ 0x04 → (lowest : List ℕ) → SearchesRule s e (gathered .end .at) words gaps lone starts count chosen always ever middle lowest
+      → SearchesRule s e at words gaps lone starts count chosen always ever table lowest
+  rule-goes t₀ nothing gathered G₀ middle T = clause-then middle (gathered .end .at) (λ φs G X S Y B f next ψ reads few exact. (
+    G₀ .ends f 0 ψ next reads,
+    T φs G ψ X S Y (record {
+      represents = G₀ .gathers f 0 ψ next reads [] nothing;
+      few = few;
+      fuel = f;
+      depth = 0;
+      end = next;
+      stands = reads;
+    }) exact,
+  ))
+
+  -- A clause that always holds, and then the others.
+  pub rule-skips : (known : Holding) → AlwaysHolds always ever s (at + 1) known → known .holds ≡ true
+      → byte s at ≡ 0x04 → (lowest : List ℕ) → SearchesRule s e (known .next .at) words gaps lone starts count chosen always ever table lowest
+      → SearchesRule s e at words gaps lone starts count chosen always ever table lowest
+  rule-skips known told is-known = clause-then table (known .next .at) (λ φs G X S Y B f next ψ reads few exact.
+      let (ends, is-true) = told f 0 next ψ reads in
+      (ends, clause-always always ever φs G ψ X (is-true is-known) e chosen table B))
 
 -- A clause stands before the end.
 pub clause-inside : (s : List ℕ) (at : ℕ) → byte s at ≡ 0x04 → at < length s
@@ -109,14 +120,10 @@ clause-inside s at code = go (ltb at (length s)) refl
     go false e = let z = byte-past s at (ltb-false at (length s) e) in absurd (omega arith)
 
 -- Where the search has come: what the clauses from here on make of this table is what all of them make of the first.
-pub record Ruling (s : List ℕ) (e from : ℕ) (words starts : List ℕ) (count chosen yields : ℕ) (table : List ℕ) (at : ℕ) (lowest : List ℕ) : Type 0 where
-  pub goes : (r : List ℕ) → SearchesRule s e at words starts count chosen yields lowest r → SearchesRule s e from words starts count chosen yields table r
+pub record Ruling (s : List ℕ) (e from : ℕ) (words gaps lone starts : List ℕ) (count chosen always ever : ℕ) (table : List ℕ) (at : ℕ) (lowest : List ℕ) : Type 0 where
+  pub goes : (r : List ℕ) → SearchesRule s e at words gaps lone starts count chosen always ever lowest r → SearchesRule s e from words gaps lone starts count chosen always ever table r
 
 -- ---- all rules
-
--- The tables of a vocabulary that was read say so.
-pub rules-stand : (s : List ℕ) (D : Vocabulary) (t : Tables) → Describes s D t → RulesStand s D (t .declared) (t .clauses)
-rules-stand s D t described = record { declares = described .declares; stands = λ e r rule. described .rule e r rule .stands }
 
 found-rule : (o : Option Rule) → isSome o ≡ true → (R : Rule) × (o ≡ some R)
 found-rule none h = absurd (false≢true h)
@@ -126,13 +133,13 @@ no-rule : (o : Option Rule) → isSome o ≡ false → o ≡ none
 no-rule none h = refl
 no-rule (some R) h = absurd (false≢true (sym h))
 
-module _ (s : List ℕ) (declared : ℕ) (clauses standing words starts : List ℕ) (count reached yields : ℕ) (table : List ℕ) where
+module _ (s : List ℕ) (declared : ℕ) (clauses standing words gaps lone starts : List ℕ) (count reached : ℕ) (table : List ℕ) where
   -- The rules of the elements below a number.
   pub record Ruled (e : ℕ) (lowest : List ℕ) : Type 0 where
     pub most : e ≤ 64
     pub is-declared : e < 64 → member declared e ≡ true
-    pub lowers : (φs : List Items) (G : Summary) (D : Vocabulary) (X : Formula → Sets) → Standing s φs G words count starts
-        → AllYield φs G yields → RulesStand s D declared clauses → Occurrences φs standing → ExactClauses φs G D X
+    pub lowers : (φs : List Items) (G : Summary) (D : Vocabulary) (X : Formula → Sets) → Standing s φs G words gaps lone starts count
+        → AllYield φs G reached → RulesStand s D declared clauses → Occurrences φs standing → ExactClauses φs G D X
         → Lowered φs reached (λ n e′ mark δ φ. ltb e′ e && wrongByClause φs G X D n e′ δ φ) table lowest
 
   module _ (φs : List Items) (G : Summary) (D : Vocabulary) (X : Formula → Sets) (R : RulesStand s D declared clauses) where
@@ -172,6 +179,13 @@ module _ (s : List ℕ) (declared : ℕ) (clauses standing words starts : List �
               let l = ltb-false e′ e q in
               sym (skipped (e + 1) next is e′ n δ φ (omega arith))
 
+  -- What the table says of the attributes of each element.
+  bears : (φs : List Items) → Occurrences φs standing → (e : ℕ) → Bears φs e (getD standing (e + 64) 0) (getD standing (e + 128) 0)
+  bears φs H e n l = all-into (λ e′ mark δ φ. Tells standing n e′ δ)
+      (λ e′ mark δ φ. e′ ≡ e → NamesBetween (getD standing (e + 64) 0) (getD standing (e + 128) 0) (names δ))
+      (λ e′ mark δ φ T q. subst (λ (k : ℕ). NamesBetween (getD standing (k + 64) 0) (getD standing (k + 128) 0) (names δ)) q
+      (record { has = T .always; within = T .ever })) (templateAt φs n) (H n l)
+
   pub ruled-none : (e : ℕ) → FirstMember declared 0 e → Ruled e table
   ruled-none e is = record {
     most = is .within;
@@ -181,7 +195,7 @@ module _ (s : List ℕ) (declared : ℕ) (clauses standing words starts : List �
   }
 
   pub ruled-more : (e : ℕ) (lowest : List ℕ) → Ruled e lowest → e < 64 → (chosen : ℕ) → ((k : ℕ) → member chosen k ≡ (member reached k && member (getD standing e 0) k))
-      → (more : List ℕ) → SearchesRule s e (getD clauses e 0) words starts count chosen yields lowest more
+      → (more : List ℕ) → SearchesRule s e (getD clauses e 0) words gaps lone starts count chosen (getD standing (e + 64) 0) (getD standing (e + 128) 0) lowest more
       → (next : ℕ) → FirstMember declared (e + 1) next → Ruled next more
   ruled-more e lowest before low chosen common more searched next is = record {
     most = is .within;
@@ -190,9 +204,10 @@ module _ (s : List ℕ) (declared : ℕ) (clauses standing words starts : List �
         let (r, rule) = found-rule (ruleOf (D .rules) e) (sym (R .declares e) ∙ before .is-declared low) in
         let from = getD clauses e 0 in
         let (end, reads) = R .stands e r rule ((length s - from) + (length s - from) + 2) (omega arith) in
-        let here = searched φs G X S Y ((length s - from) + (length s - from) + 2) end (r .clauses) reads (λ ψ m. exact e r ψ rule m) in
+        let here = searched φs G X S (λ n l m. Y n l (and-left (member reached n) (member (getD standing e 0) n) (sym (common n) ∙ m))) (bears φs H e) ((length s - from) + (length s - from) + 2) end (r .clauses) reads (λ ψ m. exact e r ψ rule m) in
         let wide = lowered-wider φs chosen reached (getD standing e 0) e (λ n e′ mark δ φ. someClauseFails φs G X (r .clauses) n δ φ) lowest more common
-        (λ n l m. H n e l low m) here in
+        (λ n l. all-into (λ e′ mark δ φ. Tells standing n e′ δ) (λ e′ mark δ φ. e′ ≡ e → member (getD standing e 0) n ≡ true)
+        (λ e′ mark δ φ T q. subst (λ (k : ℕ). member (getD standing k 0) n ≡ true) q (T .stands)) (templateAt φs n) (H n l)) here in
         lowered-same φs reached
         (λ n e′ mark δ φ. (ltb e′ e && wrongByClause φs G X D n e′ δ φ) || (eqb e′ e && someClauseFails φs G X (r .clauses) n δ φ))
         (λ n e′ mark δ φ. ltb e′ next && wrongByClause φs G X D n e′ δ φ) table more
@@ -202,7 +217,7 @@ module _ (s : List ℕ) (declared : ℕ) (clauses standing words starts : List �
   }
 
   pub ruled-all : (e : ℕ) (lowest : List ℕ) → Ruled e lowest → 64 ≤ e → declared < 2 ^ 64
-      → SearchesRules s declared clauses standing words starts count reached yields table lowest
+      → SearchesRules s declared clauses standing words gaps lone starts count reached table lowest
   ruled-all e lowest all l narrow φs G D X S Y R H exact = lowered-same φs reached
       (λ n e′ mark δ φ. ltb e′ e && wrongByClause φs G X D n e′ δ φ) (λ n e′ mark δ φ. wrongByClause φs G X D n e′ δ φ) table lowest
       (λ n e′ mark δ φ. go n e′ δ φ (ltb e′ e) refl) (all .lowers φs G D X S Y R H exact)

@@ -1,31 +1,30 @@
 -- The items of a template from the left: the lowest wrong element of what was passed, then of the item, then of the others.
-use Prim.Native.Nat.{ℕ, zero, suc, _+_, _≤_}
+use Prim.Native.Nat.{ℕ, zero, suc, _+_, _%_, _<_, _≤_}
 use mathlib.Core.Path.{_≡_, refl, sym, ap, subst, _∙_}
-use mathlib.Core.List.{List, []}
-use mathlib.Core.Bool.{Bool, true, false, cond, false≢true}
+use mathlib.Core.List.{List, [], _∷_}
+use mathlib.Core.Bool.{Bool, true, false, not, _&&_, false≢true}
 use mathlib.Core.Option.{Option, none}
 use mathlib.Core.Logic.{_↔_, inl, inr}
 use native.Mathlib.Omega.{arith}
 use lib.ListN.{length}
 use lib.Dec.{eqb}
-use lib.Pow.{pow-pos}
 use borrow.Author.Tests.{eq-eqb, ne-eqb, eqb-true}
-use Rattle.commands.specs.Commands.{byte, operandBytes}
+use Rattle.sets.specs.Sets.{member}
+use Rattle.commands.specs.Commands.{byte, operandBytes, operandsOf}
 use Rattle.commands.specs.Reading.{whole}
 use Rattle.commands.proofs.Laws.{byte-past}
-use Rattle.vocabularies.specs.Vocabulary.{Formula}
+use Rattle.vocabularies.specs.Vocabulary.{Formula, isIn}
 use Rattle.vocabularies.specs.Facts.{Fact, present, ordered, valued, isAmong, factsOf}
 use Rattle.pages.specs.declared.Kind.the-variants.{Template}
 use Rattle.pages.specs.Items.{Attribute, Item, text, gap, element, Items, more}
-use Rattle.pages.specs.Items as Items
-use Rattle.pages.specs.ItemReading.{leafAt, items}
+use Rattle.pages.specs.ItemReading.{items}
 use Rattle.pages.specs.RightPages.{names, word}
 use Rattle.pages.proofs.Whole.{never-unfinished, items-whole}
 use Rattle.judging.specs.Promises.{wrongOf}
 use Rattle.judging.proofs.ItemLaws.{found-at}
 use Rattle.summaries.specs.Summaries.{Summary}
 use Rattle.patterns.specs.Patterns.{flagged, patternOf}
-use Rattle.patterns.specs.Rounds.{Sets, attributesTake, allTake, itemTakes, patterns}
+use Rattle.patterns.specs.Rounds.{Set, Sets, only, product, attributesTake, allTake, itemTakes, patterns, itemPatterns}
 use Rattle.patterns.specs.Exactness.{Derivable}
 use Rattle.patterns.specs.Elements.{attributePatterns, elementPatterns, clauseFails}
 use Rattle.patterns.specs.Shows.{lower, onlyIf, lowestMark, lowestMarkIn}
@@ -33,23 +32,28 @@ use Rattle.patterns.proofs.Tests.{and-left, and-right, same-test}
 use Rattle.patterns.proofs.Clauses.{numbered-same}
 use Rattle.patterns.proofs.Lawful.{clause-lawful}
 use Rattle.patterns.proofs.Exact.{contents-exact, takes-exact}
-use Rattle.patterns.proofs.Bits.{pattern-of-nothing}
-use Rattle.pattern_sets.specs.PatternSets.{holds}
-use Rattle.readings.specs.Readings.{of-facts}
+use Rattle.patterns.proofs.Products.{clause-monoid, product-assoc, product-unit-left}
+use Rattle.pattern_sets.specs.PatternSets.{holds, IsEmpty, Same}
+use Rattle.readings.specs.Readings.{Is, of-facts}
 use Rattle.readings.specs.Promises.{Multiplies}
 use Rattle.clauses.specs.declared.Tested.{Tested}
 use Rattle.clauses.specs.Promises.{ClauseFails}
-use Rattle.languages.specs.declared.Patterned.{Patterned}
+use Rattle.clauses.proofs.TrueForms.{tells-failure}
+use Rattle.languages.specs.declared.Line.{Line}
 use Rattle.languages.specs.Tables.{of-clause}
-use Rattle.languages.specs.Promises.{ListPatterns}
+use Rattle.languages.specs.Promises.{LineIs, LineBegins, LineWithContent, LineWithGap}
+use Rattle.languages.proofs.Uses.{is-as, product-as}
+use Rattle.languages.proofs.ItemLaws.{unit-set, leaf-read, element-read, gap-range}
 use Rattle.occurrences.specs.Occurrences.{EndsAttributes}
-use Rattle.occurrences.proofs.TemplateItems.{parts, continues, first-code, leaf-is}
+use Rattle.occurrences.proofs.TemplateItems.{parts, continues, first-code}
 use Rattle.elements.specs.declared.Clause.{Clause}
 use Rattle.elements.specs.declared.Attributed.{Attributed}
+use Rattle.elements.specs.declared.Found.{Found}
 use Rattle.elements.specs.declared.Searched.{Searched}
 use Rattle.elements.specs.Attributes.{OnlyValued, patternsBy, Attributes}
-use Rattle.elements.specs.Search.{OfSearch, Filled, ItemFilled, HasContents, failsAt, ElementFails, SearchesItems, SearchesItem}
+use Rattle.elements.specs.Search.{Testing, ElementPatterns, FailsUnder, failsAt, ElementFails, TellsWanted, OfSearch, SearchesItems, SearchesItem}
 use Rattle.elements.proofs.Lowers.{lower-none, lower-assoc}
+use Rattle.elements.proofs.PatternSets.{product-nothing}
 
 -- ---- an element
 
@@ -70,176 +74,249 @@ marked fails at inside r e h = rw (e, ← (found-at at)) h
 pub not-marked : (fails : Bool) (at inside : ℕ) → fails ≡ false → wrongOf inside ≡ lower (onlyIf fails at) (wrongOf inside)
 not-marked fails at inside e = rw e
 
-module _ (s : List ℕ) (at : ℕ) (c : Clause) (words takes : List ℕ) (n : ℕ) where
-  -- Where facts are about attributes alone, every word has the pattern of nothing.
-  pub contents-plain : (r : List ℕ) → c .plain ≡ true → ((y : ℕ) → holds r y ≡ eqb y 0) → HasContents s at c words takes n r
-  contents-plain r plain one φs G ψ X S ruled f depth end φ e full = record {
-    inside = λ x h. one x ∙ same-test (eqb x 0) (patterns φs G (patternsBy ψ) X n φ x)
-        (λ q. rw (eqb-true x 0 q) there) (λ q. only-nothing x (exact x .0 q));
-    outside = λ x h. let p = pow-pos (length (factsOf ψ)) in one x ∙ ne-eqb x 0 (λ q. omega arith);
-  }
+-- Where facts are about attributes alone, contents have the pattern of nothing.
+module _ (s : List ℕ) (c : Clause) (words : List ℕ) (φs : List Items) (G : Summary) (ψ : Formula) (X : Sets) (T : Testing s c words φs G ψ X) where
+  plain-contents : c .plain ≡ true → (n : ℕ) (φ : Items) → allTake φs G (patternsBy ψ) X n φ ≡ true
+      → (x : ℕ) → patterns φs G (patternsBy ψ) X n φ x ≡ only (patternsBy ψ .of []) x
+  plain-contents plain n φ full x = same-test (patterns φs G (patternsBy ψ) X n φ x) (eqb x (patternsBy ψ .of []))
+      (λ q. let (page, d, p) = exact x .0 q in eq-eqb x (patternsBy ψ .of []) (sym p ∙ of-word (word page)))
+      (λ q. rw (eqb-true x (patternsBy ψ .of []) q) there)
     where
-      exact : (x : ℕ) → patterns φs G (patternsBy ψ) X n φ x ≡ true ↔ Derivable φs G (patternsBy ψ) n φ x
-      exact = contents-exact φs G (S .bounded) (patternsBy ψ) (clause-lawful ψ) X (S .exact) n φ
+      exact : (y : ℕ) → patterns φs G (patternsBy ψ) X n φ y ≡ true ↔ Derivable φs G (patternsBy ψ) n φ y
+      exact = contents-exact φs G (T .bounded) (patternsBy ψ) (clause-lawful ψ) X (T .exact) n φ
 
-      of-word : (w : List ℕ) → patternsBy ψ .of w ≡ 0
-      of-word w = unread (factsOf ψ) (S .clause .is-plain plain) w ∙ pattern-of-nothing (factsOf ψ)
+      of-word : (w : List ℕ) → patternsBy ψ .of w ≡ patternsBy ψ .of []
+      of-word w = unread (factsOf ψ) (T .clause .is-plain plain) w
 
-      there : patterns φs G (patternsBy ψ) X n φ 0 ≡ true
+      there : patterns φs G (patternsBy ψ) X n φ (patternsBy ψ .of []) ≡ true
       there =
-          let (page, d) = takes-exact φs G (S .bounded) (patternsBy ψ) (clause-lawful ψ) X (S .exact) n φ .0 (full plain) in
-          exact 0 .1 (page, d, of-word (word page))
+          let (page, d) = takes-exact φs G (T .bounded) (patternsBy ψ) (clause-lawful ψ) X (T .exact) n φ .0 full in
+          exact (patternsBy ψ .of []) .1 (page, d, of-word (word page))
 
-      only-nothing : (x : ℕ) → Derivable φs G (patternsBy ψ) n φ x → eqb x 0 ≡ true
-      only-nothing x (page, d, p) = eq-eqb x 0 (sym p ∙ of-word (word page))
+module _ (c : Clause) (outer inner : List ℕ) where
+  pub plain-patterns : c .plain ≡ true → ElementPatterns c outer inner outer
+  plain-patterns plain s ψ C A B is-outer nothing is-inner = product-nothing (patternsBy ψ) (clause-monoid ψ) outer A B (nothing plain) is-outer
 
-  pub contents-listed : (r : Patterned) → c .plain ≡ false → ListPatterns (c .reading) words takes n s at r → HasContents s at c words takes n (r .set)
-  contents-listed r about listed φs G ψ X S ruled f depth end φ e full =
-      listed φs G (patternsBy ψ) X (record {
-        used = of-clause ψ;
-        reads = of-facts (S .clause .reads);
-        bounded = S .bounded;
-        keeps = S .keeps;
-        gaps = S .gaps about;
-      }) ruled f depth end φ e .is
+  same-unit : (unit : List ℕ) (t : Bool) → t ≡ true → Same outer unit t → ((y : ℕ) → holds unit y ≡ eqb y 0) → (y : ℕ) → holds outer y ≡ eqb y 0
+  same-unit unit true e same one y = same y ∙ one y
+  same-unit unit false e same one y = absurd (false≢true e)
 
-  -- The patterns of its attributes with those of its contents after them, and the clause at each.
-  pub clause-tested : (attributed : Attributed) → Attributes s at c words n attributed
-      → (contents : List ℕ) → HasContents s (attributed .next .at) c words takes n contents
-      → (set : List ℕ) → Multiplies (c .reading) (attributed .set) contents set
-      → (tested : Tested) → ClauseFails (c .reading .facts) (attributed .names) set s (c .formula) tested
-      → ElementFails s at c words takes n (tested .fails)
-  unfolding clauseFails
-  clause-tested attributed outer contents inner set joined tested fails φs G ψ X S ruled f g depth inside end δ φ reads-δ reads-φ full =
-      let C = S .clause in
-      let a = outer ψ G C (S .keeps) f inside δ reads-δ in
-      let l = inner φs G ψ X S ruled g depth end φ
-      (subst (λ (k : ℕ). items g Template ruled s depth k ≡ whole φ end) (sym (a .ends)) reads-φ) full in
-      let m = joined (patternsBy ψ) (of-facts (C .reads)) (attributePatterns G (factsOf ψ) n δ) (patterns φs G (patternsBy ψ) X n φ) (a .patterns) l in
-      fails (factsOf ψ) (C .reads .represents) (C .reads .few) (names δ) (a .has) (elementPatterns φs G (factsOf ψ) X n δ φ) m
+  -- Attributes that have the pattern of nothing alone.
+  pub inner-patterns : c .plain ≡ false → (unit : List ℕ) → ((y : ℕ) → holds unit y ≡ eqb y 0) → (t : Bool) → t ≡ true → Same outer unit t
+      → ElementPatterns c outer inner inner
+  inner-patterns about unit one t e same s ψ C A B is-outer nothing is-inner =
+      let M = patternsBy ψ in
+      let unit-is = unit-set (of-facts (C .reads)) (of-clause ψ) outer (same-unit unit t e same one) in
+      is-as inner B (product M A B) (is-inner about) (λ x h.
+      sym (product-as M A (only (M .of [])) B B (λ y l. sym (is-outer .inside y l) ∙ unit-is .inside y l) (λ y l. refl) x ∙ product-unit-left M (clause-monoid ψ) B x h))
+
+  pub both-patterns : c .plain ≡ false → (r : List ℕ) → Multiplies (c .reading) outer inner r → ElementPatterns c outer inner r
+  both-patterns about r joined s ψ C A B is-outer nothing is-inner = joined (patternsBy ψ) (of-facts (C .reads)) A B is-outer (is-inner about)
+
+-- The formula, evaluated now or before.
+module _ (s : List ℕ) (c : Clause) (named : ℕ) (patterns : List ℕ) where
+  pub tested-now : (tested : Tested) → ClauseFails (c .reading .facts) named patterns s (c .formula) tested → FailsUnder s c named patterns (tested .fails)
+  tested-now tested fails ψ C ns is E held =
+      fails (factsOf ψ) (C .reads .represents) (C .reads .few) ns is E held (C .fuel) (C .depth) (C .end) ψ (C .stands) .1
+
+  pub tested-before : named ≡ c .names → (wrong : List ℕ) → ((y : ℕ) → holds wrong y ≡ (holds patterns y && not (holds (c .truths .set) y)))
+      → (nothing : Bool) → IsEmpty wrong nothing → FailsUnder s c named patterns (not nothing)
+  tested-before same wrong lacks nothing empty ψ C ns is E held =
+      tells-failure (c .reading .facts) (c .names) s (c .formula) (c .truths) patterns wrong nothing (C .true-at) lacks empty
+      (factsOf ψ) (C .reads .represents) (C .reads .few) ns (subst (λ (m : ℕ). (a : ℕ) → member m a ≡ isIn a ns) same is) E held
       (C .fuel) (C .depth) (C .end) ψ (C .stands) .1
 
-  -- The gaps inside an element.
-  inside-filled : (φs : List Items) (G : Summary) (ψ : Formula) (X : Sets) (i : Item) (e : ℕ) (δ : List Attribute) (φ : Items) → i ≡ element e at δ φ
-      → ItemFilled c φs G ψ X n i → Filled c φs G ψ X n φ
+-- The patterns of its attributes with those of its contents after them, and the clause at each.
+module _ (s : List ℕ) (at : ℕ) (c : Clause) (words : List ℕ) (n : ℕ) where
+  pub clause-tested : (attributed : Attributed) → Attributes s at c words n attributed → (inner : List ℕ)
+      → (set : List ℕ) → ElementPatterns c (attributed .set) inner set → (fails : Bool) → FailsUnder s c (attributed .names) set fails
+      → ElementFails s at c words n inner fails
+  unfolding clauseFails
+  clause-tested attributed outer inner set joined fails tested φs G ψ X T f end δ φ reads takes full is-inner =
+      let C = T .clause in
+      let a = outer ψ G C (T .keeps) f end δ reads takes in
+      let m = joined s ψ C (attributePatterns G (factsOf ψ) n δ) (patterns φs G (patternsBy ψ) X n φ) (a .patterns)
+      (λ plain x h. plain-contents s c words φs G ψ X T plain n φ full x) is-inner in
+      tested ψ C (names δ) (a .has) (elementPatterns φs G (factsOf ψ) X n δ φ) m
+
+-- The element at an offset, and what is inside it.
+module _ (s : List ℕ) (at : ℕ) (c : Clause) (words takes : List ℕ) (n : ℕ) (code : byte s at ≡ 0x23) (after : ℕ) (ends : EndsAttributes s (at + 2) after)
+    (b : ℕ) (is-name : b ≡ byte s (at + 1)) (wanted : Bool) (is-wanted : TellsWanted c b wanted)
+    (list : Searched) (within : SearchesItems s after c words takes n wanted list) where
+  -- What an element takes.
+  taken : (φs : List Items) (G : Summary) (ψ : Formula) (X : Sets) (i : Item) (e : ℕ) (δ : List Attribute) (φ : Items) → i ≡ element e at δ φ
+      → itemTakes φs G (patternsBy ψ) X n i ≡ true → (attributesTake G n δ && allTake φs G (patternsBy ψ) X n φ) ≡ true
   unfolding allTake
-  inside-filled φs G ψ X i e δ φ is full plain =
-      and-right (attributesTake G n δ) (allTake φs G (patternsBy ψ) X n φ) (subst (λ (j : Item). itemTakes φs G (patternsBy ψ) X n j ≡ true) is (full plain))
+  taken φs G ψ X i e δ φ is full = subst (λ (j : Item). itemTakes φs G (patternsBy ψ) X n j ≡ true) is full
 
-  module _ (code : byte s at ≡ 0x23) (after : ℕ) (ends : EndsAttributes s (at + 2) after)
-      (list : Searched) (inner : SearchesItems s after c words takes n list) (b : ℕ) (is-name : b ≡ byte s (at + 1)) where
-    -- An element of another name.
-    pub other-element : (b ≡ c .element → ⊥) → SearchesItem s at c words takes n list
-    unfolding lowestMark
-    other-element other φs G ψ X S ruled f depth end i e full =
-        let P = parts s at code after ends ruled f depth end i e in
-        let l = inner φs G ψ X S ruled (P .fuel) (depth + 1) end (P .φ) (P .reads-φ) (inside-filled φs G ψ X i (byte s (at + 1)) (P .δ) (P .φ) (P .is) full) in
-        let d : eqb (byte s (at + 1)) (c .element) ≡ false = ne-eqb (byte s (at + 1)) (c .element) (λ q. other (is-name ∙ q)) in
-        rw (P .is) (record { ends = l .ends; finds = l .finds ∙ rw d })
+  -- An element of another name.
+  pub other-element : (b ≡ c .element → ⊥) → SearchesItem s at c words takes n (record { wrong = list .wrong; next = list .next })
+  unfolding lowestMark
+  other-element other φs G ψ X S ruled f depth end i e full =
+      let P = parts s at code after ends ruled f depth end i e in
+      let t = taken φs G ψ X i (byte s (at + 1)) (P .δ) (P .φ) (P .is) full in
+      let l = within φs G ψ X S ruled (P .fuel) (depth + 1) end (P .φ) (P .reads-φ) (and-right (attributesTake G n (P .δ)) (allTake φs G (patternsBy ψ) X n (P .φ)) t) in
+      let d : eqb (byte s (at + 1)) (c .element) ≡ false = ne-eqb (byte s (at + 1)) (c .element) (λ q. other (is-name ∙ q)) in
+      rw (P .is) (record { ends = l .ends; finds = l .finds ∙ rw d })
 
-    -- An element of the clause's name.
-    pub this-element : b ≡ c .element → (fails : Bool) → ElementFails s (at + 2) c words takes n fails
-        → (wrong : ℕ) → wrongOf wrong ≡ lower (onlyIf fails at) (wrongOf (list .wrong))
-        → SearchesItem s at c words takes n (record { wrong = wrong; next = list .next })
-    unfolding lowestMark
-    this-element same fails tested wrong is-wrong φs G ψ X S ruled f depth end i e full =
-        let P = parts s at code after ends ruled f depth end i e in
-        let within = inside-filled φs G ψ X i (byte s (at + 1)) (P .δ) (P .φ) (P .is) full in
-        let l = inner φs G ψ X S ruled (P .fuel) (depth + 1) end (P .φ) (P .reads-φ) within in
-        let t : fails ≡ clauseFails φs G ψ X n (P .δ) (P .φ) = tested φs G ψ X S ruled (P .fuel) (P .fuel) (depth + 1) after end (P .δ) (P .φ) (P .reads-δ) (P .reads-φ) within in
-        let d : eqb (byte s (at + 1)) (c .element) ≡ true = eq-eqb (byte s (at + 1)) (c .element) (sym is-name ∙ same) in
-        rw (P .is) (record { ends = l .ends; finds = is-wrong ∙ rw (d, ← t, l .finds) })
+  -- An element of the clause's name.
+  pub this-element : b ≡ c .element → (fails : Bool) → ElementFails s (at + 2) c words n (list .set) fails
+      → (wrong : ℕ) → wrongOf wrong ≡ lower (onlyIf fails at) (wrongOf (list .wrong))
+      → SearchesItem s at c words takes n (record { wrong = wrong; next = list .next })
+  unfolding lowestMark
+  this-element same fails tested wrong is-wrong φs G ψ X S ruled f depth end i e full =
+      let P = parts s at code after ends ruled f depth end i e in
+      let t = taken φs G ψ X i (byte s (at + 1)) (P .δ) (P .φ) (P .is) full in
+      let inside = and-right (attributesTake G n (P .δ)) (allTake φs G (patternsBy ψ) X n (P .φ)) t in
+      let l = within φs G ψ X S ruled (P .fuel) (depth + 1) end (P .φ) (P .reads-φ) inside in
+      let w : c .plain ≡ false → wanted ≡ true = λ about. is-wanted ∙ rw (eq-eqb b (c .element) same, about) in
+      let f : fails ≡ clauseFails φs G ψ X n (P .δ) (P .φ) = tested φs G ψ X (S .testing) (P .fuel) after (P .δ) (P .φ) (P .reads-δ)
+      (and-left (attributesTake G n (P .δ)) (allTake φs G (patternsBy ψ) X n (P .φ)) t) inside (λ about. l .is (w about) about) in
+      let d : eqb (byte s (at + 1)) (c .element) ≡ true = eq-eqb (byte s (at + 1)) (c .element) (sym is-name ∙ same) in
+      rw (P .is) (record { ends = l .ends; finds = is-wrong ∙ rw (d, ← f, l .finds) })
 
 -- ---- a list of items
 
 module _ (s : List ℕ) (c : Clause) (words takes : List ℕ) (n : ℕ) where
-  -- What the items from an offset on add to what was found before.
-  pub record Added (φs : List Items) (G : Summary) (ψ : Formula) (X : Sets) (found : Option ℕ) (φ : Items) (end : ℕ) (r : Searched) : Type 0 where
+  -- What the items from an offset on add to what was found before, and to the patterns of the list so far.
+  pub record Added (φs : List Items) (G : Summary) (ψ : Formula) (X : Sets) (found : Option ℕ) (line : Line) (φ : Items) (end : ℕ) (r : Searched) : Type 0 where
     pub ends : r .next .at ≡ end
     pub finds : wrongOf (r .wrong) ≡ lower found (lowestMark (failsAt φs G ψ X n (c .element)) φ)
+    pub is : c .plain ≡ false → (A : Set) → LineIs (patternsBy ψ) takes line A
+        → Is (patternsBy ψ) (r .set) (product (patternsBy ψ) A (patterns φs G (patternsBy ψ) X n φ))
 
-  abbrev pub Adds : Option ℕ → ℕ → Searched → Type 0
-  Adds found at r = OfSearch s c words takes n (λ φs G ψ X. (ruled : ℕ → Bool) (f depth end : ℕ) (φ : Items)
-      → items f Template ruled s depth at ≡ whole φ end → Filled c φs G ψ X n φ → Added φs G ψ X found φ end r)
+  abbrev pub Adds : Option ℕ → Line → ℕ → Searched → Type 0
+  Adds found line at r = OfSearch s c words takes n (λ φs G ψ X. (ruled : ℕ → Bool) (f depth end : ℕ) (φ : Items)
+      → items f Template ruled s depth at ≡ whole φ end → allTake φs G (patternsBy ψ) X n φ ≡ true → Added φs G ψ X found line φ end r)
 
-  pub adds-all : (at : ℕ) (r : Searched) → Adds none at r → SearchesItems s at c words takes n r
-  adds-all at r A φs G ψ X S ruled f depth end φ e full =
+  pub adds-all : (at : ℕ) (wanted : Bool) (line : Line) → (wanted ≡ true → LineBegins (c .contents) line) → (r : Searched) → Adds none line at r
+      → SearchesItems s at c words takes n wanted r
+  adds-all at wanted line begins r A φs G ψ X S ruled f depth end φ e full =
       let a = A φs G ψ X S ruled f depth end φ e full in
-      record { ends = a .ends; finds = a .finds }
+      let C = S .testing .clause in
+      let M = patternsBy ψ in
+      record {
+        ends = a .ends;
+        finds = a .finds;
+        is = λ w about. is-as (r .set) (product M (only (M .of [])) (patterns φs G M X n φ)) (patterns φs G M X n φ)
+            (a .is about (only (M .of [])) (begins w (c .reading) (C .about) M (of-facts (C .reads)) (of-clause ψ) takes))
+            (product-unit-left M (clause-monoid ψ) (patterns φs G M X n φ));
+      }
 
-  -- The gaps of the first item, and those of the others.
-  module _ (φs : List Items) (G : Summary) (ψ : Formula) (X : Sets) (φ : Items) (i : Item) (rest : Items) (is : φ ≡ more i rest) (full : Filled c φs G ψ X n φ) where
-    both-filled : c .plain ≡ true → allTake φs G (patternsBy ψ) X n (more i rest) ≡ true
-    both-filled plain = subst (λ (χ : Items). allTake φs G (patternsBy ψ) X n χ ≡ true) is (full plain)
-
-    first-filled : ItemFilled c φs G ψ X n i
+  -- The first item, and the others after it.
+  module _ (φs : List Items) (G : Summary) (ψ : Formula) (X : Sets) (φ : Items) (i : Item) (rest : Items) (is : φ ≡ more i rest)
+      (full : allTake φs G (patternsBy ψ) X n φ ≡ true) where
+    both-full : (itemTakes φs G (patternsBy ψ) X n i && allTake φs G (patternsBy ψ) X n rest) ≡ true
     unfolding allTake
-    first-filled plain = and-left (itemTakes φs G (patternsBy ψ) X n i) (allTake φs G (patternsBy ψ) X n rest) (both-filled plain)
+    both-full = subst (λ (χ : Items). allTake φs G (patternsBy ψ) X n χ ≡ true) is full
 
-    rest-filled : Filled c φs G ψ X n rest
-    unfolding allTake
-    rest-filled plain = and-right (itemTakes φs G (patternsBy ψ) X n i) (allTake φs G (patternsBy ψ) X n rest) (both-filled plain)
+    first-full : itemTakes φs G (patternsBy ψ) X n i ≡ true
+    first-full = and-left (itemTakes φs G (patternsBy ψ) X n i) (allTake φs G (patternsBy ψ) X n rest) both-full
 
-  leaf-unmarked : (p : ℕ → ℕ → List Attribute → Items → Bool) (at : ℕ) → lowestMarkIn p (leafAt s at (byte s at)) ≡ none
-  unfolding lowestMark
-  leaf-unmarked p at = go (eqb (byte s at) 0x21)
-    where
-      go : (b : Bool) → lowestMarkIn p (cond b text (gap (byte s (at + 1)))) ≡ none
-      go true = refl
-      go false = refl
+    rest-full : allTake φs G (patternsBy ψ) X n rest ≡ true
+    rest-full = and-right (itemTakes φs G (patternsBy ψ) X n i) (allTake φs G (patternsBy ψ) X n rest) both-full
 
-  module _ (found : Option ℕ) (at : ℕ) (r : Searched) where
-    passes-leaf : (byte s at ≤ 0x23) → (byte s at ≡ 0x23 → ⊥) → (next : ℕ) → at + 1 + operandBytes (byte s at) ≡ next → Adds found next r → Adds found at r
-    unfolding lowestMark
-    passes-leaf low other next is-next A φs G ψ X S ruled f depth end φ e full =
-        let p = failsAt φs G ψ X n (c .element) in
-        let C = continues s ruled f depth at end φ low e in
-        let (is-leaf, after) = leaf-is s ruled (C .fuel) depth at (C .next) (C .first) other (C .reads-first) in
-        let a = A φs G ψ X S ruled (C .fuel) depth end (C .rest)
-        (subst (λ (k : ℕ). items (C .fuel) Template ruled s depth k ≡ whole (C .rest) end) (after ∙ is-next) (C .reads-rest)) (rest-filled φs G ψ X φ (C .first) (C .rest) (C .is) full) in
-        let unmarked : lowestMarkIn p (C .first) ≡ none = ap (lowestMarkIn p) is-leaf ∙ leaf-unmarked p at in
-        rw (C .is) (record { ends = a .ends; finds = a .finds ∙ rw unmarked })
-
-    pub passes-text : byte s at ≡ 0x21 → Adds found (at + 1) r → Adds found at r
-    unfolding operandBytes
-    passes-text code = passes-leaf (omega arith) (λ q. omega arith) (at + 1) (rw code (omega arith))
-
-    pub passes-gap : byte s at ≡ 0x22 → Adds found (at + 2) r → Adds found at r
-    unfolding operandBytes
-    passes-gap code = passes-leaf (omega arith) (λ q. omega arith) (at + 2) (rw code (omega arith))
-
-    pub passes-element : byte s at ≡ 0x23 → (i : Searched) → SearchesItem s at c words takes n i
-        → (later : Option ℕ) → later ≡ lower found (wrongOf (i .wrong)) → Adds later (i .next .at) r → Adds found at r
-    unfolding lowestMark
-    passes-element code i I later is-later A φs G ψ X S ruled f depth end φ e full =
-        let C = continues s ruled f depth at end φ (omega arith) e in
-        let j = I φs G ψ X S ruled (C .fuel) depth (C .next) (C .first) (C .reads-first) (first-filled φs G ψ X φ (C .first) (C .rest) (C .is) full) in
-        let a = A φs G ψ X S ruled (C .fuel) depth end (C .rest)
-        (subst (λ (k : ℕ). items (C .fuel) Template ruled s depth k ≡ whole (C .rest) end) (sym (j .ends)) (C .reads-rest)) (rest-filled φs G ψ X φ (C .first) (C .rest) (C .is) full) in
-        rw (C .is) (record {
+    -- What the first one adds, whose patterns are I.
+    pub added-first : (found later : Option ℕ) → later ≡ lower found (lowestMarkIn (failsAt φs G ψ X n (c .element)) i)
+        → (I : Set) → ((x : ℕ) → x < patternsBy ψ .size → I x ≡ itemPatterns φs G (patternsBy ψ) X n i x) → (line larger : Line)
+        → (c .plain ≡ false → (A : Set) → LineIs (patternsBy ψ) takes line A → LineIs (patternsBy ψ) takes larger (product (patternsBy ψ) A I))
+        → (end : ℕ) (r : Searched) → Added φs G ψ X later larger rest end r → Added φs G ψ X found line φ end r
+    unfolding lowestMark patterns
+    added-first found later is-later I own line larger grows end r a =
+        let M = patternsBy ψ in
+        let P = patterns φs G M X n rest in
+        rw is (record {
           ends = a .ends;
-          finds = a .finds ∙ rw (is-later, j .finds) (lower-assoc found _ _);
+          finds = a .finds ∙ rw is-later (lower-assoc found _ _);
+          is = λ about A L. is-as (r .set) (product M (product M A I) P) (product M A (product M (itemPatterns φs G M X n i) P))
+              (a .is about (product M A I) (grows about A L))
+              (λ x h. product-assoc M (clause-monoid ψ) A I P x
+              ∙ product-as M A A (product M I P) (product M (itemPatterns φs G M X n i) P) (λ y l. refl)
+              (λ y l. product-as M I (itemPatterns φs G M X n i) P P own (λ z k. refl) y) x);
         })
 
+  module _ (found : Option ℕ) (line : Line) (at : ℕ) (r : Searched) (larger : Line) where
+    pub passes-text : byte s at ≡ 0x21 → LineWithContent (c .reading) (c .contents) line 0 larger → Adds found larger (at + 1) r → Adds found line at r
+    unfolding operandBytes lowestMark patterns
+    passes-text code grown A φs G ψ X S ruled f depth end φ e full =
+        let C = continues s ruled f depth at end φ (omega arith) e in
+        let L = leaf-read s ruled depth at (C .next) (C .first) (C .fuel) (λ q. omega arith) (C .reads-first) in
+        let is-text : C .first ≡ text = L .is ∙ rw code in
+        let next : C .next ≡ at + 1 = L .after ∙ rw code (omega arith) in
+        let K = S .testing .clause in
+        added-first φs G ψ X φ (C .first) (C .rest) (C .is) full found found (rw is-text (sym (lower-none found)))
+        (only (patternsBy ψ .of (0 ∷ []))) (λ x h. rw is-text) line larger (λ about. grown (K .about) (patternsBy ψ) (of-facts (K .reads)) (of-clause ψ) takes) end r
+        (A φs G ψ X S ruled (C .fuel) depth end (C .rest) (subst (λ (k : ℕ). items (C .fuel) Template ruled s depth k ≡ whole (C .rest) end) next (C .reads-rest))
+        (rest-full φs G ψ X φ (C .first) (C .rest) (C .is) full))
+
+    pub passes-gap : byte s at ≡ 0x22 → (b : ℕ) → b ≡ byte s (at + 1) → LineWithGap (c .reading) (c .contents) takes line (b % 8) larger
+        → Adds found larger (at + 2) r → Adds found line at r
+    unfolding operandBytes operandsOf lowestMark patterns
+    passes-gap code b is-b grown A φs G ψ X S ruled f depth end φ e full =
+        let C = continues s ruled f depth at end φ (omega arith) e in
+        let L = leaf-read s ruled depth at (C .next) (C .first) (C .fuel) (λ q. omega arith) (C .reads-first) in
+        let low : byte s (at + 1) < 8 = gap-range s at (L .ranges) code in
+        let same : b % 8 ≡ byte s (at + 1) = omega arith in
+        let is-gap : C .first ≡ gap (b % 8) = L .is ∙ rw (code, same) in
+        let next : C .next ≡ at + 2 = L .after ∙ rw code (omega arith) in
+        let K = S .testing .clause in
+        added-first φs G ψ X φ (C .first) (C .rest) (C .is) full found found (rw is-gap (sym (lower-none found)))
+        (itemPatterns φs G (patternsBy ψ) X n (gap (b % 8))) (λ x h. rw is-gap) line larger
+        (λ about B is. grown (K .about) (patternsBy ψ) (of-facts (K .reads)) (of-clause ψ) B _ is (S .gaps about (b % 8) (omega arith))) end r
+        (A φs G ψ X S ruled (C .fuel) depth end (C .rest) (subst (λ (k : ℕ). items (C .fuel) Template ruled s depth k ≡ whole (C .rest) end) next (C .reads-rest))
+        (rest-full φs G ψ X φ (C .first) (C .rest) (C .is) full))
+
+    -- In a template of which pages come, an element gives the pattern of its name.
+    element-gives : (φs : List Items) (G : Summary) (ψ : Formula) (X : Sets) (e : ℕ) (δ : List Attribute) (χ : Items)
+        → itemTakes φs G (patternsBy ψ) X n (element e at δ χ) ≡ true
+        → (x : ℕ) → itemPatterns φs G (patternsBy ψ) X n (element e at δ χ) x ≡ only (patternsBy ψ .of (e ∷ [])) x
+    unfolding allTake patterns
+    element-gives φs G ψ X e δ χ full x =
+        rw (and-left (attributesTake G n δ) (allTake φs G (patternsBy ψ) X n χ) full, and-right (attributesTake G n δ) (allTake φs G (patternsBy ψ) X n χ) full)
+
+    pub passes-element : byte s at ≡ 0x23 → (b : ℕ) → b ≡ byte s (at + 1) → LineWithContent (c .reading) (c .contents) line (b % 64) larger
+        → (i : Found) → SearchesItem s at c words takes n i → (later : Option ℕ) → later ≡ lower found (wrongOf (i .wrong))
+        → Adds later larger (i .next .at) r → Adds found line at r
+    unfolding lowestMark
+    passes-element code b is-b grown i I later is-later A φs G ψ X S ruled f depth end φ e full =
+        let C = continues s ruled f depth at end φ (omega arith) e in
+        let E = element-read s ruled depth at (C .next) (C .first) (C .fuel) code (C .reads-first) in
+        let small = E .small in
+        let same : b % 64 ≡ byte s (at + 1) = omega arith in
+        let first = first-full φs G ψ X φ (C .first) (C .rest) (C .is) full in
+        let j = I φs G ψ X S ruled (C .fuel) depth (C .next) (C .first) (C .reads-first) first in
+        let K = S .testing .clause in
+        let M = patternsBy ψ in
+        added-first φs G ψ X φ (C .first) (C .rest) (C .is) full found later (is-later ∙ ap (lower found) (j .finds)) (only (M .of (b % 64 ∷ [])))
+        (λ x h. rw (E .is, same) (sym (element-gives φs G ψ X (byte s (at + 1)) (E .named) (E .contents) (subst (λ (k : Item). itemTakes φs G M X n k ≡ true) (E .is) first) x)))
+        line larger (λ about. grown (K .about) M (of-facts (K .reads)) (of-clause ψ) takes) end r
+        (A φs G ψ X S ruled (C .fuel) depth end (C .rest) (subst (λ (k : ℕ). items (C .fuel) Template ruled s depth k ≡ whole (C .rest) end) (sym (j .ends)) (C .reads-rest))
+        (rest-full φs G ψ X φ (C .first) (C .rest) (C .is) full))
+
   -- What begins no item ends the list.
-  pub list-ends : (at wrong : ℕ) → (byte s at ≡ 0x21 → ⊥) → (byte s at ≡ 0x22 → ⊥) → (byte s at ≡ 0x23 → ⊥)
-      → Adds (wrongOf wrong) at (record { wrong = wrong; next = record { at = at + 1 } })
-  unfolding items lowestMark
-  list-ends at wrong n₁ n₂ n₃ φs G ψ X S ruled zero depth end φ e full = never-unfinished e
-  list-ends at wrong n₁ n₂ n₃ φs G ψ X S ruled (suc f) depth end φ e full = elim (items-whole f Template ruled s depth at φ end e) [
-    | inl r ↦ rw (r .no-more) (record { ends = sym (r .after); finds = sym (lower-none (wrongOf wrong)) })
+  pub list-ends : (at wrong : ℕ) (line : Line) → (byte s at ≡ 0x21 → ⊥) → (byte s at ≡ 0x22 → ⊥) → (byte s at ≡ 0x23 → ⊥)
+      → Adds (wrongOf wrong) line at (record { wrong = wrong; set = line .set; next = record { at = at + 1 } })
+  unfolding items lowestMark patterns
+  list-ends at wrong line n₁ n₂ n₃ φs G ψ X S ruled zero depth end φ e full = never-unfinished e
+  list-ends at wrong line n₁ n₂ n₃ φs G ψ X S ruled (suc f) depth end φ e full = elim (items-whole f Template ruled s depth at φ end e) [
+    | inl r ↦ rw (r .no-more) (record {
+      ends = sym (r .after);
+      finds = sym (lower-none (wrongOf wrong));
+      is = λ about A L. product-nothing (patternsBy ψ) (clause-monoid ψ) (line .set) A (only (patternsBy ψ .of [])) (λ x h. refl) (L .is);
+    })
     | inr r ↦ let k = first-code s ruled f depth at (r .next) (r .first) (r .reads-first) in absurd (omega arith)
   ]
 
   -- Past the end no list stands.
-  pub past-list : (found : Option ℕ) (at : ℕ) (r : Searched) → length s ≤ at → Adds found at r
-  past-list found at r past φs G ψ X S ruled f depth end φ e full =
+  pub past-list : (found : Option ℕ) (line : Line) (at : ℕ) (r : Searched) → length s ≤ at → Adds found line at r
+  past-list found line at r past φs G ψ X S ruled f depth end φ e full =
       let z : byte s at ≡ 0 = byte-past s at past in
       let C = continues s ruled f depth at end φ (omega arith) e in
       let k = first-code s ruled (C .fuel) depth at (C .next) (C .first) (C .reads-first) in
       absurd (omega arith)
 
-  -- Where the search has come: what the items from here on add to what was found is what all of them add to nothing.
-  pub record Going (at₀ at wrong : ℕ) : Type 0 where
+  -- Where the search has come: what the items from here on add to what was found and to the list so far is what all of them add to
+  -- nothing.
+  pub record Going (at₀ : ℕ) (line₀ : Line) (at wrong : ℕ) (line : Line) : Type 0 where
     pub forward : at₀ ≤ at
-    pub goes : (r : Searched) → Adds (wrongOf wrong) at r → Adds none at₀ r
+    pub goes : (r : Searched) → Adds (wrongOf wrong) line at r → Adds none line₀ at₀ r

@@ -2,7 +2,7 @@
 use Prim.Native.Nat.{ℕ, _+_, _^_, _≤_, _<_}
 use mathlib.Core.Path.{_≡_, refl, sym, ap, subst, _∙_}
 use mathlib.Core.List.{List, [], _∷_}
-use mathlib.Core.Bool.{Bool, true, false, cond, not, _&&_, and-false, false≢true}
+use mathlib.Core.Bool.{Bool, true, false, cond, not, _&&_, false≢true}
 use mathlib.Core.Option.{Option, none}
 use native.Mathlib.Omega.{arith}
 use lib.ListN.{length, getD, set, length-set}
@@ -10,13 +10,16 @@ use lib.Seq.{getD-set-same, getD-set-other}
 use lib.Dec.{eqb, ltb}
 use borrow.Author.Tests.{eqb-true, eqb-false, ltb-true, ltb-false}
 use Rattle.sets.specs.Sets.{member}
+use Rattle.commands.specs.Reading.{whole}
+use Rattle.vocabularies.specs.declared.Facts.{Facts}
 use Rattle.vocabularies.specs.Vocabulary.{Formula}
+use Rattle.vocabularies.specs.VocabularyReading.{formula}
 use Rattle.vocabularies.specs.Facts.{factsOf}
 use Rattle.pages.specs.Items.{Attribute, Items}
 use Rattle.pages.specs.Items as Items
 use Rattle.pages.specs.RightPages.{names}
 use Rattle.programs.specs.Program.{templateAt}
-use Rattle.judging.specs.Judgement.{truthOf}
+use Rattle.judging.specs.Judgement.{Atoms, truthOf}
 use Rattle.judging.specs.Promises.{wrongOf}
 use Rattle.summaries.specs.Summaries.{Summary}
 use Rattle.patterns.specs.Patterns.{atomsBy}
@@ -29,29 +32,29 @@ use Rattle.patterns.specs.Shows.{lower, lowestMark}
 use Rattle.patterns.proofs.Tests.{and-right, failed, below-any}
 use Rattle.patterns.proofs.Lawful.{clause-lawful}
 use Rattle.patterns.proofs.Exact.{takes-exact}
+use Rattle.patterns.proofs.Bits.{facts-distinct}
 use Rattle.pattern_sets.specs.PatternSets.{FirstMember}
 use Rattle.readings.specs.Readings.{of-facts}
-use Rattle.clauses.specs.Promises.{AlwaysHolds}
+use Rattle.clauses.specs.Promises.{TruePatterns}
+use Rattle.clauses.specs.Leaves.{NamesBetween, AtomsBetween}
+use Rattle.clauses.proofs.KnownForms.{atoms-between}
 use Rattle.entries.specs.Words.{Keeps}
-use Rattle.languages.specs.Tables.{of-clause, SetsAre, RowsAre, RowsOf, GapSetsAre, Shown}
+use Rattle.entries.specs.Gaps.{GapsTable, LoneTable}
+use Rattle.languages.specs.Tables.{of-clause, RowsAre, GapSetsAre, Shown}
 use Rattle.elements.specs.declared.Clause.{Clause}
 use Rattle.elements.specs.declared.Searched.{Searched}
 use Rattle.elements.specs.Attributes.{ClauseAt, patternsBy}
-use Rattle.elements.specs.Search.{failsAt, SearchesItems}
-use Rattle.elements.specs.Rules.{InFull, Standing, RowsFor, TakesFor, SearchesTemplate, AllYield, Test, Lowered, SearchesTemplates, SearchesClause}
+use Rattle.elements.specs.Search.{Testing, failsAt, SearchesItems}
+use Rattle.elements.specs.Rules.{ClauseOf, Standing, RowsFor, TakesFor, SearchesTemplate, AllYield, Test, Lowered, SearchesTemplates, Bears, SearchesClause}
 use Rattle.elements.proofs.Lowers.{lower-none}
-use Rattle.elements.proofs.LoweredTables.{lowered-never, lowered-parts, lowered-known}
+use Rattle.occurrences.proofs.Names.{all-into}
+use Rattle.elements.proofs.LoweredTables.{other-name, lowered-unmet}
 
 pub template-searched : (s : List ℕ) (from : ℕ) (c : Clause) (words : List ℕ) (rows : List ℕ) (n : ℕ) (takes : List ℕ) → TakesFor c words rows n takes
-    → (found : Searched) → SearchesItems s from c words takes n found → SearchesTemplate s from c words rows n (found .wrong)
-template-searched s from c words rows n takes gaps found searched φs G ψ X few bounded keeps C exact are φ stand full =
-    searched φs G ψ X (record {
-      clause = C;
-      bounded = bounded;
-      keeps = keeps;
-      exact = exact;
-      gaps = gaps φs G (patternsBy ψ) X few bounded keeps are;
-    }) (stand .ruled) (stand .fuel) 0 (stand .end) φ (stand .reads) full .finds
+    → (found : Searched) → SearchesItems s from c words takes n false found → SearchesTemplate s from c words rows n (found .wrong)
+template-searched s from c words rows n takes gaps found searched φs G ψ X few T are φ stand full =
+    searched φs G ψ X (record { testing = T; gaps = gaps φs G (patternsBy ψ) X few (T .bounded) (T .keeps) are })
+    (stand .ruled) (stand .fuel) 0 (stand .end) φ (stand .reads) full .finds
 
 pub takes-gaps : (c : Clause) (words rows : List ℕ) (n : ℕ) (takes : List ℕ)
     → ((φs : List Items) (G : Summary) (M : Morphism) (X : Sets) → length φs < 32 → Bounded φs G → Keeps words G → RowsAre φs M X rows → GapSetsAre φs G M X n takes)
@@ -59,8 +62,8 @@ pub takes-gaps : (c : Clause) (words rows : List ℕ) (n : ℕ) (takes : List �
 takes-gaps c words rows n takes gaps φs G M X few bounded keeps are about = gaps φs G M X few bounded keeps (are about)
 
 -- What is lent to work out the sets.
-shown : {s : List ℕ} {c : Clause} {words starts : List ℕ} {count : ℕ} (φs : List Items) (G : Summary) (ψ : Formula)
-    → Standing s φs G words count starts → ClauseAt s ψ c → Shown (c .reading) s words starts φs G (patternsBy ψ)
+shown : {s : List ℕ} {c : Clause} {words gaps lone starts : List ℕ} {count : ℕ} (φs : List Items) (G : Summary) (ψ : Formula)
+    → Standing s φs G words gaps lone starts count → ClauseAt s ψ c → Shown (c .reading) s words starts φs G (patternsBy ψ)
 shown φs G ψ S C =
     let k = S .graph .counts in
     let few = S .graph .few in
@@ -73,13 +76,11 @@ shown φs G ψ S C =
       stand = S .stand;
     }
 
-pub rows-settled : (s : List ℕ) (c : Clause) (words starts : List ℕ) (count : ℕ) (sets : List (List ℕ))
-    → ((φs : List Items) (G : Summary) (M : Morphism) (X : Sets) → Shown (c .reading) s words starts φs G M → count ≡ length φs → Exact φs G M X → SetsAre φs M X sets)
-    → (rows : List ℕ) → RowsOf sets rows → RowsFor s c words starts count rows
-rows-settled s c words starts count sets settled rows are φs G ψ X S C exact about n h =
-    let k = S .graph .counts in
-    let few = S .graph .few in
-    rw (are n (omega arith)) (settled φs G (patternsBy ψ) X (shown φs G ψ S C) k exact n h)
+pub rows-settled : (s : List ℕ) (c : Clause) (words gaps lone starts : List ℕ) (count : ℕ) (rows : List ℕ)
+    → ((φs : List Items) (G : Summary) (M : Morphism) (X : Sets) → Shown (c .reading) s words starts φs G M → GapsTable gaps φs → LoneTable lone φs
+    → count ≡ length φs → Exact φs G M X → RowsAre φs M X rows) → RowsFor s c words gaps lone starts count rows
+rows-settled s c words gaps lone starts count rows settled φs G ψ X S C exact about =
+    settled φs G (patternsBy ψ) X (shown φs G ψ S C) (S .gaps-are) (S .lone-are) (S .graph .counts) exact
 
 first-template : (φs : List Items) → templateAt φs 0 ≡ Items.none
 unfolding templateAt
@@ -139,16 +140,16 @@ module _ (φs : List Items) (chosen : ℕ) (test : Test) (table : List ℕ) wher
   lowering-all t lowest l L = record { at = λ n h. L .below n (omega arith) h }
 
 -- Where the search has come.
-pub record Turning (s : List ℕ) (c : Clause) (words starts : List ℕ) (count chosen : ℕ) (table : List ℕ) (t : ℕ) (lowest : List ℕ) : Type 0 where
+pub record Turning (s : List ℕ) (c : Clause) (words gaps lone starts : List ℕ) (count chosen : ℕ) (table : List ℕ) (t : ℕ) (lowest : List ℕ) : Type 0 where
   pub wide : length lowest ≡ 32
   pub least : 1 ≤ t
   pub most : t ≤ 64
   pub is-chosen : t < 64 → member chosen t ≡ true
-  pub lowers : (φs : List Items) (G : Summary) (ψ : Formula) (X : Sets) → Standing s φs G words count starts → (c .plain ≡ true → AllYield φs G chosen) → ClauseAt s ψ c
+  pub lowers : (φs : List Items) (G : Summary) (ψ : Formula) (X : Sets) → Standing s φs G words gaps lone starts count → AllYield φs G chosen → ClauseAt s ψ c
       → Exact φs G (patternsBy ψ) X → Lowering φs chosen (λ n. failsAt φs G ψ X n (c .element)) table t lowest
 
-module _ (s : List ℕ) (c : Clause) (words starts : List ℕ) (count chosen : ℕ) (table : List ℕ) where
-  pub turning-begin : (t : ℕ) → length table ≡ 32 → FirstMember chosen 1 t → Turning s c words starts count chosen table t table
+module _ (s : List ℕ) (c : Clause) (words gaps lone starts : List ℕ) (count chosen : ℕ) (table : List ℕ) where
+  pub turning-begin : (t : ℕ) → length table ≡ 32 → FirstMember chosen 1 t → Turning s c words gaps lone starts count chosen table t table
   turning-begin t wide first = record {
     wide = wide;
     least = first .after;
@@ -157,11 +158,11 @@ module _ (s : List ℕ) (c : Clause) (words starts : List ℕ) (count chosen : �
     lowers = λ φs G ψ X S Y C exact. lowering-none φs chosen (λ n. failsAt φs G ψ X n (c .element)) table t first;
   }
 
-  module _ (t : ℕ) (lowest : List ℕ) (T : Turning s c words starts count chosen table t lowest) where
-    pub turning-more : t < 32 → t ≤ count → (rows : List ℕ) → RowsFor s c words starts count rows
+  module _ (t : ℕ) (lowest : List ℕ) (T : Turning s c words gaps lone starts count chosen table t lowest) where
+    pub turning-more : t < 32 → t ≤ count → (rows : List ℕ) → RowsFor s c words gaps lone starts count rows
         → (found : ℕ) → SearchesTemplate s (getD starts t 0) c words rows t found
         → (new : ℕ) → wrongOf new ≡ lower (wrongOf (getD lowest t 0)) (wrongOf found)
-        → (next : ℕ) → FirstMember chosen (t + 1) next → Turning s c words starts count chosen table next (set lowest t new)
+        → (next : ℕ) → FirstMember chosen (t + 1) next → Turning s c words gaps lone starts count chosen table next (set lowest t new)
     turning-more low there rows settled found searched new is-new next first = record {
       wide = simp length-set (T .wide);
       least = let a = first .after in omega arith;
@@ -171,18 +172,19 @@ module _ (s : List ℕ) (c : Clause) (words starts : List ℕ) (count chosen : �
           let k = S .graph .counts in
           let few = S .graph .few in
           let picked = T .is-chosen (omega arith) in
+          let testing : Testing s c words φs G ψ X = record { clause = C; bounded = S .graph .bounded; keeps = S .graph .keeps; exact = exact } in
           lowering-more φs chosen (λ n. failsAt φs G ψ X n (c .element)) table t lowest (T .wide) low picked found new
-          (searched φs G ψ X (omega arith) (S .graph .bounded) (S .graph .keeps) C exact (settled φs G ψ X S C exact) (templateAt φs t) (S .stand t (T .least) (omega arith))
-          (λ plain. takes-exact φs G (S .graph .bounded) (patternsBy ψ) (clause-lawful ψ) X exact t (templateAt φs t) .1 (Y plain t (omega arith) picked)))
+          (searched φs G ψ X (omega arith) testing (settled φs G ψ X S C exact) (templateAt φs t) (S .stand t (T .least) (omega arith))
+          (takes-exact φs G (S .graph .bounded) (patternsBy ψ) (clause-lawful ψ) X exact t (templateAt φs t) .1 (Y t (omega arith) picked)))
           is-new next first (T .lowers φs G ψ X S Y C exact);
     }
 
-    pub turning-counted : count < t → SearchesTemplates s c words starts count chosen table lowest
+    pub turning-counted : count < t → SearchesTemplates s c words gaps lone starts count chosen table lowest
     turning-counted l φs G ψ X S Y C exact =
         let k = S .graph .counts in
         lowering-all φs chosen (λ n. failsAt φs G ψ X n (c .element)) table t lowest (omega arith) (T .lowers φs G ψ X S Y C exact)
 
-    pub turning-all : 32 ≤ t → SearchesTemplates s c words starts count chosen table lowest
+    pub turning-all : 32 ≤ t → SearchesTemplates s c words gaps lone starts count chosen table lowest
     turning-all l φs G ψ X S Y C exact =
         let k = S .graph .counts in
         let few = S .graph .few in
@@ -190,57 +192,34 @@ module _ (s : List ℕ) (c : Clause) (words starts : List ℕ) (count chosen : �
 
 -- ---- a clause that always holds
 
-never-fails : (s : List ℕ) (c : Clause) (φs : List Items) (G : Summary) (ψ : Formula) (X : Sets) (n : ℕ) (δ : List Attribute) (φ : Items) (always : Bool)
-    → always ≡ true → AlwaysHolds (c .reading .facts) s (c .formula) always → ClauseAt s ψ c → clauseFails φs G ψ X n δ φ ≡ false
-unfolding clauseFails
-never-fails s c φs G ψ X n δ φ always e holds C = failed (clauseFails φs G ψ X n δ φ)
-    (λ q. let (x, b, p) = below-any (2 ^ length (factsOf ψ)) (λ x. elementPatterns φs G (factsOf ψ) X n δ φ x && not (truthOf (atomsBy (factsOf ψ) (names δ) x) ψ)) q in
-    let t = holds e (factsOf ψ) (C .reads .represents) (C .reads .few) (names δ) x b (C .fuel) (C .depth) (C .end) ψ (C .stands) in
-    false≢true (sym (ap not t) ∙ and-right (elementPatterns φs G (factsOf ψ) X n δ φ x) (not (truthOf (atomsBy (factsOf ψ) (names δ) x) ψ)) p))
+module _ (always ever : ℕ) (φs : List Items) (G : Summary) (ψ : Formula) (X : Sets) (is-true : (A : Atoms) → AtomsBetween always ever A → truthOf A ψ ≡ true) where
+  never-fails : (n : ℕ) (δ : List Attribute) (φ : Items) → NamesBetween always ever (names δ) → clauseFails φs G ψ X n δ φ ≡ false
+  unfolding clauseFails
+  never-fails n δ φ between = failed (clauseFails φs G ψ X n δ φ)
+      (λ q. let (x, b, p) = below-any (2 ^ length (factsOf ψ)) (λ x. elementPatterns φs G (factsOf ψ) X n δ φ x && not (truthOf (atomsBy (factsOf ψ) (names δ) x) ψ)) q in
+      let t = is-true (atomsBy (factsOf ψ) (names δ) x) (atoms-between always ever (factsOf ψ) (names δ) x between) in
+      false≢true (sym (ap not t) ∙ and-right (elementPatterns φs G (factsOf ψ) X n δ φ x) (not (truthOf (atomsBy (factsOf ψ) (names δ) x) ψ)) p))
 
--- ---- with the templates of which pages come
+  pub clause-always : (e chosen : ℕ) (table : List ℕ) → Bears φs e always ever → Lowered φs chosen (λ n. failsAt φs G ψ X n e) table table
+  clause-always e chosen table bears = lowered-unmet φs chosen (λ n. failsAt φs G ψ X n e) table
+      (λ n l. all-into (λ e′ mark δ φ. e′ ≡ e → NamesBetween always ever (names δ)) (λ e′ mark δ φ. failsAt φs G ψ X n e e′ mark δ φ ≡ false)
+      (λ e′ mark δ φ between. other-name e′ e (clauseFails φs G ψ X n δ φ) (λ q. never-fails n δ φ (between q))) (templateAt φs n) (bears n l))
 
-module _ (s : List ℕ) (c : Clause) (words starts : List ℕ) (count chosen yields : ℕ) (table : List ℕ) where
-  pub clause-always : (always : Bool) → always ≡ true → AlwaysHolds (c .reading .facts) s (c .formula) always
-      → SearchesClause s c words starts count chosen yields table table
-  clause-always always e holds φs G ψ X S Y C exact = lowered-never φs chosen (λ n. failsAt φs G ψ X n (c .element)) table
-      (λ n e′ mark δ φ. ap (λ (b : Bool). eqb e′ (c .element) && b) (never-fails s c φs G ψ X n δ φ always e holds C) ∙ and-false (eqb e′ (c .element)))
+-- ---- one clause, by its facts
 
-  pub clause-full : (r : List ℕ) → c .plain ≡ false → SearchesTemplates s c words starts count chosen table r
-      → SearchesClause s c words starts count chosen yields table r
-  clause-full r about searched φs G ψ X S Y C exact = searched φs G ψ X S (λ plain. absurd (false≢true (sym about ∙ plain))) C exact
-
-  module _ (known : ℕ) (common : (k : ℕ) → member known k ≡ (member chosen k && member yields k))
-      (others : ℕ) (without : (k : ℕ) → member others k ≡ (member chosen k && not (member yields k)))
-      (middle : List ℕ) (first : SearchesTemplates s c words starts count known table middle) where
-    known-lowered : (φs : List Items) (G : Summary) (ψ : Formula) (X : Sets) → Standing s φs G words count starts → AllYield φs G yields → ClauseAt s ψ c
-        → Exact φs G (patternsBy ψ) X → Lowered φs known (λ n. failsAt φs G ψ X n (c .element)) table middle
-    known-lowered φs G ψ X S Y C exact =
-        first φs G ψ X S (λ plain n l picked. Y n l (and-right (member chosen n) (member yields n) (sym (common n) ∙ picked))) C exact
-
-    pub clause-known : others ≡ 0 → SearchesClause s c words starts count chosen yields table middle
-    clause-known z φs G ψ X S Y C exact =
-        lowered-known φs chosen known others (λ n. failsAt φs G ψ X n (c .element)) table middle yields z common without (known-lowered φs G ψ X S Y C exact)
-
-    pub clause-parts : (full : Clause) → InFull c full → (r : List ℕ) → SearchesTemplates s full words starts count others middle r
-        → SearchesClause s c words starts count chosen yields table r
-    clause-parts full is r second φs G ψ X S Y C exact =
-        lowered-parts φs chosen known others (λ n. failsAt φs G ψ X n (c .element)) table middle r yields common without (known-lowered φs G ψ X S Y C exact)
-        (subst (λ (e : ℕ). Lowered φs others (λ n. failsAt φs G ψ X n e) middle r) (is .of-element)
-        (second φs G ψ X S (λ plain. absurd (false≢true (sym (is .full) ∙ plain))) (is .stands s ψ C) exact))
-
--- The clause, with contents looked at in any case.
-pub clause-in-full : (c r : Clause) → r ≡ record { element = c .element; formula = c .formula; reading = c .reading; valued = c .valued; plain = false } → InFull c r
-clause-in-full c r is = rw is (record {
-  full = refl;
-  of-element = refl;
-  stands = λ s ψ C. record {
-    reads = C .reads;
-    tells = C .tells;
-    is-plain = λ plain. absurd (false≢true plain);
-    fuel = C .fuel;
-    depth = C .depth;
-    end = C .end;
-    stands = C .stands;
-  };
-})
+module _ (s : List ℕ) (e at : ℕ) (t : Facts) (words gaps lone starts : List ℕ) (count chosen : ℕ) (table : List ℕ) where
+  pub clause-searched : (c : Clause) → ClauseOf s t e at c → (r : List ℕ) → SearchesTemplates s c words gaps lone starts count chosen table r
+      → SearchesClause s e at t words gaps lone starts count chosen table r
+  clause-searched c C r searched φs G ψ X S Y F exact =
+      subst (λ (k : ℕ). Lowered φs chosen (λ n. failsAt φs G ψ X n k) table r) (C .of-element)
+      (searched φs G ψ X S Y (record {
+        reads = C .reads (factsOf ψ) (F .represents) (F .few) (facts-distinct ψ);
+        about = C .about;
+        tells = C .tells (factsOf ψ) (F .represents) (F .few);
+        is-plain = C .is-plain (factsOf ψ) (F .represents) (F .few);
+        fuel = F .fuel;
+        depth = F .depth;
+        end = F .end;
+        stands = subst (λ (k : ℕ). formula (F .fuel) s (F .depth) k ≡ whole ψ (F .end)) (sym (C .stands-at)) (F .stands);
+        true-at = subst (λ (k : ℕ). TruePatterns (c .reading .facts) (c .names) s k (c .truths)) (sym (C .stands-at)) (C .true-at);
+      }) exact)

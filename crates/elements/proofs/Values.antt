@@ -2,7 +2,7 @@
 use Prim.Native.Nat.{ℕ, suc, _+_, _<_, _≤_}
 use mathlib.Core.Path.{_≡_, refl, sym, ap, subst, _∙_}
 use mathlib.Core.List.{List, []}
-use mathlib.Core.Bool.{true, false, _&&_, false≢true}
+use mathlib.Core.Bool.{true, _&&_}
 use mathlib.Core.Logic.{⊎-elim}
 use native.Mathlib.Omega.{arith}
 use lib.Dec.{eqb, leb}
@@ -19,7 +19,7 @@ use Rattle.patterns.specs.Patterns.{flagged, patternOf}
 use Rattle.patterns.specs.Morphisms.{factMorphism}
 use Rattle.patterns.specs.Rounds.{only, valueTakes}
 use Rattle.patterns.specs.Elements.{attributePattern, valuePatterns}
-use Rattle.patterns.proofs.Tests.{and-both, and-left, and-right, same-test, failed, any-below, below-any}
+use Rattle.patterns.proofs.Tests.{and-both, and-left, and-right, same-test, any-below, below-any}
 use Rattle.patterns.proofs.Clauses.{numbered-same, pattern-below}
 use Rattle.pattern_sets.specs.PatternSets.{holds}
 use Rattle.clauses.specs.Promises.{alone, IsPattern, ValuePatterns}
@@ -93,10 +93,3 @@ module _ (fs : List Fact) (a : ℕ) (untold : (m : ℕ) → isAmong (valued a m)
         sym (ap (eqb x) (untold-pattern s)) ∙ and-right (G (Proposal.string n h s)) (only (attributePattern fs a s) x) p)
         (λ q. let (s, l, p) = below-any (suc strings) (λ s. G (Proposal.string n h s)) e in
         any-below (suc strings) (λ s. G (Proposal.string n h s) && only (attributePattern fs a s) x) s l (and-both p (ap (eqb x) (untold-pattern s) ∙ q)))
-
--- A gap with nothing to take has no pattern.
-pub no-value : (G : Summary) (fs : List Fact) (n a : ℕ) (v : Value) → valueTakes G n v ≡ false → (x : ℕ) → valuePatterns G fs n a v x ≡ false
-no-value G fs n a (string s) e x = absurd (false≢true (sym e))
-no-value G fs n a (open-gap h) e x = failed (valuePatterns G fs n a (open-gap h) x) (λ q.
-    let (s, l, p) = below-any (suc strings) (λ s. G (Proposal.string n h s) && only (attributePattern fs a s) x) q in
-    false≢true (sym e ∙ any-below (suc strings) (λ s. G (Proposal.string n h s)) s l (and-left (G (Proposal.string n h s)) (only (attributePattern fs a s) x) p)))

@@ -19,10 +19,11 @@ use Rattle.pages.specs.ItemReading.{valueAt, attributes}
 use Rattle.pages.specs.RightPages.{names}
 use Rattle.summaries.specs.Summaries.{Summary}
 use Rattle.patterns.specs.Morphisms.{Morphism, factMorphism}
-use Rattle.patterns.specs.Rounds.{Set, product}
+use Rattle.patterns.specs.Rounds.{Set, product, valueTakes, attributesTake}
 use Rattle.patterns.specs.Elements.{valuePatterns, attributePatterns}
 use Rattle.readings.specs.Readings.{ReadsFacts, Is}
-use Rattle.readings.specs.Promises.{OfFacts}
+use Rattle.readings.specs.Promises.{OfFacts, TellsContents}
+use Rattle.clauses.specs.Promises.{TruePatterns}
 use Rattle.entries.specs.Words.{Keeps}
 use Rattle.elements.specs.declared.Clause.{Clause}
 use Rattle.elements.specs.declared.Attributed.{Attributed}
@@ -48,15 +49,17 @@ OnlyValued fs = (f : Fact) → isAmong f fs ≡ true → isValued f ≡ true
 abbrev pub TellsPlain : Facts → Bool → Type 0
 TellsPlain t r = OfFacts t (λ fs. r ≡ true → OnlyValued fs)
 
--- The formula ψ stands where the clause says, and its facts are those that are kept.
+-- The formula ψ stands where the clause says, and its facts and the patterns under which it is true are those that are kept.
 pub record ClauseAt (s : List ℕ) (ψ : Formula) (c : Clause) : Type 0 where
   pub reads : ReadsFacts (c .reading) (factsOf ψ)
+  pub about : TellsContents (c .reading) (c .contents)
   pub tells : Tells (c .valued) (factsOf ψ)
   pub is-plain : c .plain ≡ true → OnlyValued (factsOf ψ)
   pub fuel : ℕ
   pub depth : ℕ
   pub end : ℕ
   pub stands : formula fuel s depth (c .formula) ≡ whole ψ end
+  pub true-at : TruePatterns (c .reading .facts) (c .names) s (c .formula) (c .truths)
 
 -- The morphism of a clause's facts.
 abbrev pub patternsBy : Formula → Morphism
@@ -82,17 +85,18 @@ abbrev pub HasPatterns : List ℕ → ℕ → Facts → List ℕ → ℕ → Lis
 HasPatterns s at t words n r = OfFacts t (λ fs. (G : Summary) → Keeps words G → AttributeAt s at
     → Is (factMorphism fs) r (valuePatterns G fs n (nameHere s at) (valueHere s at)))
 
--- The patterns of a set, with those of the attribute at an offset after them.
+-- The patterns of a set, with those of the attribute at an offset after them, which has a string to take.
 abbrev pub TakesAttribute : List ℕ → ℕ → Clause → List ℕ → ℕ → List ℕ → List ℕ → Type 0
-TakesAttribute s at c words n set r = OfClause s c words (λ ψ G. AttributeAt s at → (A : Set) → Is (patternsBy ψ) set A
+TakesAttribute s at c words n set r = OfClause s c words (λ ψ G. AttributeAt s at → valueTakes G n (valueHere s at) ≡ true
+    → (A : Set) → Is (patternsBy ψ) set A
     → Is (patternsBy ψ) r (product (patternsBy ψ) A (valuePatterns G (factsOf ψ) n (nameHere s at) (valueHere s at))))
 
--- The attributes δ of template n: their names, the patterns that they can have, and their end.
-pub record AttributesAre (ψ : Formula) (G : Summary) (n : ℕ) (δ : List Attribute) (end : ℕ) (r : Attributed) : Type 0 where
-  pub ends : r .next .at ≡ end
+-- The attributes δ of template n: their names, and the patterns that they can have.
+pub record AttributesAre (ψ : Formula) (G : Summary) (n : ℕ) (δ : List Attribute) (r : Attributed) : Type 0 where
   pub has : (a : ℕ) → member (r .names) a ≡ isIn a (names δ)
   pub patterns : Is (patternsBy ψ) (r .set) (attributePatterns G (factsOf ψ) n δ)
 
+-- The attributes that stand at an offset, each of which has a string to take.
 abbrev pub Attributes : List ℕ → ℕ → Clause → List ℕ → ℕ → Attributed → Type 0
 Attributes s at c words n r = OfClause s c words (λ ψ G. (f end : ℕ) (δ : List Attribute) → attributes f Template s [] at ≡ whole δ end
-    → AttributesAre ψ G n δ end r)
+    → attributesTake G n δ ≡ true → AttributesAre ψ G n δ r)

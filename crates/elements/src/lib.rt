@@ -1,39 +1,52 @@
 // Elements of templates that are wrong by a clause of their rule (document 01, verdict 12), clause by clause.
 ghost use mathlib.Core.Path.{_≡_};
+ghost use mathlib.Core.Bool.{true};
 ghost use Prim.Native.Nat.{_^_, _≤_, _<_};
 ghost use lib.ListN.{length};
 ghost use Rattle.commands.specs.Commands.{byte};
 ghost use Rattle.judging.specs.Promises.{wrongOf};
 ghost use Rattle.patterns.specs.Shows.{lower, onlyIf};
 ghost use Rattle.readings.specs.Promises.{OfFacts};
+ghost use Rattle.languages.specs.Promises.{LineBegins};
 ghost use Rattle.elements.specs.Attributes.{Tells, TellsAlso, TellsPlain, HasPatterns, TakesAttribute, Attributes};
-ghost use Rattle.elements.specs.Rules.{ClauseOf, InFull, RowsFor, TakesFor, SearchesTemplate, SearchesTemplates, SearchesClause, SearchesRule, SearchesRules};
-ghost use Rattle.elements.specs.Search.{HasContents, ElementFails, SearchesItem, SearchesItems};
+ghost use Rattle.elements.specs.Rules.{ClauseOf, RowsFor, TakesFor, SearchesTemplate, SearchesTemplates, SearchesClause, SearchesRule, SearchesRules};
+ghost use Rattle.elements.specs.Search.{ElementPatterns, FailsUnder, ElementFails, TellsWanted, SearchesItem, SearchesItems};
+use clauses::Truths;
 use commands::Position;
+use languages::Line;
 use readings::Reading;
 use vocabularies::Facts;
 use vocabularies::VALUED;
 
-// A clause of an element's rule: where its formula stands, its facts, the attributes that they are about, and whether they are about
-// attributes alone.
+// A clause of an element's rule: where its formula stands, its facts, the contents and the attributes that they are about, whether they
+// are about attributes alone, and under which patterns the formula is true for an element whose attributes have certain names.
 struct Clause {
     element: u8,
     formula: usize,
     reading: Reading,
+    contents: u64,
     valued: u64,
     plain: bool,
+    names: u64,
+    truths: Truths,
 }
 
-// The attributes of an element: their names, the patterns that they can have, and the position after them.
+// The attributes of an element: their names, and the patterns that they can have.
 struct Attributed {
     names: u64,
     set: [u64; 4],
+}
+
+// The lowest wrong element of an element, as its offset and 1, or 0 if none is wrong, and the position after it.
+struct Found {
+    wrong: usize,
     next: Position,
 }
 
-// The lowest wrong element of what was searched, as its offset and 1, or 0 if none is wrong, and the position after it.
+// The same of a list of items, and the patterns of the list, where they are wanted.
 struct Searched {
     wrong: usize,
+    set: [u64; 4],
     next: Position,
 }
 
@@ -99,7 +112,7 @@ fn value_set(s: &[u8], at: usize, facts: Facts, words: &[u64; 544], n: usize) ->
 }
 
 // The patterns of a set, with those of the attribute at an offset after them. An attribute that no fact is about leaves them as they
-// are, if it takes a string at all.
+// are.
 fn with_attribute(
     s: &[u8],
     at: usize,
@@ -113,15 +126,12 @@ fn with_attribute(
 {
     let here = Position { at };
     let a = here.operand(s, 1);
-    if sets::has(clause.valued, a % 64) {
-        let reading = clause.reading;
-        let facts = reading.facts;
-        return readings::product(reading, set, value_set(s, at, facts, words, n));
-    }
-    if languages::attribute_takes(s, at, n, words) {
+    if !sets::has(clause.valued, a % 64) {
         return set;
     }
-    pattern_sets::empty()
+    let reading = clause.reading;
+    let facts = reading.facts;
+    readings::product(reading, set, value_set(s, at, facts, words, n))
 }
 
 // The attributes straight after `23 e` of an element of template n.
@@ -133,8 +143,7 @@ fn attributes_of(
     n: usize,
 ) -> Attributed
     requires { ⌜ n < 32 ⌝ }
-    ensures forward { λ r. ⌜ start .at ≤ r .next .at ⌝ }
-    ensures patterned { λ r. ⌜ Attributes (now (s .entry)) (start .at) clause (now (words .entry)) n r ⌝ }
+    ensures { λ r. ⌜ Attributes (now (s .entry)) (start .at) clause (now (words .entry)) n r ⌝ }
 {
     let mut at = start.at;
     let mut names: u64 = 0;
@@ -145,54 +154,55 @@ fn attributes_of(
         set = more;
         at += 3;
     }
-    Attributed {
-        names,
-        set,
-        next: Position { at },
-    }
+    Attributed { names, set }
 }
 
-// The patterns of the contents that stand here, of an element of template n. Where no fact is about contents, all have the pattern of
-// nothing.
-fn contents_of(
-    s: &[u8],
-    inside: Position,
-    clause: Clause,
-    n: usize,
-    words: &[u64; 544],
-    takes: &[u64; 32],
-) -> [u64; 4]
-    requires { ⌜ n < 32 ⌝ }
-    ensures { λ r. ⌜ HasContents (now (s .entry)) (inside .at) clause (now (words .entry)) (now (takes .entry)) n r ⌝ }
+// The patterns of an element, from those of its attributes and of its contents. Where no fact is about contents, all of these have the
+// pattern of nothing.
+fn element_patterns(clause: Clause, outer: [u64; 4], inner: [u64; 4]) -> [u64; 4]
+    ensures { λ r. ⌜ ElementPatterns clause outer inner r ⌝ }
 {
     if clause.plain {
-        return pattern_sets::only(0);
+        return outer;
+    }
+    if pattern_sets::same(outer, pattern_sets::only(0)) {
+        return inner;
     }
     let reading = clause.reading;
-    languages::list_patterns(s, inside, reading, n, words, takes).set
+    readings::product(reading, outer, inner)
 }
 
-// Whether the clause can fail for the element of template n whose attributes stand here.
+// Whether the formula is false under some pattern of a set, for an element whose attributes have these names.
+fn fails_under(s: &[u8], clause: Clause, names: u64, patterns: [u64; 4]) -> bool
+    ensures { λ r. ⌜ FailsUnder (now (s .entry)) clause names patterns r ⌝ }
+{
+    if names == clause.names {
+        let truths = clause.truths;
+        let set = truths.set;
+        return !pattern_sets::is_empty(pattern_sets::difference(patterns, set));
+    }
+    let reading = clause.reading;
+    let facts = reading.facts;
+    let formula = Position { at: clause.formula };
+    clauses::clause_fails(s, formula, facts, names, patterns).fails
+}
+
+// Whether the clause can fail for the element of template n whose attributes stand here and whose contents have these patterns.
 fn element_fails(
     s: &[u8],
     start: Position,
     clause: Clause,
-    n: usize,
     words: &[u64; 544],
-    takes: &[u64; 32],
+    n: usize,
+    inner: [u64; 4],
 ) -> bool
     requires { ⌜ n < 32 ⌝ }
-    ensures { λ r. ⌜ ElementFails (now (s .entry)) (start .at) clause (now (words .entry)) (now (takes .entry)) n r ⌝ }
+    ensures { λ r. ⌜ ElementFails (now (s .entry)) (start .at) clause (now (words .entry)) n inner r ⌝ }
 {
-    let reading = clause.reading;
     let attributed = attributes_of(s, start, clause, words, n);
-    let inside = attributed.next;
     let outer = attributed.set;
-    let inner = contents_of(s, inside, clause, n, words, takes);
-    let patterns = readings::product(reading, outer, inner);
-    let formula = Position { at: clause.formula };
-    let facts = reading.facts;
-    clauses::clause_fails(s, formula, facts, attributed.names, patterns).fails
+    let patterns = element_patterns(clause, outer, inner);
+    fails_under(s, clause, attributed.names, patterns)
 }
 
 // The lowest wrong element of an element at an offset: itself, or one inside it.
@@ -206,6 +216,32 @@ fn with_mark(fails: bool, at: usize, inside: usize) -> usize
     inside
 }
 
+// Whether the patterns of the contents of element e are wanted: it has the clause's name, and some fact is about contents.
+fn is_wanted(clause: Clause, e: u8) -> bool
+    ensures { λ r. ⌜ TellsWanted clause e r ⌝ }
+{
+    if e != clause.element {
+        return false;
+    }
+    !clause.plain
+}
+
+// A list of no items. If its patterns are not wanted, no item changes them.
+fn first_line(contents: u64, wanted: bool) -> Line
+    ensures { λ line. ⌜ (wanted ≡ true → LineBegins contents line) ⌝ }
+{
+    let line = languages::no_items(contents);
+    if wanted {
+        return line;
+    }
+    let set = line.set;
+    Line {
+        set,
+        contents: 0,
+        gaps: 0,
+    }
+}
+
 // The element here, of template n: itself, if it has the clause's name, and those inside it.
 fn search_element(
     s: &[u8],
@@ -214,12 +250,13 @@ fn search_element(
     n: usize,
     words: &[u64; 544],
     takes: &[u64; 32],
-) -> Searched
+) -> Found
     requires { ⌜ (n < 32) × (here .at < length (now s)) × (byte (now s) (here .at) ≡ 0x23) ⌝ }
     ensures forward { λ r. ⌜ here .at < r .next .at ⌝ }
     ensures searched { λ r. ⌜ SearchesItem (now (s .entry)) (here .at) clause (now (words .entry)) (now (takes .entry)) n r ⌝ }
 {
     let at = here.at;
+    let e = commands::byte_at(s, at + 1);
     let start = Position { at: at + 2 };
     let list = search_items(
         s,
@@ -228,13 +265,18 @@ fn search_element(
         n,
         words,
         takes,
+        is_wanted(clause, e),
     );
-    if commands::byte_at(s, at + 1) != clause.element {
-        return list;
-    }
-    let fails = element_fails(s, start, clause, n, words, takes);
     let next = list.next;
-    Searched {
+    if e != clause.element {
+        return Found {
+            wrong: list.wrong,
+            next,
+        };
+    }
+    let inner = list.set;
+    let fails = element_fails(s, start, clause, words, n, inner);
+    Found {
         wrong: with_mark(fails, at, list.wrong),
         next,
     }
@@ -248,51 +290,81 @@ fn search_items(
     n: usize,
     words: &[u64; 544],
     takes: &[u64; 32],
+    wanted: bool,
 ) -> Searched
     requires { ⌜ n < 32 ⌝ }
     ensures forward { λ r. ⌜ here .at ≤ r .next .at ⌝ }
-    ensures searched { λ r. ⌜ SearchesItems (now (s .entry)) (here .at) clause (now (words .entry)) (now (takes .entry)) n r ⌝ }
+    ensures searched { λ r. ⌜ SearchesItems (now (s .entry)) (here .at) clause (now (words .entry)) (now (takes .entry)) n wanted r ⌝ }
 {
     let mut at = here.at;
     let mut wrong: usize = 0;
+    let mut line = first_line(clause.contents, wanted);
     while at < s.len() {
         match s[at] {
             0x21 => {
                 at += 1;
+                if sets::has(line.contents, 0) {
+                    let reading = clause.reading;
+                    let more = languages::with_content(reading, clause.contents, line, 0);
+                    line = more;
+                }
             }
             0x22 => {
+                let g = commands::byte_at(s, at + 1) % 8;
                 at += 2;
+                if sets::has(line.gaps, g) {
+                    let reading = clause.reading;
+                    let more = languages::with_gap(reading, clause.contents, line, takes, g);
+                    line = more;
+                }
             }
             0x23 => {
+                let e = commands::byte_at(s, at + 1) % 64;
                 let found = search_element(s, Position { at }, clause, n, words, takes);
                 wrong = reach::lower(wrong, found.wrong);
                 let next = found.next;
                 at = next.at;
+                if sets::has(line.contents, e) {
+                    let reading = clause.reading;
+                    let more = languages::with_content(reading, clause.contents, line, e);
+                    line = more;
+                }
             }
             _ => {
+                let set = line.set;
                 return Searched {
                     wrong,
+                    set,
                     next: Position { at: at + 1 },
                 };
             }
         }
     }
+    let set = line.set;
     Searched {
         wrong,
+        set,
         next: Position { at },
     }
 }
 
-// The clause of element e's rule whose formula stands at an offset and has these facts.
-fn clause_of(e: u8, formula: usize, facts: Facts) -> Clause
-    ensures { λ r. ⌜ ClauseOf facts e formula r ⌝ }
+// The clause of element e's rule whose formula stands at an offset and has these facts. Attributes of elements e are likely to have the
+// names given.
+fn clause_of(s: &[u8], e: u8, formula: usize, facts: Facts, names: u64) -> Clause
+    ensures { λ r. ⌜ ClauseOf (now (s .entry)) facts e formula r ⌝ }
 {
+    let reading = readings::facts_reading(facts);
+    let kept = reading.facts;
+    let truths = clauses::true_patterns(s, Position { at: formula }, kept, names);
     Clause {
         element: e,
         formula,
-        reading: readings::facts_reading(facts),
+        reading,
+        contents: readings::contents(reading),
         valued: valued_of(facts),
         plain: is_plain(facts),
+        names,
+        truths,
     }
 }
 
@@ -301,16 +373,18 @@ fn rows_of(
     s: &[u8],
     clause: Clause,
     words: &[u64; 544],
+    gaps: &[u64; 32],
+    lone: &[u8; 32],
     starts: &[usize; 32],
     count: usize,
 ) -> [u64; 128]
-    ensures { λ r. ⌜ RowsFor (now (s .entry)) clause (now (words .entry)) (now (starts .entry)) count r ⌝ }
+    ensures { λ r. ⌜ RowsFor (now (s .entry)) clause (now (words .entry)) (now (gaps .entry)) (now (lone .entry)) (now (starts .entry)) count r ⌝ }
 {
     if clause.plain {
         return [0u64; 128];
     }
     let reading = clause.reading;
-    languages::rows_of(languages::settle(s, reading, words, starts, count))
+    languages::settled_rows(s, reading, words, gaps, lone, starts, count)
 }
 
 // What each gap of template n takes, if some facts of the clause are about contents.
@@ -337,22 +411,24 @@ fn search_template(
     ensures { λ r. ⌜ SearchesTemplate (now (s .entry)) from clause (now (words .entry)) (now (rows .entry)) n r ⌝ }
 {
     let takes = takes_of(clause, n, words, rows);
-    search_items(s, Position { at: from }, clause, n, words, &takes).wrong
+    search_items(s, Position { at: from }, clause, n, words, &takes, false).wrong
 }
 
-// The table made lower by one clause, for the templates of a set. Template 0 has no element.
+// The table made lower by one clause, for the templates of a set, of which pages come. Template 0 has no element.
 fn search_templates(
     s: &[u8],
     clause: Clause,
     words: &[u64; 544],
+    gaps: &[u64; 32],
+    lone: &[u8; 32],
     starts: &[usize; 32],
     count: usize,
     chosen: u64,
     table: [usize; 32],
 ) -> [usize; 32]
-    ensures { λ r. ⌜ SearchesTemplates (now (s .entry)) clause (now (words .entry)) (now (starts .entry)) count chosen table r ⌝ }
+    ensures { λ r. ⌜ SearchesTemplates (now (s .entry)) clause (now (words .entry)) (now (gaps .entry)) (now (lone .entry)) (now (starts .entry)) count chosen table r ⌝ }
 {
-    let rows = rows_of(s, clause, words, starts, count);
+    let rows = rows_of(s, clause, words, gaps, lone, starts, count);
     let mut lowest = table;
     let mut t = pattern_sets::first_member(chosen, 1);
     while t < 32 {
@@ -367,64 +443,44 @@ fn search_templates(
     lowest
 }
 
-// The clause, with contents looked at in any case.
-fn in_full(clause: Clause) -> Clause
-    ensures { λ r. ⌜ InFull clause r ⌝ }
-{
-    let reading = clause.reading;
-    Clause {
-        element: clause.element,
-        formula: clause.formula,
-        reading,
-        valued: clause.valued,
-        plain: false,
-    }
-}
-
-// The table made lower by one clause, for the templates of a set; pages come of those that `yields` has. Of these, contents need not be
-// looked at where facts are about attributes alone. A clause that always holds makes no element wrong.
+// The table made lower by the clause of element e's rule whose formula stands at an offset and has these facts.
 fn search_clause(
     s: &[u8],
-    clause: Clause,
+    e: u8,
+    formula: usize,
+    facts: Facts,
     words: &[u64; 544],
+    gaps: &[u64; 32],
+    lone: &[u8; 32],
     starts: &[usize; 32],
     count: usize,
     chosen: u64,
-    yields: u64,
+    ever: u64,
     table: [usize; 32],
 ) -> [usize; 32]
-    ensures { λ r. ⌜ SearchesClause (now (s .entry)) clause (now (words .entry)) (now (starts .entry)) count chosen yields table r ⌝ }
+    ensures { λ r. ⌜ SearchesClause (now (s .entry)) e formula facts (now (words .entry)) (now (gaps .entry)) (now (lone .entry)) (now (starts .entry)) count chosen table r ⌝ }
 {
-    let reading = clause.reading;
-    let facts = reading.facts;
-    if clauses::always_holds(s, Position { at: clause.formula }, facts) {
-        return table;
-    }
-    if !clause.plain {
-        return search_templates(s, clause, words, starts, count, chosen, table);
-    }
-    let known = pattern_sets::common(chosen, yields);
-    let lowest = search_templates(s, clause, words, starts, count, known, table);
-    let others = pattern_sets::without(chosen, yields);
-    if others == 0 {
-        return lowest;
-    }
-    search_templates(s, in_full(clause), words, starts, count, others, lowest)
+    let clause = clause_of(s, e, formula, facts, ever);
+    search_templates(s, clause, words, gaps, lone, starts, count, chosen, table)
 }
 
-// The table made lower by the clauses of element e's rule, which stand from an offset on, for the templates of a set.
+// The table made lower by the clauses of element e's rule, which stand from an offset on, for the templates of a set. A clause that
+// always holds makes no element wrong.
 fn search_rule(
     s: &[u8],
     e: u8,
     from: usize,
     words: &[u64; 544],
+    gaps: &[u64; 32],
+    lone: &[u8; 32],
     starts: &[usize; 32],
     count: usize,
     chosen: u64,
-    yields: u64,
+    always: u64,
+    ever: u64,
     table: [usize; 32],
 ) -> [usize; 32]
-    ensures { λ r. ⌜ SearchesRule (now (s .entry)) e from (now (words .entry)) (now (starts .entry)) count chosen yields table r ⌝ }
+    ensures { λ r. ⌜ SearchesRule (now (s .entry)) e from (now (words .entry)) (now (gaps .entry)) (now (lone .entry)) (now (starts .entry)) count chosen always ever table r ⌝ }
 {
     if chosen == 0 {
         return table;
@@ -432,32 +488,52 @@ fn search_rule(
     let mut lowest = table;
     let mut at = from;
     while commands::byte_at(s, at) == 0x04 {
-        let gathered = vocabularies::gather(s, Position { at: at + 1 }, vocabularies::no_facts());
-        let facts = gathered.facts;
-        let clause = clause_of(e, at + 1, facts);
-        let more = search_clause(s, clause, words, starts, count, chosen, yields, lowest);
-        lowest = more;
-        let end = gathered.end;
-        at = end.at;
+        let formula = Position { at: at + 1 };
+        let known = clauses::always_holds(s, formula, always, ever);
+        if known.holds {
+            let next = known.next;
+            at = next.at;
+        } else {
+            let gathered = vocabularies::gather(s, formula, vocabularies::no_facts());
+            let facts = gathered.facts;
+            let more = search_clause(
+                s,
+                e,
+                at + 1,
+                facts,
+                words,
+                gaps,
+                lone,
+                starts,
+                count,
+                chosen,
+                ever,
+                lowest,
+            );
+            lowest = more;
+            let end = gathered.end;
+            at = end.at;
+        }
     }
     lowest
 }
 
-// The table made lower by all clauses of all rules, for the templates that are reached; `standing` has the templates in which each
-// element stands, and pages come of those that `yields` has.
+// The table made lower by all clauses of all rules, for the templates that are reached; `gaps` has the gaps of each template, `lone`
+// which element it is if it is one alone, and `standing` the templates in which each element stands.
 pub fn search_rules(
     s: &[u8],
     declared: u64,
     clauses: &[usize; 64],
-    standing: &[u64; 64],
+    standing: &[u64; 192],
     words: &[u64; 544],
+    gaps: &[u64; 32],
+    lone: &[u8; 32],
     starts: &[usize; 32],
     count: usize,
     reached: u64,
-    yields: u64,
     table: [usize; 32],
 ) -> [usize; 32]
-    ensures { λ r. ⌜ SearchesRules (now (s .entry)) declared (now (clauses .entry)) (now (standing .entry)) (now (words .entry)) (now (starts .entry)) count reached yields table r ⌝ }
+    ensures { λ r. ⌜ SearchesRules (now (s .entry)) declared (now (clauses .entry)) (now (standing .entry)) (now (words .entry)) (now (gaps .entry)) (now (lone .entry)) (now (starts .entry)) count reached table r ⌝ }
 {
     let mut lowest = table;
     let mut e = occurrences::next_element(declared, 0);
@@ -469,10 +545,13 @@ pub fn search_rules(
             e as u8,
             clauses[i],
             words,
+            gaps,
+            lone,
             starts,
             count,
             chosen,
-            yields,
+            standing[i + 64],
+            standing[i + 128],
             lowest,
         );
         lowest = more;

@@ -13,7 +13,7 @@ use Rattle.summaries.specs.Summaries.{Within}
 use Rattle.entries.specs.declared.Strings.{Strings}
 use Rattle.entries.specs.Words.{holds}
 use Rattle.entries.specs.Passing.{isOf, Decides}
-use Rattle.entries.proofs.Tests.{or-left}
+use Rattle.entries.proofs.Tests.{or-left, decides-map}
 
 module _ (a b : Strings) where
   pub any-covers : b .any ≡ true → Within (isOf a) (isOf b)
@@ -32,6 +32,10 @@ module _ (a b : Strings) where
     named-within f false w = λ v.
         let h : isOf b (w .0) ≡ true = v (w .0) (rw f (w .2)) in
         false≢true (sym (w .3) ∙ (rw e at h))
+
+-- Sets that hold the same.
+pub within-same : (F F′ G G′ : ℕ → Bool) → ((t : ℕ) → F t ≡ F′ t) → ((t : ℕ) → G t ≡ G′ t) → (r : Bool) → Decides r (Within F′ G′) → Decides r (Within F G)
+within-same F F′ G G′ e f r d = decides-map r (λ w t h. f t ∙ w t (sym (e t) ∙ h)) (λ w t h. sym (f t) ∙ w t (e t ∙ h)) d
 
 -- The strings that words hold at a template's attribute gap.
 pub strings-held : (words : List ℕ) (n h w : ℕ) (any : Bool) → n < 32 → h < 8 → (n < 32 → h < 8 → w ≡ 288 + n * 8 + h) → any ≡ member (getD words (17 + h % 8) 0) (n % 64)

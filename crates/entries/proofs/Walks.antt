@@ -1,5 +1,5 @@
 -- Walking over the items under a head: what was passed, and what is left.
-use Prim.Native.Nat.{ℕ, _+_, _-_, _≤_, _<_}
+use Prim.Native.Nat.{ℕ, _+_, _*_, _-_, _^_, _≤_, _<_}
 use mathlib.Core.Path.{_≡_, refl, sym, ap, _∙_}
 use mathlib.Core.List.{List, [], _∷_}
 use mathlib.Core.Bool.{Bool, true, false, cond, false≢true}
@@ -35,6 +35,9 @@ few-found c (f ∷ fs) e = go (leb (widths (f .operands)) 9) refl (λ h. few-fou
 pub few-bytes : (c : ℕ) → operandBytes c ≤ 9
 unfolding operandBytes operandsOf
 few-bytes c = few-found c formats refl
+
+pub over-fits : (s : List ℕ) (at c m : ℕ) → at < length s → length s * 1 < 2 ^ 63 → m ≡ operandBytes c → at + 1 + m < 2 ^ 64
+over-fits s at c m f l e = let b = few-bytes c in omega arith
 
 -- The offset after a command whose operands are known.
 pub over-as : (s : List ℕ) (at code n k : ℕ) → code ≡ byte s at → code ≡ k → n ≡ operandBytes k → at + (1 + n) ≡ over s at

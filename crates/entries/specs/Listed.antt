@@ -1,6 +1,6 @@
 -- The items under a head, where they stand in the bytes of a job. Nothing here is a definition of document 01: it is what reading a
 -- proposal leaves for code that walks over the items again.
-use Prim.Native.Nat.{ℕ, _+_, _≤_, _<_}
+use Prim.Native.Nat.{ℕ, _+_, _*_, _≤_, _<_}
 use mathlib.Core.Path.{_≡_}
 use mathlib.Core.List.{List, [], _∷_}
 use mathlib.Core.Bool.{Bool, true, false}
@@ -39,11 +39,22 @@ unfoldable pub Listed : Context → List ℕ → ℕ → List Fact → Type 0
 Listed x s at [] = allowed x (byte s at) ≡ false
 Listed x s at (y ∷ ys) = ItemAt x s at y × Listed x s (over s at) ys
 
--- The same item of a template variable stands at two offsets, and takes so many bytes.
-pub record SameItem (s : List ℕ) (a b bytes : ℕ) : Type 0 where
-  pub permitted : allowed TemplateFacts (byte s a) ≡ true
+-- The same item stands at two offsets, and takes so many bytes.
+pub record SameItem (x : Context) (s : List ℕ) (a b bytes : ℕ) : Type 0 where
+  pub permitted : allowed x (byte s a) ≡ true
   pub code : byte s b ≡ byte s a
   pub is : factAt s b (byte s b) ≡ factAt s a (byte s a)
   pub first : over s a ≡ a + bytes
   pub second : over s b ≡ b + bytes
   pub inside : (a + bytes ≤ length s) × (b + bytes ≤ length s)
+
+-- An item of a template variable stands whole at an offset, up to the next.
+pub record PastItem (s : List ℕ) (at next : ℕ) : Type 0 where
+  pub permitted : allowed TemplateFacts (byte s at) ≡ true
+  pub is : next ≡ over s at
+  pub inside : next ≤ length s
+
+-- The number that the four bytes at an offset spell, lowest first.
+pub record SpellsFour (s : List ℕ) (at r : ℕ) : Type 0 where
+  pub is : r ≡ byte s at + 256 * (byte s (at + 1) + 256 * (byte s (at + 2) + 256 * byte s (at + 3)))
+  pub low : (byte s at < 256) × (byte s (at + 1) < 256) × (byte s (at + 2) < 256) × (byte s (at + 3) < 256)

@@ -11,7 +11,7 @@ ghost use Rattle.programs.specs.Program.{templateAt};
 ghost use Rattle.summaries.specs.Proposal.{Claim, root, edge, string, gapFrom, attributeGapFrom, Fact, claim, anyAt};
 ghost use Rattle.summaries.specs.Summaries.{Summary, Within, fragment, plugSummary, plugStringSummary, saysClaim, saysString, held};
 ghost use Rattle.summaries.specs.Summaries as Summaries;
-ghost use Rattle.entries.specs.Listed.{ItemAt, over, Listed, SameItem};
+ghost use Rattle.entries.specs.Listed.{ItemAt, over, Listed, SameItem, PastItem, SpellsFour};
 ghost use Rattle.entries.specs.Words.{SlotAt, holds, Keeps};
 ghost use Rattle.entries.specs.Passing.{isOf, passed, Decides};
 ghost use Rattle.entries.specs.Gaps.{GapsAre, ItemsStand, StartsAt, InnerAt, GapsMore, ownClaim, OwnMore};
@@ -98,7 +98,7 @@ fn slot_of(s: &[u8], at: usize) -> Slot
     }
 }
 
-// The offset after the command at an offset. Gaps and edges, of which there may be thousands, have arms of their own.
+// The offset after the command at an offset. What there may be thousands of has an arm of its own.
 fn over(s: &[u8], at: usize) -> usize
     requires { ⌜ at < length (now s) ⌝ }
     ensures { λ r. ⌜ r ≡ over (now (s .entry)) at ⌝ }
@@ -107,6 +107,7 @@ fn over(s: &[u8], at: usize) -> usize
     match code {
         0x22 => at + 2,
         0x42 => at + 4,
+        0x47 => at + 2,
         _ => at + 1 + commands::operand_bytes(code),
     }
 }
@@ -173,7 +174,7 @@ fn same_three(s: &[u8], a: usize, b: usize) -> usize
 
 // How many bytes the item at two offsets takes, where it is the same item; or 0.
 fn same_item(s: &[u8], a: usize, b: usize) -> usize
-    ensures { λ r. ⌜ (0 < r → SameItem (now (s .entry)) a b r) ⌝ }
+    ensures { λ r. ⌜ (0 < r → SameItem Context.TemplateFacts (now (s .entry)) a b r) ⌝ }
 {
     if s.len() <= a {
         return 0;
@@ -196,25 +197,145 @@ fn same_item(s: &[u8], a: usize, b: usize) -> usize
     }
 }
 
+// The number that the four bytes at an offset spell, lowest first.
+fn four_at(s: &[u8], at: usize) -> u64
+    requires { ⌜ at + 4 ≤ length (now s) ⌝ }
+    ensures { λ r. ⌜ SpellsFour (now (s .entry)) at r ⌝ }
+{
+    let high = (summaries::inside(s, at + 2) as u64) + 256 * (summaries::inside(s, at + 3) as u64);
+    let middle = (summaries::inside(s, at + 1) as u64) + 256 * high;
+    (summaries::inside(s, at) as u64) + 256 * middle
+}
+
+// Whether the same edge, or the same string at a gap, stands at two offsets: four bytes each.
+fn same_four(s: &[u8], a: usize, b: usize) -> bool
+    requires { ⌜ (a ≤ length (now s)) × (b ≤ length (now s)) ⌝ }
+    ensures { λ r. ⌜ (r ≡ true → SameItem Context.TemplateFacts (now (s .entry)) a b 4) ⌝ }
+{
+    if s.len() - a < 4 {
+        return false;
+    }
+    if s.len() - b < 4 {
+        return false;
+    }
+    if four_at(s, a) != four_at(s, b) {
+        return false;
+    }
+    s[a] == 0x42 || s[a] == 0x43
+}
+
+// Whether an edge, or a string at a gap, stands whole at an offset.
+fn is_four(s: &[u8], at: usize) -> bool
+    requires { ⌜ at ≤ length (now s) ⌝ }
+    ensures { λ r. ⌜ (r ≡ true → PastItem (now (s .entry)) at (at + 4)) ⌝ }
+{
+    if s.len() - at < 4 {
+        return false;
+    }
+    s[at] == 0x42 || s[at] == 0x43
+}
+
+// The offset after the item at an offset; 0 where there is none, or it is not whole.
+fn past_item(s: &[u8], at: usize) -> usize
+    ensures { λ r. ⌜ (0 < r → PastItem (now (s .entry)) at r) ⌝ }
+{
+    if !is_item(s, at) {
+        return 0;
+    }
+    let next = over(s, at);
+    if s.len() < next {
+        return 0;
+    }
+    next
+}
+
 // Whether the items from one offset on are seen at once to be among those from another on, both in order. Only a yes counts.
 fn items_among(s: &[u8], from: usize, there: usize) -> bool
     ensures { λ r. ⌜ (r ≡ true → (xs ys : List Fact) → Listed Context.TemplateFacts (now (s .entry)) from xs → Listed Context.TemplateFacts (now (s .entry)) there ys → Within (held saysClaim xs) (held saysClaim ys)) ⌝ }
 {
+    if s.len() < from {
+        return false;
+    }
+    if s.len() < there {
+        return false;
+    }
     let mut a = from;
     let mut b = there;
     loop {
-        let bytes = same_item(s, a, b);
-        if bytes != 0 {
-            a += bytes;
-            b += bytes;
+        if same_four(s, a, b) {
+            a += 4;
+            b += 4;
         } else {
             if !is_item(s, a) {
                 return true;
             }
-            if !is_item(s, b) {
+            if is_four(s, b) {
+                b += 4;
+            } else {
+                let bytes = same_item(s, a, b);
+                if bytes != 0 {
+                    a += bytes;
+                    b += bytes;
+                } else {
+                    let next = past_item(s, b);
+                    if next == 0 {
+                        return false;
+                    }
+                    b = next;
+                }
+            }
+        }
+    }
+}
+
+// Whether the same named string stands at two offsets.
+fn same_string(s: &[u8], a: usize, b: usize) -> bool
+    requires { ⌜ (a ≤ length (now s)) × (b ≤ length (now s)) ⌝ }
+    ensures { λ r. ⌜ (r ≡ true → SameItem Context.StringFacts (now (s .entry)) a b 2) ⌝ }
+{
+    if s.len() - a < 2 {
+        return false;
+    }
+    if s.len() - b < 2 {
+        return false;
+    }
+    if s[a] != 0x47 {
+        return false;
+    }
+    if s[b] != 0x47 {
+        return false;
+    }
+    s[a + 1] == s[b + 1]
+}
+
+// Whether the strings from one offset on are seen at once to be among those from another on, both in order. Only a yes counts.
+fn strings_among(s: &[u8], from: usize, there: usize) -> bool
+    ensures { λ r. ⌜ (r ≡ true → (xs ys : List Fact) → Listed Context.StringFacts (now (s .entry)) from xs → Listed Context.StringFacts (now (s .entry)) there ys → Within (held saysString xs) (held saysString ys)) ⌝ }
+{
+    if s.len() < from {
+        return false;
+    }
+    if s.len() < there {
+        return false;
+    }
+    let mut a = from;
+    let mut b = there;
+    loop {
+        if same_string(s, a, b) {
+            a += 2;
+            b += 2;
+        } else {
+            if !is_string(s, a) {
+                return true;
+            }
+            if !is_string(s, b) {
                 return false;
             }
-            b = over(s, b);
+            let next = over(s, b);
+            if s.len() < next {
+                return false;
+            }
+            b = next;
         }
     }
 }
@@ -636,4 +757,14 @@ pub fn fill_within(s: &[u8], from: usize, attribute: u8, strings: Strings, there
 {
     let words = load(s, there);
     fill_holds(s, from, attribute, strings, &words)
+}
+
+// Whether the strings of one string variable are strings of another, both given by the offsets of their items.
+pub fn strings_entry_within(s: &[u8], from: usize, there: usize) -> bool
+    ensures { λ r. ⌜ ((xs ys : List Fact) → Listed Context.StringFacts (now (s .entry)) from xs → Listed Context.StringFacts (now (s .entry)) there ys → Decides r (Within (held saysString xs) (held saysString ys))) ⌝ }
+{
+    if strings_among(s, from, there) {
+        return true;
+    }
+    strings_within(strings_of(s, from), strings_of(s, there))
 }

@@ -43,7 +43,7 @@ module _ (j : Job) where
     pub start : (v : ℕ) → v < 8 → StartHolds v
     pub steps : (p : ℕ) (b : Bool) (v : ℕ) → v < 8 → StepHolds p b v
 
-  -- Every page of the language of the point's closed graph is right; so is a point that shows nothing.
+  -- Every page of the language of the point's closed graph is right. It holds of a point that shows nothing.
   abbrev pub ShowHolds : ℕ → Type 0
   ShowHolds p = (G : Summary) → graphShown (j .program) (j .proposal) p ≡ some G
       → (page : Items) → Language (j .templates) G page → Right (j .vocabulary) page

@@ -80,6 +80,9 @@ fn judge_read(vocabulary: &[u8], tables: Tables, page: &[u8]) -> Verdict
     let attributes = tables.attributes;
     let contents = tables.contents;
     let clauses = tables.clauses;
+    let mut strings = [0u8; 32];
+    let mut texts = [0u64; 64];
+    let mut shapes = [0u64; 192];
     let root = judging::judge_item(
         vocabulary,
         &attributes,
@@ -87,6 +90,9 @@ fn judge_read(vocabulary: &[u8], tables: Tables, page: &[u8]) -> Verdict
         &clauses,
         page,
         Position { at: 0 },
+        &mut strings,
+        &mut texts,
+        &mut shapes,
     );
     let next = root.next;
     let alone = page_end(page, next.at);

@@ -8,7 +8,7 @@ use native.Mathlib.Numerals.{add-one}
 use native.Mathlib.Omega.{arith}
 use lib.ListN.{length, getD}
 use lib.Dec.{eqb, ltb, leb}
-use borrow.Author.Tests.{eq-eqb, ne-eqb, eqb-true, leb-true}
+use borrow.Author.Tests.{eq-eqb, ne-eqb, eqb-true, leb-true, ltb-true, ltb-false}
 use Rattle.verdicts.specs.declared.Form.the-variants.{TooMany, Missing}
 use Rattle.commands.specs.declared.Context.the-variants.{PageItems}
 use Rattle.commands.specs.Commands.{byte, operandBytes, operandsOf, allInRange, allowed}
@@ -25,7 +25,7 @@ use Rattle.judging.specs.declared.Listed.{Listed}
 use Rattle.judging.specs.declared.Named.{Named}
 use Rattle.judging.specs.Judgement.{rightUnder, orElse, firstWrong, firstWrongItem}
 use Rattle.judging.specs.Promises.{Names, Containing, IsRight, Tabled, wrongOf, ItemJudged, JudgesItem, JudgesItems}
-use Rattle.judging.proofs.Booleans.{and-left, and-right, or-left}
+use Rattle.judging.proofs.Booleans.{by-test, and-left, and-right, or-left}
 
 pub or-none : (o : Option ℕ) → orElse o none ≡ o
 or-none none = refl
@@ -45,6 +45,12 @@ found-at at = rw (add-one at)
 
 pub inner-end : (depth : ℕ) → endOf (depth + 1) ≡ 0x26
 inner-end depth = rw (ne-eqb (depth + 1) 0 (λ q. omega arith))
+
+-- What is no 0 stands before the end of the bytes.
+pub stands-inside : (p : List ℕ) (at c : ℕ) → byte p at ≡ c → 0 < c → at < length p
+stands-inside p at c code some-code = by-test (ltb at (length p))
+    (λ e. ltb-true at (length p) e)
+    (λ e. let z : byte p at ≡ 0 = byte-past p at (ltb-false at (length p) e) in absurd (omega (arith, z, code, some-code)))
 
 module _ (D : Vocabulary) (p : List ℕ) where
   abbrev ruled : ℕ → Bool
@@ -157,8 +163,9 @@ module _ (D : Vocabulary) (p : List ℕ) where
 
   -- An element: itself, by the tests of its rule, before those inside it.
   module _ (v allowed held from : List ℕ) (T : Tabled v D allowed held from) (at b : ℕ) (is-name : b ≡ byte p (at + 1))
-      (code : byte p at ≡ 0x23) (named : Named) (strings : List ℕ) (N : Names p (at + 2) named strings)
-      (list : Listed) (before : List ℕ) (L : JudgesItems D p (named .next .at) list before) (right : Bool)
+      (code : byte p at ≡ 0x23) (first : Named) (strings₀ : List ℕ) (N₀ : Names p (at + 2) first strings₀)
+      (list : Listed) (before : List ℕ) (L : JudgesItems D p (first .next .at) list before)
+      (named : Named) (strings : List ℕ) (N : Names p (at + 2) named strings) (right : Bool)
       (R : IsRight v (getD allowed (b % 64) 0) (getD held (b % 64) 0) (getD from (b % 64) 0) (named .names) strings (list .inside) before right) where
     pub element-item : (wrong : ℕ) → wrongOf wrong ≡ cond right (wrongOf (list .wrong)) (some at)
         → JudgesItem D p at (record { content = b % 64; next = list .next; wrong = wrong })
@@ -167,8 +174,9 @@ module _ (D : Vocabulary) (p : List ℕ) where
         let P = parts depth at f end i code e in
         let h : byte p (at + 1) ≤ 63 = P .short in
         let q : b % 64 ≡ byte p (at + 1) = omega arith in
+        let n₀ = N₀ (P .fuel) (P .inside) (P .δ) (P .reads) in
         let n = N (P .fuel) (P .inside) (P .δ) (P .reads) in
-        let l = L (P .fuel) depth end (P .φ) (subst (λ (m : ℕ). items (P .fuel) Page ruled p (depth + 1) m ≡ whole (P .φ) end) (sym (n .0)) (P .reads-inside)) in
+        let l = L (P .fuel) depth end (P .φ) (subst (λ (m : ℕ). items (P .fuel) Page ruled p (depth + 1) m ≡ whole (P .φ) end) (sym (n₀ .0)) (P .reads-inside)) in
         let r : right ≡ rightUnder (P .rule) (P .δ) (word (P .φ)) = R (P .rule) (P .δ) (word (P .φ)) (T (b % 64) (P .rule) (rw q (P .declares))) (n .1) (l .contains) in
         rw (P .is) (record {
           is = λ w. ap (λ (m : ℕ). m ∷ w) (sym q);

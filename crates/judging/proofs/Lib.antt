@@ -6,3 +6,4 @@ pub mod WordLaws
 pub mod ItemLaws
 pub mod Spelling
 pub mod Lists
+pub mod Shapes

@@ -21,7 +21,7 @@ use Rattle.pages.proofs.Laws.{item-move}
 use Rattle.judging.specs.declared.Judged.{Judged}
 use Rattle.judging.specs.declared.Listed.{Listed}
 use Rattle.judging.specs.Judgement.{orElse, firstWrong, firstWrongItem}
-use Rattle.judging.specs.Promises.{Containing, Tabled, SpeltAgain, wrongOf, ItemJudged, JudgesItem, ItemsJudged, JudgesItems}
+use Rattle.judging.specs.Promises.{Lent, Containing, Tabled, SpeltAgain, wrongOf, ItemJudged, JudgesItem, ItemsJudged, JudgesItems}
 use Rattle.judging.proofs.ItemLaws.{or-none, or-or, inner-end, text-item, list-none, list-parts, parts}
 use Rattle.judging.proofs.Spelling.{item-same}
 
@@ -197,6 +197,34 @@ module _ (D : Vocabulary) (p : List ℕ) where
           right = kept-item (depth + 1) at i judges (stands .0) (stands .1) (stands .2) (stands .3) seen past seen′ past′ s q (J .right);
         }
 
+  -- What is left behind the texts that a list begins with.
+  pub texts-first : (depth : ℕ) (φ : Items) (end f at next : ℕ) → items f Page ruled p (depth + 1) at ≡ whole φ end → PastText p at next
+      → Left depth φ end (replicate (next - at) 0) none next
+  texts-first depth φ end f at next e T =
+      let z : at + (next - at) ≡ next = omega (arith, T .forward) in
+      subst (λ (k : ℕ). Left depth φ end (replicate (next - at) 0) none k) z (texts-left depth φ end (next - at) [] none at (all-left depth φ end f at e) texts)
+    where
+      texts : (k : ℕ) → at ≤ k → k < at + (next - at) → (byte p k ≡ 0x26 → ⊥) × (byte p k ≡ 0x23 → ⊥)
+      texts k low high =
+          let x = T .texts k low (omega (arith, high, T .forward)) in
+          (λ y. omega (arith, x, y), λ y. omega (arith, x, y))
+
+  -- A list of texts alone.
+  pub texts-listed : (at next inside : ℕ) (preceding : List ℕ) → PastText p at next → byte p next ≡ 0x26 → Containing (replicate (next - at) 0) inside preceding
+      → JudgesItems D p at (record { inside = inside; next = record { at = next + 1 }; wrong = 0 }) preceding
+  texts-listed at next inside preceding T code C f depth end φ e =
+      let n = none-left depth φ end (replicate (next - at) 0) none next (texts-first depth φ end f at next e T) code in
+      record { contains = subst (λ (w : List ℕ). Containing w inside preceding) (sym (n .0)) C; ends = n .1; finds = sym (n .2) }
+
+-- One text.
+pub past-one : (p : List ℕ) (at : ℕ) → byte p at ≡ 0x21 → PastText p at (at + 1)
+past-one p at code = record {
+  forward = omega arith;
+  texts = λ i low high.
+      let q : at ≡ i = omega (arith, low, high) in
+      subst (λ (k : ℕ). byte p k ≡ 0x21) q code;
+}
+
 -- The offsets of the element that is kept.
 pub kept-between : (w at next seen past seen′ past′ : ℕ) → seen′ ≡ cond (eqb w 0) at seen → past′ ≡ cond (eqb w 0) next past → seen ≤ past → past ≤ at → at < next
     → (seen′ ≤ past′) × (past′ ≤ next)
@@ -212,10 +240,11 @@ again-further p seen past at to told any h =
     let a = told (omega (arith, any)) in
     (a, omega (arith, a .some-byte, a .ends, h))
 
-pub record Going (v attributes contents clauses p preceding₀ : List ℕ) (at₀ : ℕ) (preceding : List ℕ) (at inside wrong seen past : ℕ) : Type 0 where
+pub record Going (v attributes contents clauses p preceding₀ : List ℕ) (at₀ inside₀ : ℕ) (preceding strings texts shapes : List ℕ) (at inside wrong seen past : ℕ) : Type 0 where
   pub forward : at₀ ≤ at
   pub room : length preceding ≡ 64
+  pub lent : Lent v strings texts shapes
   pub earlier : seen ≤ past
   pub behind : past ≤ at
-  pub judging : (D : Vocabulary) → Tabled v D attributes contents clauses → Containing [] 0 preceding₀
-      → (f depth end : ℕ) (φ : Items) → items f Page (declared (D .rules)) p (depth + 1) at₀ ≡ whole φ end → Judging D p depth φ end preceding at inside wrong seen past
+  pub judging : (D : Vocabulary) → Tabled v D attributes contents clauses → (depth : ℕ) (φ : Items) (end : ℕ) (before : List ℕ)
+      → Left D p depth φ end before none at₀ → Containing before inside₀ preceding₀ → Judging D p depth φ end preceding at inside wrong seen past

@@ -15,7 +15,7 @@ use Rattle.pages.specs.RightPages.{names}
 use Rattle.judging.specs.Judgement.{Atoms, truthOf, allTrue, atomsOf, allIn, rightUnder, precedes, holdsValue}
 use Rattle.judging.specs.Promises.{tableAtoms, AllHold, Naming, Containing, IsRight}
 use Rattle.judging.proofs.Booleans.{by-test, and-false-left, and-false-right, or-right}
-use Rattle.judging.proofs.WordLaws.{none-precedes}
+use Rattle.judging.proofs.WordLaws.{none-precedes, precedes-none}
 
 -- ---- lists within lists
 
@@ -68,8 +68,12 @@ module _ (A B : Atoms) (s : Same A B) where
 
 module _ (δ : List Attribute) (w : List ℕ) (named : ℕ) (strings : List ℕ) (contents : ℕ) (before : List ℕ)
     (N : Naming δ named strings) (C : Containing w contents before) where
-  order-same : (c d : ℕ) → (member contents c && member (getD before c 0) d) ≡ precedes w d c
-  order-same c d = by-test (isIn c w) (λ e. rw (C .has c, e) (C .ordered c d)) (λ e. rw (C .has c, e) (sym (none-precedes w d c e)))
+  order-same : (c d : ℕ) → (member contents c && (member contents d && member (getD before c 0) d)) ≡ precedes w d c
+  order-same c d = by-test (isIn c w)
+      (λ e. by-test (isIn d w)
+      (λ e′. rw (C .has c, e, C .has d, e′) (C .ordered c d e))
+      (λ e′. rw (C .has c, e, C .has d, e′) (sym (precedes-none w d c e′))))
+      (λ e. rw (C .has c, e) (sym (none-precedes w d c e)))
 
   value-same : (a m : ℕ) → (not (member named a) || member m (getD strings (a % 32) 0)) ≡ (not (isIn a (names δ)) || holdsValue δ a m)
   value-same a m = by-test (isIn a (names δ)) (λ e. rw (N .has a, e) (N .holds a m e)) (λ e. rw (N .has a, e))

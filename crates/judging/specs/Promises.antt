@@ -3,9 +3,9 @@
 use Prim.Native.Nat.{ℕ, zero, suc, _+_, _-_, _/_, _%_, _≤_, _<_}
 use mathlib.Core.Path.{_≡_}
 use mathlib.Core.List.{List, [], _∷_}
-use mathlib.Core.Bool.{Bool, true, not, _&&_, _||_}
+use mathlib.Core.Bool.{Bool, true, false, not, _&&_, _||_}
 use mathlib.Core.Option.{Option, some, none}
-use lib.ListN.{getD}
+use lib.ListN.{length, getD}
 use lib.Dec.{eqb}
 use Rattle.sets.specs.Sets.{member}
 use Rattle.commands.specs.Commands.{byte}
@@ -29,13 +29,30 @@ abbrev pub tableAtoms : ℕ → List ℕ → ℕ → List ℕ → Atoms
 tableAtoms named strings inside preceding = record {
   attr = λ a. member named a;
   content = λ c. member inside c;
-  order = λ c d. not (member inside c && member (getD preceding c 0) d);
+  order = λ c d. not (member inside c && (member inside d && member (getD preceding c 0) d));
   value = λ a m. not (member named a) || member m (getD strings (a % 32) 0);
 }
 
 -- The value and the end of the formula that stands at an offset.
 abbrev pub Holds : Atoms → List ℕ → ℕ → Held → Type 0
 Holds A v at r = (f depth end : ℕ) (ψ : Formula) → formula f v depth at ≡ whole ψ end → (r .next .at ≡ end) × (r .value ≡ truthOf A ψ)
+
+-- Atoms of an element with these attributes and contents, whatever its strings and its order are.
+pub record Shaped (named inside : ℕ) (A : Atoms) : Type 0 where
+  pub attrs : (a : ℕ) → A .attr a ≡ member named a
+  pub contents : (c : ℕ) → A .content c ≡ member inside c
+  pub orders : (c d : ℕ) → (member inside c && member inside d) ≡ false → A .order c d ≡ true
+  pub values : (a m : ℕ) → member named a ≡ false → A .value a m ≡ true
+
+-- Where nothing was set, the test had no need to look further, and answered true.
+abbrev pub Closed : ℕ → ℕ → Bool → Bool → Type 0
+Closed before after further r = after ≡ 0 → (before ≡ 0) × (further ≡ false) × (r ≡ true)
+
+-- The value and the end of the formula that stands at an offset; where nothing was set, they are the same for all of this shape.
+pub record Decides (A : Atoms) (named inside : ℕ) (v : List ℕ) (at before after : ℕ) (r : Held) : Type 0 where
+  pub truth : Holds A v at r
+  pub earlier : after ≡ 0 → before ≡ 0
+  pub sure : after ≡ 0 → (B : Atoms) → Shaped named inside B → Holds B v at r
 
 -- The two in one number: twice the end, and 1 for true.
 abbrev pub heldOf : ℕ → Held
@@ -49,15 +66,32 @@ NoConnective v at = (byte v at ≡ 0x10 → ⊥) × (byte v at ≡ 0x11 → ⊥)
 abbrev pub AllHold : Atoms → List ℕ → ℕ → Bool → Type 0
 AllHold A v at b = (f end : ℕ) (ψs : List Formula) → clauses f v at ≡ whole ψs end → b ≡ allTrue A ψs
 
+-- All clauses from an offset on are met by every element of this shape.
+pub record Settled (v : List ℕ) (named inside to : ℕ) : Type 0 where
+  pub met : (B : Atoms) → Shaped named inside B → AllHold B v to true
+
+-- The table of shapes: the attributes of each element at its number, the contents 64 places further, and the offset another 64 further,
+-- 0 if it is not known.
+pub record Remembered (v shapes : List ℕ) : Type 0 where
+  pub long : length shapes ≡ 192
+  pub settled : (e : ℕ) → e < 64 → 0 < getD shapes (e + 128) 0
+      → Settled v (getD shapes e 0) (getD shapes (e + 64) 0) (getD shapes (e + 128) 0)
+
+-- The tables that are lent from one element to the next.
+pub record Lent (v strings texts shapes : List ℕ) : Type 0 where
+  pub strings-long : length strings ≡ 32
+  pub long : length texts ≡ 64
+  pub remembered : Remembered v shapes
+
 -- The tables of attributes.
 pub record Naming (δ : List Attribute) (named : ℕ) (strings : List ℕ) : Type 0 where
   pub has : (a : ℕ) → member named a ≡ isIn a (names δ)
   pub holds : (a m : ℕ) → isIn a (names δ) ≡ true → member m (getD strings (a % 32) 0) ≡ holdsValue δ a m
 
--- The tables of a word of contents.
+-- The tables of a word of contents; where a content is not in the word, its place in `preceding` tells nothing.
 pub record Containing (w : List ℕ) (inside : ℕ) (preceding : List ℕ) : Type 0 where
   pub has : (c : ℕ) → member inside c ≡ isIn c w
-  pub ordered : (c d : ℕ) → member (getD preceding c 0) d ≡ precedes w d c
+  pub ordered : (c d : ℕ) → isIn c w ≡ true → member (getD preceding c 0) d ≡ precedes w d c
 
 -- The attributes that stand at an offset.
 abbrev pub Names : List ℕ → ℕ → Named → List ℕ → Type 0

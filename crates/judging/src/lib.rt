@@ -7,15 +7,23 @@ ghost use Prim.Native.Nat.{ℕ, _/_, _%_, _^_, _≤_, _<_};
 ghost use lib.ListN.{length, getD, replicate};
 ghost use lib.Dec.{eqb};
 ghost use Rattle.sets.specs.Sets.{member};
+ghost use Rattle.commands.specs.Commands.{byte};
 ghost use Rattle.vocabularies.specs.Vocabulary.{Vocabulary};
+ghost use Rattle.pages.specs.Promises.{PastText};
 ghost use Rattle.judging.specs.Judgement.{orElse};
-ghost use Rattle.judging.specs.Promises.{tableAtoms, heldOf, Holds, NoConnective, AllHold, Names, Containing, IsRight, Tabled, SpeltAgain, wrongOf, JudgesItem, JudgesItems};
+ghost use Rattle.judging.specs.Promises.{tableAtoms, heldOf, NoConnective, Closed, Decides, AllHold, Settled, Remembered, Lent, Names, Containing, IsRight, Tabled, SpeltAgain, wrongOf, JudgesItem, JudgesItems};
 use commands::Position;
 
 // The truth of a formula, and the position after it. `heldOf` of the definitions says how code has both in one number.
 pub struct Held {
     pub value: bool,
     pub next: Position,
+}
+
+// Whether all clauses are met, and the offset from which on they are whatever the strings and the order are; 0 if it is not known.
+pub struct Met {
+    pub value: bool,
+    pub sure: usize,
 }
 
 // The names of an element's attributes, and the position after them.
@@ -61,24 +69,31 @@ fn is_member(set: u64, i: u8) -> bool
     sets::has(set, i)
 }
 
-// No d stands before a c.
-fn is_ordered(inside: u64, preceding: &[u64; 64], c: u8, d: u8) -> bool
-    ensures { λ r. ⌜ r ≡ not (member inside c && member (getD (now (preceding .entry)) c 0) d) ⌝ }
+// No d stands before a c. Where both are inside, the order decides, and `unsure` is set.
+fn is_ordered(inside: u64, preceding: &[u64; 64], c: u8, d: u8, unsure: &mut usize) -> bool
+    ensures truth { λ r. ⌜ r ≡ not (member inside c && (member inside d && member (getD (now (preceding .entry)) c 0) d)) ⌝ }
+    ensures sure { λ r. ⌜ Closed (now (unsure .entry)) (now (unsure .exit)) (member inside c && member inside d) r ⌝ }
 {
     if !is_member(inside, c) {
         return true;
     }
+    if !is_member(inside, d) {
+        return true;
+    }
+    *unsure = 1;
     let k = c as usize;
     !is_member(preceding[k], d)
 }
 
-// Attribute a is absent, or has a string of the set m.
-fn is_valued(names: u64, strings: &[u8; 32], a: u8, m: u64) -> bool
-    ensures { λ r. ⌜ r ≡ (not (member names a) || member m (getD (now (strings .entry)) (a % 32) 0)) ⌝ }
+// Attribute a is absent, or has a string of the set m. Where it is present, its string decides, and `unsure` is set.
+fn is_valued(names: u64, strings: &[u8; 32], a: u8, m: u64, unsure: &mut usize) -> bool
+    ensures truth { λ r. ⌜ r ≡ (not (member names a) || member m (getD (now (strings .entry)) (a % 32) 0)) ⌝ }
+    ensures sure { λ r. ⌜ Closed (now (unsure .entry)) (now (unsure .exit)) (member names a) r ⌝ }
 {
     if !is_member(names, a) {
         return true;
     }
+    *unsure = 1;
     let k = (a % 32) as usize;
     is_member(m, strings[k])
 }
@@ -94,7 +109,8 @@ fn packed(value: bool, next: usize) -> usize
     next * 2
 }
 
-// The formula of one command here, for an element with these tables; 0 where none is whole.
+// The formula of one command here, for an element with these tables; 0 where none is whole. `unsure` is set where the strings or the order
+// decide.
 fn atom(
     v: &[u8],
     at: usize,
@@ -102,10 +118,11 @@ fn atom(
     strings: &[u8; 32],
     inside: u64,
     preceding: &[u64; 64],
+    unsure: &mut usize,
 ) -> usize
     requires { ⌜ (at < length (now v)) × NoConnective (now v) at ⌝ }
     ensures forward { λ r. ⌜ (0 < r → at < r / 2) ⌝ }
-    ensures truth { λ r. ⌜ Holds (tableAtoms names (now (strings .entry)) inside (now (preceding .entry))) (now (v .entry)) at (heldOf r) ⌝ }
+    ensures truth { λ r. ⌜ Decides (tableAtoms names (now (strings .entry)) inside (now (preceding .entry))) names inside (now (v .entry)) at (now (unsure .entry)) (now (unsure .exit)) (heldOf r) ⌝ }
 {
     let left = v.len() - at;
     match v[at] {
@@ -126,14 +143,17 @@ fn atom(
             if left < 3 {
                 return 0;
             }
-            packed(is_ordered(inside, preceding, v[at + 1], v[at + 2]), at + 3)
+            packed(
+                is_ordered(inside, preceding, v[at + 1], v[at + 2], unsure),
+                at + 3,
+            )
         }
         0x17 => {
             if left < 10 {
                 return 0;
             }
             let m = commands::inner_set(v, at + 2);
-            packed(is_valued(names, strings, v[at + 1], m), at + 10)
+            packed(is_valued(names, strings, v[at + 1], m, unsure), at + 10)
         }
         _ => 0,
     }
@@ -148,31 +168,32 @@ fn holds(
     strings: &[u8; 32],
     inside: u64,
     preceding: &[u64; 64],
+    unsure: &mut usize,
 ) -> usize
     ensures forward { λ r. ⌜ (0 < r → at < r / 2) ⌝ }
-    ensures truth { λ r. ⌜ Holds (tableAtoms names (now (strings .entry)) inside (now (preceding .entry))) (now (v .entry)) at (heldOf r) ⌝ }
+    ensures truth { λ r. ⌜ Decides (tableAtoms names (now (strings .entry)) inside (now (preceding .entry))) names inside (now (v .entry)) at (now (unsure .entry)) (now (unsure .exit)) (heldOf r) ⌝ }
 {
     if v.len() <= at {
         return 0;
     }
     match v[at] {
         0x10 => {
-            let first = holds(v, at + 1, names, strings, inside, preceding);
+            let first = holds(v, at + 1, names, strings, inside, preceding, unsure);
             if first == 0 {
                 return 0;
             }
-            let second = holds(v, first / 2, names, strings, inside, preceding);
+            let second = holds(v, first / 2, names, strings, inside, preceding, unsure);
             if first % 2 == 1 {
                 return second;
             }
             second / 2 * 2
         }
         0x11 => {
-            let first = holds(v, at + 1, names, strings, inside, preceding);
+            let first = holds(v, at + 1, names, strings, inside, preceding, unsure);
             if first == 0 {
                 return 0;
             }
-            let second = holds(v, first / 2, names, strings, inside, preceding);
+            let second = holds(v, first / 2, names, strings, inside, preceding, unsure);
             if first % 2 == 0 {
                 return second;
             }
@@ -182,7 +203,7 @@ fn holds(
             second / 2 * 2 + 1
         }
         0x12 => {
-            let only = holds(v, at + 1, names, strings, inside, preceding);
+            let only = holds(v, at + 1, names, strings, inside, preceding, unsure);
             if only == 0 {
                 return 0;
             }
@@ -191,55 +212,130 @@ fn holds(
             }
             only + 1
         }
-        _ => atom(v, at, names, strings, inside, preceding),
+        _ => atom(v, at, names, strings, inside, preceding, unsure),
     }
 }
 
-// Whether all clauses that stand from an offset on are met, by an element with these tables.
+// The formula of a clause here, as `holds` has it. Most are one command, and take no call of `holds`.
+fn clause_holds(
+    v: &[u8],
+    at: usize,
+    names: u64,
+    strings: &[u8; 32],
+    inside: u64,
+    preceding: &[u64; 64],
+    unsure: &mut usize,
+) -> usize
+    ensures forward { λ r. ⌜ (0 < r → at < r / 2) ⌝ }
+    ensures truth { λ r. ⌜ Decides (tableAtoms names (now (strings .entry)) inside (now (preceding .entry))) names inside (now (v .entry)) at (now (unsure .entry)) (now (unsure .exit)) (heldOf r) ⌝ }
+{
+    if v.len() <= at {
+        return 0;
+    }
+    match v[at] {
+        0x10 => holds(v, at, names, strings, inside, preceding, unsure),
+        0x11 => holds(v, at, names, strings, inside, preceding, unsure),
+        0x12 => holds(v, at, names, strings, inside, preceding, unsure),
+        _ => atom(v, at, names, strings, inside, preceding, unsure),
+    }
+}
+
+// Whether all clauses that stand from an offset on are met, by an element with these tables. Those from `to` on are met whatever its
+// strings and its order are.
 fn all_hold(
     v: &[u8],
     from: usize,
+    to: usize,
     names: u64,
     strings: &[u8; 32],
     inside: u64,
     preceding: &[u64; 64],
-) -> bool
-    ensures { λ r. ⌜ AllHold (tableAtoms names (now (strings .entry)) inside (now (preceding .entry))) (now (v .entry)) from r ⌝ }
+) -> Met
+    requires { ⌜ Settled (now v) names inside to ⌝ }
+    ensures truth { λ r. ⌜ AllHold (tableAtoms names (now (strings .entry)) inside (now (preceding .entry))) (now (v .entry)) from (r .value) ⌝ }
+    ensures sure { λ r. ⌜ (0 < r .sure → Settled (now (v .entry)) names inside (r .sure)) ⌝ }
 {
     let mut at = from;
+    let mut sure = from;
     while at < v.len() {
-        if v[at] != 0x04 {
-            return true;
+        if at == to {
+            return Met { value: true, sure };
         }
-        let held = holds(v, at + 1, names, strings, inside, preceding);
+        if v[at] != 0x04 {
+            return Met { value: true, sure };
+        }
+        let mut unsure: usize = 0;
+        let held = clause_holds(v, at + 1, names, strings, inside, preceding, &mut unsure);
         if held % 2 == 0 {
-            return false;
+            return Met {
+                value: false,
+                sure: 0,
+            };
         }
         at = held / 2;
+        sure = kept(unsure, sure, at);
     }
-    true
+    Met { value: true, sure }
 }
 
-// Whether an element with these tables is right under the rule of these attributes, contents and clauses.
+// The offset from which on an element e with these attributes and contents is known to meet all clauses, whatever its strings and its
+// order are.
+fn sure_from(v: &[u8], shapes: &[u64; 192], e: u8, names: u64, inside: u64) -> usize
+    requires { ⌜ (e < 64) × Remembered (now v) (now shapes) ⌝ }
+    ensures { λ r. ⌜ Settled (now (v .entry)) names inside r ⌝ }
+{
+    let k = e as usize;
+    if shapes[k] != names {
+        return v.len();
+    }
+    if shapes[k + 64] != inside {
+        return v.len();
+    }
+    if shapes[k + 128] == 0 {
+        return v.len();
+    }
+    shapes[k + 128] as usize
+}
+
+// That offset is kept for the elements e that come later; 0 if there is none.
+fn remember(v: &[u8], shapes: &mut [u64; 192], e: u8, names: u64, inside: u64, sure: usize)
+    requires { ⌜ (e < 64) × Remembered (now v) (now shapes) × (0 < sure → Settled (now v) names inside sure) ⌝ }
+    ensures { λ _. ⌜ Remembered (now (v .entry)) (now (shapes .exit)) ⌝ }
+{
+    let k = e as usize;
+    shapes[k] = names;
+    shapes[k + 64] = inside;
+    shapes[k + 128] = sure as u64;
+}
+
+// Whether an element e with these tables is right under its rule, of the attributes, contents and clauses at its number.
 fn is_right(
     v: &[u8],
-    attributes: u64,
-    contents: u64,
-    clauses: usize,
+    attributes: &[u64; 64],
+    contents: &[u64; 64],
+    clauses: &[usize; 64],
+    e: u8,
     names: u64,
     strings: &[u8; 32],
     inside: u64,
     preceding: &[u64; 64],
+    shapes: &mut [u64; 192],
 ) -> bool
-    ensures { λ r. ⌜ IsRight (now (v .entry)) attributes contents clauses names (now (strings .entry)) inside (now (preceding .entry)) r ⌝ }
+    requires { ⌜ (e < 64) × Remembered (now v) (now shapes) ⌝ }
+    ensures right { λ r. ⌜ IsRight (now (v .entry)) (getD (now (attributes .entry)) e 0) (getD (now (contents .entry)) e 0) (getD (now (clauses .entry)) e 0) names (now (strings .entry)) inside (now (preceding .entry)) r ⌝ }
+    ensures remembered { λ _. ⌜ Remembered (now (v .entry)) (now (shapes .exit)) ⌝ }
 {
-    if !sets::is_within(names, attributes) {
+    let k = e as usize;
+    if !sets::is_within(names, attributes[k]) {
         return false;
     }
-    if !sets::is_within(inside, contents) {
+    if !sets::is_within(inside, contents[k]) {
         return false;
     }
-    all_hold(v, clauses, names, strings, inside, preceding)
+    let to = sure_from(v, shapes, e, names, inside);
+    let met = all_hold(v, clauses[k], to, names, strings, inside, preceding);
+    remember(v, shapes, e, names, inside, met.sure);
+    met.value
 }
 
 // The attributes straight after `23 e`: their names, and in `strings` the string of each, 64 for one outside 0 to 63.
@@ -247,6 +343,7 @@ fn read_attributes(p: &[u8], here: Position, strings: &mut [u8; 32]) -> Named
     requires { ⌜ length (now strings) ≡ 32 ⌝ }
     ensures forward { λ r. ⌜ here .at ≤ r .next .at ⌝ }
     ensures named { λ r. ⌜ Names (now (p .entry)) (here .at) r (now (strings .exit)) ⌝ }
+    ensures long { λ _. ⌜ length (now (strings .exit)) ≡ 32 ⌝ }
 {
     let mut at = here.at;
     let mut names: u64 = 0;
@@ -296,28 +393,49 @@ fn element_first(right: bool, at: usize, inside: usize) -> usize
     at + 1
 }
 
-// One content more, after those inside.
+// One content more, after those inside: all of them stand before it.
 fn add_content(preceding: &mut [u64; 64], inside: u64, c: u8) -> u64
     requires { ⌜ (length (now preceding) ≡ 64) × (c < 64) ⌝ }
     ensures long { λ _. ⌜ length (now (preceding .exit)) ≡ 64 ⌝ }
     ensures more { λ r. ⌜ ((w : List ℕ) → Containing w inside (now (preceding .entry)) → Containing (w ++ (c ∷ [])) r (now (preceding .exit))) ⌝ }
 {
     let k = c as usize;
-    preceding[k] = sets::union(preceding[k], inside);
+    preceding[k] = inside;
     sets::with(inside, c)
 }
 
 // So many texts more, after the contents inside: from the third on they change nothing.
 fn add_texts(preceding: &mut [u64; 64], inside: u64, n: usize) -> u64
-    requires { ⌜ (length (now preceding) ≡ 64) × (0 < n) ⌝ }
+    requires { ⌜ length (now preceding) ≡ 64 ⌝ }
     ensures long { λ _. ⌜ length (now (preceding .exit)) ≡ 64 ⌝ }
     ensures more { λ r. ⌜ ((w : List ℕ) → Containing w inside (now (preceding .entry)) → Containing (w ++ replicate n 0) r (now (preceding .exit))) ⌝ }
 {
+    if n == 0 {
+        return inside;
+    }
     let once = add_content(preceding, inside, 0);
     if n == 1 {
         return once;
     }
     add_content(preceding, once, 0)
+}
+
+// So many texts and no other contents. Only their own place of the table is needed.
+fn texts_alone(preceding: &mut [u64; 64], n: usize) -> u64
+    requires { ⌜ length (now preceding) ≡ 64 ⌝ }
+    ensures long { λ _. ⌜ length (now (preceding .exit)) ≡ 64 ⌝ }
+    ensures texts { λ r. ⌜ Containing (replicate n 0) r (now (preceding .exit)) ⌝ }
+{
+    if n == 0 {
+        return 0;
+    }
+    let text = sets::with(0, 0);
+    preceding[0] = 0;
+    if n == 1 {
+        return text;
+    }
+    preceding[0] = text;
+    text
 }
 
 // The offset after the bytes here that spell the same as those from `seen` on up to `past`; 0 if they do not, or none are seen.
@@ -342,7 +460,7 @@ fn after_same(p: &[u8], seen: usize, past: usize, at: usize) -> usize
     at + n
 }
 
-// What is kept of an element that was judged, or of the one before it, if an element is wrong.
+// The new of two, or the old if something speaks against the new.
 fn kept(wrong: usize, new: usize, old: usize) -> usize
     ensures { λ r. ⌜ r ≡ cond (eqb wrong 0) new old ⌝ }
 {
@@ -352,7 +470,66 @@ fn kept(wrong: usize, new: usize, old: usize) -> usize
     old
 }
 
-// The item here, under the rules whose tables are given. An element is judged before those inside it.
+// The offset after a text, if one stands here.
+fn after_one_text(p: &[u8], here: Position) -> Position
+    ensures { λ r. ⌜ PastText (now (p .entry)) (here .at) (r .at) ⌝ }
+{
+    let at = here.at;
+    if commands::byte_at(p, at) != 0x21 {
+        return here;
+    }
+    Position { at: at + 1 }
+}
+
+// The element here, if it has no more than one text inside; otherwise the position after it is given as 0. Most elements are such, and
+// need no table of their own.
+fn judge_leaf(
+    v: &[u8],
+    attributes: &[u64; 64],
+    contents: &[u64; 64],
+    clauses: &[usize; 64],
+    p: &[u8],
+    here: Position,
+    strings: &mut [u8; 32],
+    texts: &mut [u64; 64],
+    shapes: &mut [u64; 192],
+) -> Judged
+    requires { ⌜ (byte (now p) (here .at) ≡ 0x23) × (here .at < length (now p)) × Lent (now v) (now strings) (now texts) (now shapes) ⌝ }
+    ensures lent { λ _. ⌜ Lent (now (v .entry)) (now (strings .exit)) (now (texts .exit)) (now (shapes .exit)) ⌝ }
+    ensures small { λ r. ⌜ r .content < 64 ⌝ }
+    ensures judged { λ r. ⌜ ((r .next .at ≡ 0 → ⊥) → (here .at < r .next .at) × ((D : Vocabulary) → Tabled (now (v .entry)) D (now (attributes .entry)) (now (contents .entry)) (now (clauses .entry)) → JudgesItem D (now (p .entry)) (here .at) r)) ⌝ }
+{
+    let at = here.at;
+    let e = commands::byte_at(p, at + 1) % 64;
+    let named = read_attributes(p, Position { at: at + 2 }, strings);
+    let start = named.next;
+    let end = after_one_text(p, start);
+    if commands::byte_at(p, end.at) != 0x26 {
+        return Judged::text(0);
+    }
+    let inside = texts_alone(texts, end.at - start.at);
+    let right = is_right(
+        v,
+        attributes,
+        contents,
+        clauses,
+        e,
+        named.names,
+        strings,
+        inside,
+        texts,
+        shapes,
+    );
+    Judged {
+        content: e,
+        next: Position { at: end.at + 1 },
+        wrong: element_first(right, at, 0),
+    }
+}
+
+// The item here, under the rules whose tables are given. An element is judged before those inside it. Three tables are lent from one
+// element to the next: `strings` and `texts` serve while one is judged; `shapes` has for each element the attributes and contents of the
+// last one, and from where on such a one meets all clauses.
 pub fn judge_item(
     v: &[u8],
     attributes: &[u64; 64],
@@ -360,7 +537,12 @@ pub fn judge_item(
     clauses: &[usize; 64],
     p: &[u8],
     here: Position,
+    strings: &mut [u8; 32],
+    texts: &mut [u64; 64],
+    shapes: &mut [u64; 192],
 ) -> Judged
+    requires { ⌜ Lent (now v) (now strings) (now texts) (now shapes) ⌝ }
+    ensures lent { λ _. ⌜ Lent (now (v .entry)) (now (strings .exit)) (now (texts .exit)) (now (shapes .exit)) ⌝ }
     ensures forward { λ r. ⌜ (here .at < length (now (p .entry)) → here .at < r .next .at) ⌝ }
     ensures small { λ r. ⌜ r .content < 64 ⌝ }
     ensures judged { λ r. ⌜ ((D : Vocabulary) → Tabled (now (v .entry)) D (now (attributes .entry)) (now (contents .entry)) (now (clauses .entry)) → JudgesItem D (now (p .entry)) (here .at) r) ⌝ }
@@ -373,21 +555,33 @@ pub fn judge_item(
         return Judged::text(at + 1);
     }
     let e = commands::byte_at(p, at + 1) % 64;
-    let k = e as usize;
-    let mut strings = [0u8; 32];
-    let named = read_attributes(p, Position { at: at + 2 }, &mut strings);
-    let start = named.next;
+    let first = read_attributes(p, Position { at: at + 2 }, strings);
+    let start = first.next;
     let mut preceding = [0u64; 64];
-    let list = judge_items(v, attributes, contents, clauses, p, start, &mut preceding);
+    let list = judge_items(
+        v,
+        attributes,
+        contents,
+        clauses,
+        p,
+        start,
+        &mut preceding,
+        strings,
+        texts,
+        shapes,
+    );
+    let named = read_attributes(p, Position { at: at + 2 }, strings);
     let right = is_right(
         v,
-        attributes[k],
-        contents[k],
-        clauses[k],
+        attributes,
+        contents,
+        clauses,
+        e,
         named.names,
-        &strings,
+        strings,
         list.inside,
         &preceding,
+        shapes,
     );
     let next = list.next;
     Judged {
@@ -407,10 +601,14 @@ fn judge_items(
     p: &[u8],
     here: Position,
     preceding: &mut [u64; 64],
+    strings: &mut [u8; 32],
+    texts: &mut [u64; 64],
+    shapes: &mut [u64; 192],
 ) -> Listed
-    requires { ⌜ length (now preceding) ≡ 64 ⌝ }
+    requires { ⌜ (length (now preceding) ≡ 64) × Lent (now v) (now strings) (now texts) (now shapes) ⌝ }
+    ensures lent { λ _. ⌜ Lent (now (v .entry)) (now (strings .exit)) (now (texts .exit)) (now (shapes .exit)) ⌝ }
     ensures forward { λ r. ⌜ here .at ≤ r .next .at ⌝ }
-    ensures judged { λ r. ⌜ ((D : Vocabulary) → Tabled (now (v .entry)) D (now (attributes .entry)) (now (contents .entry)) (now (clauses .entry)) → Containing [] 0 (now (preceding .entry)) → JudgesItems D (now (p .entry)) (here .at) r (now (preceding .exit))) ⌝ }
+    ensures judged { λ r. ⌜ ((D : Vocabulary) → Tabled (now (v .entry)) D (now (attributes .entry)) (now (contents .entry)) (now (clauses .entry)) → JudgesItems D (now (p .entry)) (here .at) r (now (preceding .exit))) ⌝ }
 {
     let mut at = here.at;
     let mut inside: u64 = 0;
@@ -436,13 +634,43 @@ fn judge_items(
                 inside = add_content(preceding, inside, e);
                 at = same;
             } else {
-                let item = judge_item(v, attributes, contents, clauses, p, Position { at });
-                inside = add_content(preceding, inside, item.content);
-                wrong = first_of(wrong, item.wrong);
-                let next = item.next;
-                seen = kept(item.wrong, at, seen);
-                past = kept(item.wrong, next.at, past);
-                at = next.at;
+                let leaf = judge_leaf(
+                    v,
+                    attributes,
+                    contents,
+                    clauses,
+                    p,
+                    Position { at },
+                    strings,
+                    texts,
+                    shapes,
+                );
+                let after = leaf.next;
+                if after.at != 0 {
+                    inside = add_content(preceding, inside, leaf.content);
+                    wrong = first_of(wrong, leaf.wrong);
+                    seen = kept(leaf.wrong, at, seen);
+                    past = kept(leaf.wrong, after.at, past);
+                    at = after.at;
+                } else {
+                    let item = judge_item(
+                        v,
+                        attributes,
+                        contents,
+                        clauses,
+                        p,
+                        Position { at },
+                        strings,
+                        texts,
+                        shapes,
+                    );
+                    inside = add_content(preceding, inside, item.content);
+                    wrong = first_of(wrong, item.wrong);
+                    let next = item.next;
+                    seen = kept(item.wrong, at, seen);
+                    past = kept(item.wrong, next.at, past);
+                    at = next.at;
+                }
             }
         }
     }

@@ -1,16 +1,15 @@
 -- The sets of the templates to which a gap has edges, joined.
-use Prim.Native.Nat.{ℕ, suc, _+_, _*_, _/_, _<_, _≤_}
+use Prim.Native.Nat.{ℕ, suc, _+_, _*_, _<_, _≤_}
 use mathlib.Core.Path.{_≡_, refl, sym, subst, _∙_}
 use mathlib.Core.List.{List, [], _∷_}
 use mathlib.Core.Bool.{Bool, true, false, _&&_, _||_, false≢true}
 use mathlib.Core.Logic.{_⊎_, inl, inr, ⊎-elim}
-use native.Mathlib.Decide.{ℕ-discrete}
 use native.Mathlib.Nat.{add-zero}
 use native.Mathlib.Omega.{arith}
 use lib.ListN.{length, getD, set, length-set}
 use lib.Seq.{getD-set-same, getD-set-other}
-use lib.Dec.{eqb, ltb}
-use borrow.Author.Tests.{ltb-true, ltb-false, eqb-true, eqb-false}
+use lib.Dec.{ltb}
+use borrow.Author.Tests.{ltb-true, ltb-false}
 use Rattle.sets.specs.Sets.{member}
 use Rattle.pages.specs.Items.{Items}
 use Rattle.summaries.specs.Proposal.{edge}
@@ -21,10 +20,19 @@ use Rattle.patterns.specs.Rounds.{Sets, anyBelow}
 use Rattle.patterns.proofs.Tests.{or-left, or-right, or-cases, and-both, and-left, and-right, same-test, failed, any-below, below-any}
 use Rattle.pattern_sets.specs.PatternSets.{holds, FirstMember}
 use Rattle.entries.specs.Words.{Keeps}
-use Rattle.languages.specs.Tables.{fourAt, putFour, SetsAre, RowsOf, RowsAre, gapWords, GapSetsAre}
+use Rattle.languages.specs.Tables.{fourAt, putFour, RowsAre, gapWords, OwnGapSetsAre}
 use Rattle.languages.specs.Promises.{UnionOf}
 
 -- ---- stepping through the templates
+
+-- A member before the next one is the last, or stands before it.
+pub passed : (set m onto : ℕ) → FirstMember set (m + 1) onto → (k : ℕ) → k < onto → member set k ≡ true → (k < m) ⊎ (k ≡ m)
+passed set m onto f k l h = go (ltb k m) refl (ltb m k) refl
+  where
+    go : (t : Bool) → ltb k m ≡ t → (u : Bool) → ltb m k ≡ u → (k < m) ⊎ (k ≡ m)
+    go true e u e′ = inl (ltb-true k m e)
+    go false e true e′ = absurd (false≢true (sym (f .skips k (let q : m < k = ltb-true m k e′ in omega arith) l) ∙ h))
+    go false e false e′ = inr (omega (arith, ltb-false k m e, ltb-false m k e′))
 
 module _ (templates : ℕ) (rows : List ℕ) where
   -- The sets of the templates before a place, which is a template of the set, or 64.
@@ -44,14 +52,6 @@ module _ (templates : ℕ) (rows : List ℕ) where
 
   module _ (m onto : ℕ) (r more : List ℕ) (low : m < 32) (f : FirstMember templates (m + 1) onto)
       (both : (y : ℕ) → holds more y ≡ (holds r y || holds (fourAt rows (m * 4)) y)) (so-far : UnionTo m r) where
-    passed : (k : ℕ) → k < onto → member templates k ≡ true → (k < m) ⊎ (k ≡ m)
-    passed k l h = go (ltb k m) refl (ltb m k) refl
-      where
-        go : (t : Bool) → ltb k m ≡ t → (u : Bool) → ltb m k ≡ u → (k < m) ⊎ (k ≡ m)
-        go true e u e′ = inl (ltb-true k m e)
-        go false e true e′ = absurd (false≢true (sym (f .skips k (let q : m < k = ltb-true m k e′ in omega arith) l) ∙ h))
-        go false e false e′ = inr (omega (arith, ltb-false k m e, ltb-false m k e′))
-
     pub union-more : UnionTo onto more
     union-more = record {
       within = f .within;
@@ -59,7 +59,7 @@ module _ (templates : ℕ) (rows : List ℕ) where
       complete = λ k y l h p. both y ∙ ⊎-elim
           (λ (q : k < m). or-left (holds r y) (holds (fourAt rows (m * 4)) y) (so-far .complete k y q h p))
           (λ (q : k ≡ m). or-right (holds r y) (holds (fourAt rows (m * 4)) y) (subst (λ (i : ℕ). holds (fourAt rows (i * 4)) y ≡ true) q p))
-          (passed k l h);
+          (passed templates m onto f k l h);
       sound = λ y h. ⊎-elim
           (λ (q : holds r y ≡ true). so-far .sound y q)
           (λ (q : holds (fourAt rows (m * 4)) y ≡ true). (m, low, so-far .is-held (omega arith), q))
@@ -135,83 +135,64 @@ module _ (table : List ℕ) (i : ℕ) (words : List ℕ) where
       away : (d : ℕ) → d < 4 → {j : ℕ} → j ≡ k + d → (j < i) ⊎ (i + 3 < j)
       away d l {j} e = ⊎-elim (λ (h : k + 3 < i). inl (omega arith)) (λ (h : i + 3 < k). inr (omega arith)) apart
 
--- ---- the rows of all templates
-
-pub record RowsTo (sets : List (List ℕ)) (n : ℕ) (rows : List ℕ) : Type 0 where
-  pub within : n ≤ 32
-  pub room : length rows ≡ 128
-  pub are : (k : ℕ) → k < n → fourAt rows (k * 4) ≡ getD sets k []
-
-pub rows-none : (sets : List (List ℕ)) (rows : List ℕ) → length rows ≡ 128 → RowsTo sets 0 rows
-rows-none sets rows room = record { within = omega arith; room = room; are = λ k l. absurd (omega arith) }
-
-pub rows-more : (sets : List (List ℕ)) (n : ℕ) (rows row : List ℕ) → n < 32 → row ≡ getD sets n [] → length row ≡ 4 → RowsTo sets n rows
-    → RowsTo sets (n + 1) (putFour rows (n * 4) row)
-rows-more sets n rows row low is four so-far = record {
-  within = omega arith;
-  room = put-length rows (n * 4) row ∙ so-far .room;
-  are = λ k l. go k l (ℕ-discrete k n);
-}
-  where
-    go : (k : ℕ) → k < n + 1 → Dec (k ≡ n) → fourAt (putFour rows (n * 4) row) (k * 4) ≡ getD sets k []
-    go k l (yes q) = rw q (put-same rows (n * 4) row (let h : length rows ≡ 128 = so-far .room in omega arith) four ∙ is)
-    go k l (no ne) = put-other rows (n * 4) row (k * 4) (inl (omega arith)) ∙ so-far .are k (omega arith)
-
-pub rows-are : (φs : List Items) (M : Morphisms.Morphism) (X : Sets) (sets : List (List ℕ)) (rows : List ℕ) → length φs < 32 → RowsOf sets rows
-    → SetsAre φs M X sets → RowsAre φs M X rows
-rows-are φs M X sets rows few of are n h = rw (of n (omega arith)) (are n h)
-
 -- ---- the table of a template's gaps
 
-pub record GapsTo (words : List ℕ) (n : ℕ) (rows : List ℕ) (g : ℕ) (takes : List ℕ) : Type 0 where
-  pub within : g ≤ 8
-  pub room : length takes ≡ 32
-  pub unions : (k : ℕ) → k < g → UnionOf (getD words (32 + n * 8 + k) 0) rows (gapWords takes k)
+module _ (words : List ℕ) (n : ℕ) (rows : List ℕ) (own : ℕ) where
+  -- The gaps before a place, which is one of the word, or 64, have their sets in the table.
+  pub record GapsTo (g : ℕ) (takes : List ℕ) : Type 0 where
+    pub within : g ≤ 64
+    pub room : length takes ≡ 32
+    pub unions : (k : ℕ) → k < g → k < 8 → member own k ≡ true → UnionOf (getD words (32 + n * 8 + k) 0) rows (gapWords takes k)
 
-pub gaps-none : (words : List ℕ) (n : ℕ) (rows : List ℕ) (takes : List ℕ) → length takes ≡ 32 → GapsTo words n rows 0 takes
-gaps-none words n rows takes room = record { within = omega arith; room = room; unions = λ k l. absurd (omega arith) }
+  pub gaps-none : (g : ℕ) (takes : List ℕ) → FirstMember own 0 g → length takes ≡ 32 → GapsTo g takes
+  gaps-none g takes f room = record { within = f .within; room = room; unions = λ k l h p. absurd (false≢true (sym (f .skips k (omega arith) l) ∙ p)) }
 
-pub gaps-more : (words : List ℕ) (n : ℕ) (rows : List ℕ) (g : ℕ) (takes row : List ℕ) → g < 8 → length row ≡ 4
-    → UnionOf (getD words (32 + n * 8 + g) 0) rows row → GapsTo words n rows g takes → GapsTo words n rows (g + 1) (putFour takes (g * 4) row)
-gaps-more words n rows g takes row low four union so-far = record {
-  within = omega arith;
-  room = put-length takes (g * 4) row ∙ so-far .room;
-  unions = λ k l. go k l (ℕ-discrete k g);
-}
-  where
-    go : (k : ℕ) → k < g + 1 → Dec (k ≡ g) → UnionOf (getD words (32 + n * 8 + k) 0) rows (gapWords (putFour takes (g * 4) row) k)
-    go k l (yes q) = rw (q, put-same takes (g * 4) row (let h : length takes ≡ 32 = so-far .room in omega arith) four) union
-    go k l (no ne) = rw (put-other takes (g * 4) row (k * 4) (inl (omega arith))) (so-far .unions k (omega arith))
+  pub gaps-more : (g onto : ℕ) (takes row : List ℕ) → g < 8 → FirstMember own (g + 1) onto → length row ≡ 4
+      → UnionOf (getD words (32 + n * 8 + g) 0) rows row → GapsTo g takes → GapsTo onto (putFour takes (g * 4) row)
+  gaps-more g onto takes row low f four union so-far = record {
+    within = f .within;
+    room = put-length takes (g * 4) row ∙ so-far .room;
+    unions = λ k l h p. ⊎-elim (λ (q : k < g). earlier k q h p) (λ (q : k ≡ g). last k q) (passed own g onto f k l p);
+  }
+    where
+      last : (k : ℕ) → k ≡ g → UnionOf (getD words (32 + n * 8 + k) 0) rows (gapWords (putFour takes (g * 4) row) k)
+      last k q = rw (q, put-same takes (g * 4) row (let h : length takes ≡ 32 = so-far .room in omega arith) four) union
 
-module _ (words : List ℕ) (n : ℕ) (rows : List ℕ) (takes : List ℕ) (few : n < 32) (so-far : GapsTo words n rows 8 takes)
+      earlier : (k : ℕ) → k < g → k < 8 → member own k ≡ true → UnionOf (getD words (32 + n * 8 + k) 0) rows (gapWords (putFour takes (g * 4) row) k)
+      earlier k q h p = rw (put-other takes (g * 4) row (k * 4) (inl (omega arith))) (so-far .unions k q h p)
+
+module _ (words : List ℕ) (n : ℕ) (rows : List ℕ) (own : ℕ) (g : ℕ) (takes : List ℕ) (few : n < 32) (so-far : GapsTo words n rows own g takes) (ended : 8 ≤ g)
     (φs : List Items) (G : Summary) (M : Morphisms.Morphism) (X : Sets) (small : length φs < 32) (bounded : Bounded φs G)
     (keeps : Keeps words G) (are : RowsAre φs M X rows) where
   -- A pattern that the table has is that of a template to which there is an edge.
-  record Led (g x : ℕ) : Type 0 where
+  record Led (k x : ℕ) : Type 0 where
     to : ℕ
     there : to ≤ length φs
-    leads : G (edge n g to) ≡ true
+    leads : G (edge n k to) ≡ true
     has : holds (fourAt rows (to * 4)) x ≡ true
 
-  led : (g x : ℕ) → g < 8 → holds (gapWords takes g) x ≡ true → Led g x
-  led g x l h =
-      let (m, lm, e, p) = so-far .unions g l .sound x h in
-      let q : G (edge n g m) ≡ true = keeps .same (edge n g m) (few, l) ∙ e in
-      record { to = m; there = bounded .edges n g m q; leads = q; has = p }
+  led : (k x : ℕ) → k < 8 → member own k ≡ true → holds (gapWords takes k) x ≡ true → Led k x
+  led k x l o h =
+      let (m, lm, e, p) = so-far .unions k (omega arith) l o .sound x h in
+      let q : G (edge n k m) ≡ true = keeps .same (edge n k m) (few, l) ∙ e in
+      record { to = m; there = bounded .edges n k m q; leads = q; has = p }
 
-  pub gap-sets-are : GapSetsAre φs G M X n takes
-  gap-sets-are g l = record { inside = λ x h. same-test (holds (gapWords takes g) x) (anyBelow (suc (length φs)) (λ m. G (edge n g m) && X m x)) (into x h) (out x h); outside = λ x h. failed (holds (gapWords takes g) x) (λ e. let d = led g x l e in false≢true (sym (are (d .to) (d .there) .outside x h) ∙ d .has)) }
+  pub gap-sets-are : OwnGapSetsAre φs G M X n own takes
+  gap-sets-are k l o = record {
+    inside = λ x h. same-test (holds (gapWords takes k) x) (anyBelow (suc (length φs)) (λ m. G (edge n k m) && X m x)) (into x h) (out x h);
+    outside = λ x h. failed (holds (gapWords takes k) x) (λ e. let d = led k x l o e in false≢true (sym (are (d .to) (d .there) .outside x h) ∙ d .has));
+  }
     where
-      into : (x : ℕ) → x < M .size → holds (gapWords takes g) x ≡ true → anyBelow (suc (length φs)) (λ m. G (edge n g m) && X m x) ≡ true
+      into : (x : ℕ) → x < M .size → holds (gapWords takes k) x ≡ true → anyBelow (suc (length φs)) (λ m. G (edge n k m) && X m x) ≡ true
       into x h e =
-          let d = led g x l e in
+          let d = led k x l o e in
           let there : d .to ≤ length φs = d .there in
-          any-below (suc (length φs)) (λ m. G (edge n g m) && X m x) (d .to) (omega arith)
+          any-below (suc (length φs)) (λ m. G (edge n k m) && X m x) (d .to) (omega arith)
           (and-both (d .leads) (sym (are (d .to) (d .there) .inside x h) ∙ d .has))
 
-      out : (x : ℕ) → x < M .size → anyBelow (suc (length φs)) (λ m. G (edge n g m) && X m x) ≡ true → holds (gapWords takes g) x ≡ true
+      out : (x : ℕ) → x < M .size → anyBelow (suc (length φs)) (λ m. G (edge n k m) && X m x) ≡ true → holds (gapWords takes k) x ≡ true
       out x h e =
-          let (m, lm, p) = below-any (suc (length φs)) (λ m. G (edge n g m) && X m x) e in
-          so-far .unions g l .complete m x (omega arith)
-          (sym (keeps .same (edge n g m) (few, l)) ∙ and-left (G (edge n g m)) (X m x) p)
-          (are m (omega arith) .inside x h ∙ and-right (G (edge n g m)) (X m x) p)
+          let (m, lm, p) = below-any (suc (length φs)) (λ m. G (edge n k m) && X m x) e in
+          so-far .unions k (omega arith) l o .complete m x (omega arith)
+          (sym (keeps .same (edge n k m) (few, l)) ∙ and-left (G (edge n k m)) (X m x) p)
+          (are m (omega arith) .inside x h ∙ and-right (G (edge n k m)) (X m x) p)

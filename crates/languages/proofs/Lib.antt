@@ -3,5 +3,8 @@ pub mod Closing
 pub mod GapSets
 pub mod AttributeLaws
 pub mod ItemLaws
+pub mod TakeLaws
+pub mod SkipLaws
+pub mod LineLaws
 pub mod ListLaws
 pub mod RoundLaws

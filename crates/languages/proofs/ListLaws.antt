@@ -1,238 +1,198 @@
 -- The items of a template from the left: the set of what was passed, then the item's, then those of the others. The product is
--- associative and the empty word's pattern its unit, so this is the set of all. And products that a table remembers.
-use Prim.Native.Nat.{ℕ, zero, suc, _+_, _*_, _%_, _<_, _≤_}
+-- associative and the empty word's pattern its unit, so this is the set of all.
+use Prim.Native.Nat.{ℕ, zero, suc, _+_, _%_, _<_, _≤_}
 use mathlib.Core.Path.{_≡_, refl, sym, ap, subst, _∙_}
 use mathlib.Core.List.{List, [], _∷_}
 use mathlib.Core.Bool.{Bool, true, false, false≢true}
-use mathlib.Core.Logic.{_⊎_, inl, inr}
+use mathlib.Core.Logic.{inl, inr}
 use native.Mathlib.Decide.{ℕ-discrete}
 use native.Mathlib.Omega.{arith}
-use lib.ListN.{length, getD, replicate}
-use lib.Dec.{eqb, ltb}
-use borrow.Author.Tests.{ltb-true, ltb-false}
+use lib.ListN.{length}
 use Rattle.sets.specs.Sets.{member}
+use Rattle.commands.specs.declared.Position.{Position}
 use Rattle.commands.specs.Commands.{byte, either}
 use Rattle.commands.specs.Reading.{whole}
 use Rattle.commands.proofs.Laws.{byte-past}
 use Rattle.pages.specs.declared.Kind.the-variants.{Template}
-use Rattle.pages.specs.Items.{Items}
-use Rattle.pages.specs.ItemReading.{items}
+use Rattle.pages.specs.Items.{Item, text, gap, Items, gapIn, gapInItem}
+use Rattle.pages.specs.Items as Items
+use Rattle.pages.specs.ItemReading.{item, items}
 use Rattle.pages.proofs.Whole.{never-unfinished, items-whole}
 use Rattle.summaries.specs.Summaries.{Summary}
 use Rattle.patterns.specs.Morphisms as Morphisms
-use Rattle.patterns.specs.Rounds.{Set, Sets, only, product, patterns, itemPatterns}
-use Rattle.patterns.proofs.Tests.{failed}
-use Rattle.patterns.proofs.Exact.{factors}
+use Rattle.patterns.specs.Rounds.{Set, Sets, only, allTake, itemTakes, product, patterns, itemPatterns}
+use Rattle.patterns.proofs.Tests.{or-left, or-right, and-left, and-right, eqb-same}
 use Rattle.patterns.proofs.Products.{product-assoc, product-unit-left, product-unit-right}
-use Rattle.pattern_sets.specs.PatternSets.{holds, Same}
-use Rattle.pattern_sets.proofs.Laws.{holds-empty}
 use Rattle.readings.specs.declared.Reading.{Reading}
 use Rattle.readings.specs.Readings.{Reads, Is}
-use Rattle.readings.specs.Promises.{ReadsOne, Multiplies, TellsContents}
-use Rattle.readings.proofs.Joining.{empty-pattern}
-use Rattle.entries.proofs.Loading.{zeros}
-use Rattle.languages.specs.declared.Walked.{Walked}
-use Rattle.languages.specs.declared.Patterned.{Patterned}
-use Rattle.languages.specs.Tables.{Used, fourAt, putFour, gapWords, Lent}
-use Rattle.languages.specs.Promises.{ItemIs, WalksItem, Follows, Remembers, FollowsItem, ListPatterned}
-use Rattle.languages.proofs.Uses.{lawful, monoid, is-as, held-below, product-as}
-use Rattle.languages.proofs.GapSets.{put-length, put-same, put-other}
-use Rattle.languages.proofs.ItemLaws.{one-pattern, unit-set, item-begins, end-kind, no-item}
+use Rattle.readings.specs.Promises.{TellsContents}
+use Rattle.languages.specs.declared.Line.{Line}
+use Rattle.languages.specs.Tables.{Used, gapWords, GapSetIs}
+use Rattle.languages.specs.Promises.{AfterItem, LineIs, LineBegins, LineWithContent, LineWithGap, ContentAt, GapAt, CanChange, LineWithItem}
+use Rattle.languages.proofs.Uses.{monoid, is-as, product-as}
+use Rattle.languages.proofs.ItemLaws.{gap-range, leaf-read, element-read, text-code, item-begins, end-kind, no-item}
+use Rattle.languages.proofs.TakeLaws.{element-pattern}
+use Rattle.languages.proofs.LineLaws.{line-as, content-absent, gap-absent}
 
--- ---- products
+-- ---- what stands at an offset
 
-pub same-unit : (set unit : List ℕ) (t : Bool) → Same set unit t → ((y : ℕ) → holds unit y ≡ eqb y 0) → t ≡ true → (y : ℕ) → holds set y ≡ eqb y 0
-same-unit set unit true same is e y = same y ∙ is y
-same-unit set unit false same is e y = absurd (false≢true e)
+module _ (s : List ℕ) (at : ℕ) where
+  content-low : (c : ℕ) → ContentAt s at c → c < 64
+  content-low c (inl (code, is)) = omega arith
+  content-low c (inr (no-gap, no-element, is)) = omega arith
 
--- The empty word after others.
-unit-after : {r : Reading} {M : Morphisms.Morphism} → Reads r M → Used M → (a : List ℕ) (A B : Set) → Is M a A → ((x : ℕ) → x < M .size → B x ≡ only (M .of []) x)
-    → Is M a (product M A B)
-unit-after {r} {M} reads used a A B is-a unit = is-as a A (product M A B) is-a (λ x h.
-    sym (product-unit-right M (monoid used) A x h) ∙ product-as M A A (only (M .of [])) B (λ y l. refl) (λ y l. sym (unit y l)) x)
+  gap-low : (g : ℕ) → GapAt s at g → g < 8
+  gap-low g (code, is) = omega arith
 
--- With an empty set the product is empty.
-empty-product : {M : Morphisms.Morphism} (words : List ℕ) (A B : Set) → ((y : ℕ) → holds words y ≡ false) → ((x : ℕ) → x < M .size → B x ≡ false) → Is M words (product M A B)
-empty-product {M} words A B none empty = record {
-  inside = λ x h. none x ∙ sym (failed (product M A B x) (λ e. let f = factors M A B x e in false≢true (sym (empty (f .second) (f .second-below)) ∙ f .in-second)));
-  outside = λ x h. none x;
-}
-
-module _ (r : Reading) (a b : List ℕ) where
-  pub follows-unit : ((y : ℕ) → holds b y ≡ eqb y 0) → Follows r a b a
-  follows-unit unit M reads used A B is-a is-b = unit-after reads used a A B is-a (λ x h. sym (is-b .inside x h) ∙ unit-set reads used b unit .inside x h)
-
-  pub follows-product : (words : List ℕ) → Multiplies r a b words → Follows r a b words
-  follows-product words m M reads used A B is-a is-b = m M reads A B is-a is-b
-
--- ---- products that are remembered
-
-is-alike : {M : Morphisms.Morphism} (a b : List ℕ) (A : Set) → ((x : ℕ) → holds a x ≡ holds b x) → Is M a A → Is M b A
-is-alike a b A same is = record { inside = λ x h. sym (same x) ∙ is .inside x h; outside = λ x h. sym (same x) ∙ is .outside x h }
-
-same-true : (a b : List ℕ) (t : Bool) → t ≡ true → Same a b t → (x : ℕ) → holds a x ≡ holds b x
-same-true a b true e same = same
-same-true a b false e same = absurd (false≢true e)
-
-apart : (i j : ℕ) → (i ≡ j → ⊥) → (i < j) ⊎ (j < i)
-apart i j ne = go (ltb i j) refl
-  where
-    go : (t : Bool) → ltb i j ≡ t → (i < j) ⊎ (j < i)
-    go true e = inl (ltb-true i j e)
-    go false e = inr (omega (arith, ltb-false i j e))
-
-module _ (r : Reading) where
-  -- Of a place at which the same sets stand.
-  pub recalled : (a b : List ℕ) (table : List ℕ) (place : ℕ) → place < 16 → Remembers r table → (t : Bool) → t ≡ true → Same a (fourAt table (place * 12)) t
-      → (u : Bool) → u ≡ true → Same b (fourAt table (place * 12 + 4)) u → Follows r a b (fourAt table (place * 12 + 8))
-  recalled a b table place low known t e same u e′ same′ M reads used A B is-a is-b =
-      known place low M reads used A B
-      (is-alike a (fourAt table (place * 12)) A (same-true a (fourAt table (place * 12)) t e same) is-a)
-      (is-alike b (fourAt table (place * 12 + 4)) B (same-true b (fourAt table (place * 12 + 4)) u e′ same′) is-b)
-
-  none-at : (i x : ℕ) → holds (fourAt (replicate 192 0) i) x ≡ false
-  none-at i x = rw (zeros 192 i, zeros 192 (i + 1), zeros 192 (i + 2), zeros 192 (i + 3)) (holds-empty x)
-
-  pub remembers-none : Remembers r (replicate 192 0)
-  remembers-none i l M reads used A B is-a is-b = empty-product (fourAt (replicate 192 0) (i * 12 + 8)) A B (none-at (i * 12 + 8))
-      (λ x h. sym (is-b .inside x h) ∙ none-at (i * 12 + 4) x)
-
-  module _ (table a b words : List ℕ) (place : ℕ) (low : place < 16) (room : length table ≡ 192) (four-a : length a ≡ 4) (four-b : length b ≡ 4) (four : length words ≡ 4) where
-    abbrev one : List ℕ
-    one = putFour table (place * 12) a
-
-    abbrev two : List ℕ
-    two = putFour one (place * 12 + 4) b
-
-    abbrev three : List ℕ
-    three = putFour two (place * 12 + 8) words
-
-    one-long : length one ≡ 192
-    one-long = put-length table (place * 12) a ∙ room
-
-    two-long : length two ≡ 192
-    two-long = put-length one (place * 12 + 4) b ∙ one-long
-
-    pub three-long : length three ≡ 192
-    three-long = put-length two (place * 12 + 8) words ∙ two-long
-
-    has-first : fourAt three (place * 12) ≡ a
-    has-first = put-other two (place * 12 + 8) words (place * 12) (inl (omega arith)) ∙ (put-other one (place * 12 + 4) b (place * 12) (inl (omega arith))
-        ∙ put-same table (place * 12) a (omega arith) four-a)
-
-    has-second : fourAt three (place * 12 + 4) ≡ b
-    has-second = put-other two (place * 12 + 8) words (place * 12 + 4) (inl (omega arith)) ∙ put-same one (place * 12 + 4) b (let l = one-long in omega arith) four-b
-
-    has-third : fourAt three (place * 12 + 8) ≡ words
-    has-third = put-same two (place * 12 + 8) words (let l = two-long in omega arith) four
-
-    -- Another place.
-    elsewhere : (k : ℕ) → (k + 3 < place * 12) → fourAt three k ≡ fourAt table k
-    elsewhere k h = put-other two (place * 12 + 8) words k (inl (omega arith)) ∙ (put-other one (place * 12 + 4) b k (inl (omega arith)) ∙ put-other table (place * 12) a k (inl (omega arith)))
-
-    further : (k : ℕ) → (place * 12 + 11 < k) → fourAt three k ≡ fourAt table k
-    further k h = put-other two (place * 12 + 8) words k (inr (omega arith)) ∙ (put-other one (place * 12 + 4) b k (inr (omega arith)) ∙ put-other table (place * 12) a k (inr (omega arith)))
-
-    pub remembers-more : Follows r a b words → Remembers r table → Remembers r three
-    remembers-more follows known i l = go (ℕ-discrete i place)
+  -- By the code: what the code does for what stands there.
+  module _ (P Q : ℕ → Type 0) where
+    gap-here : byte s at ≡ 0x22 → (b : ℕ) → b ≡ byte s (at + 1) → Q (b % 8) → ((c : ℕ) → ContentAt s at c → P c) × ((g : ℕ) → GapAt s at g → Q g)
+    gap-here code b e q = (λ c h. no-content c h, λ g h. subst Q (ap (λ (k : ℕ). k % 8) e ∙ sym (h .1)) q)
       where
-        other : (k : ℕ) → k < 9 → (i ≡ place → ⊥) → fourAt three (i * 12 + k) ≡ fourAt table (i * 12 + k)
-        other k h ne = elim (apart i place ne) [
-          | inl less ↦ elsewhere (i * 12 + k) (omega arith)
-          | inr greater ↦ further (i * 12 + k) (omega arith)
-        ]
+        no-content : (c : ℕ) → ContentAt s at c → P c
+        no-content c (inl (other, is)) = absurd (omega arith)
+        no-content c (inr (no-gap, no-element, is)) = absurd (no-gap code)
 
-        go : Dec (i ≡ place) → Follows r (fourAt three (i * 12)) (fourAt three (i * 12 + 4)) (fourAt three (i * 12 + 8))
-        go (yes q) = rw (q, has-first, has-second, has-third) follows
-        go (no ne) = rw (first-other ne, other 4 (omega arith) ne, other 8 (omega arith) ne) (known i l)
-          where
-            first-other : (i ≡ place → ⊥) → fourAt three (i * 12) ≡ fourAt table (i * 12)
-            first-other n = elim (apart i place n) [ inl less ↦ elsewhere (i * 12) (omega arith) | inr greater ↦ further (i * 12) (omega arith) ]
+    element-here : byte s at ≡ 0x23 → (b : ℕ) → b ≡ byte s (at + 1) → P (b % 64) → ((c : ℕ) → ContentAt s at c → P c) × ((g : ℕ) → GapAt s at g → Q g)
+    element-here code b e p = (λ c h. content c h, λ g h. absurd (omega (arith, h .0)))
+      where
+        content : (c : ℕ) → ContentAt s at c → P c
+        content c (inl (same, is)) = subst P (ap (λ (k : ℕ). k % 64) e ∙ sym is) p
+        content c (inr (no-gap, no-element, is)) = absurd (no-element code)
 
--- ---- a list with one more item
+    text-here : (byte s at ≡ 0x22 → ⊥) → (byte s at ≡ 0x23 → ⊥) → P 0 → ((c : ℕ) → ContentAt s at c → P c) × ((g : ℕ) → GapAt s at g → Q g)
+    text-here no-gap no-element p = (λ c h. content c h, λ g h. absurd (no-gap (h .0)))
+      where
+        content : (c : ℕ) → ContentAt s at c → P c
+        content c (inl (code, is)) = absurd (no-element code)
+        content c (inr (a, b, is)) = subst P (sym is) p
 
-module _ (r : Reading) (set takes : List ℕ) (kind : ℕ) (all : Bool) where
-  pub item-nothing : all ≡ false → (words : List ℕ) → ((y : ℕ) → holds words y ≡ false) → FollowsItem r set takes kind all words
-  item-nothing e words none M reads used A I is-a is-i = empty-product words A I none (is-i .nothing e)
+  module _ (contents gaps : ℕ) (t : Bool) where
+    tells-change : ((c : ℕ) → ContentAt s at c → t ≡ member contents c) × ((g : ℕ) → GapAt s at g → t ≡ member gaps g) → CanChange s at contents gaps t
+    tells-change each = record { content = λ e c h. sym (each .0 c h) ∙ e; gap = λ e g h. sym (each .1 g h) ∙ e }
 
-  pub item-gap : all ≡ true → 64 ≤ kind → (gaps words : List ℕ) → (kind % 8 < 8 → gaps ≡ gapWords takes (kind % 8)) → Follows r set gaps words → FollowsItem r set takes kind all words
-  item-gap e h gaps words is follows M reads used A I is-a is-i = follows M reads used A I is-a (rw (is (omega arith)) (is-i .gap e h))
+    pub gap-can : byte s at ≡ 0x22 → (b : ℕ) → b ≡ byte s (at + 1) → t ≡ member gaps (b % 8) → CanChange s at contents gaps t
+    gap-can code b e q = tells-change (gap-here (λ c. t ≡ member contents c) (λ g. t ≡ member gaps g) code b e q)
 
-  pub item-none : all ≡ true → kind < 64 → (contents : ℕ) → TellsContents r contents → member contents kind ≡ false → FollowsItem r set takes kind all set
-  item-none e h contents tells absent M reads used A I is-a is-i =
-      let z : M .of (kind ∷ []) ≡ M .of [] = sym (tells kind h absent M reads) ∙ sym (empty-pattern reads) in
-      unit-after reads used set A I is-a (λ x l. is-i .content e h x l ∙ ap (λ (p : ℕ). only p x) z)
+    pub element-can : byte s at ≡ 0x23 → (b : ℕ) → b ≡ byte s (at + 1) → t ≡ member contents (b % 64) → CanChange s at contents gaps t
+    element-can code b e p = tells-change (element-here (λ c. t ≡ member contents c) (λ g. t ≡ member gaps g) code b e p)
 
-  pub item-content : all ≡ true → kind < 64 → (p : ℕ) → ReadsOne r kind p → (own words : List ℕ) → ((y : ℕ) → holds own y ≡ eqb y p) → Follows r set own words
-      → FollowsItem r set takes kind all words
-  item-content e h p one own words is follows M reads used A I is-a is-i = follows M reads used A I is-a
-      (is-as own (only (M .of (kind ∷ []))) I
-      (one-pattern own (M .of (kind ∷ [])) (lawful used .below (kind ∷ [])) (λ y. is y ∙ ap (eqb y) (one M reads)))
-      (λ x l. sym (is-i .content e h x l)))
+    pub text-can : (byte s at ≡ 0x22 → ⊥) → (byte s at ≡ 0x23 → ⊥) → t ≡ member contents 0 → CanChange s at contents gaps t
+    text-can no-gap no-element p = tells-change (text-here (λ c. t ≡ member contents c) (λ g. t ≡ member gaps g) no-gap no-element p)
+
+  module _ (r : Reading) (contents : ℕ) (takes : List ℕ) (line more : Line) where
+    with-either : ((c : ℕ) → ContentAt s at c → LineWithContent r contents line c more) × ((g : ℕ) → GapAt s at g → LineWithGap r contents takes line g more)
+        → LineWithItem r contents takes line s at more
+    with-either each = record { content = each .0; gap = each .1 }
+
+    pub gap-more : byte s at ≡ 0x22 → (b : ℕ) → b ≡ byte s (at + 1) → LineWithGap r contents takes line (b % 8) more → LineWithItem r contents takes line s at more
+    gap-more code b e q = with-either (gap-here (λ c. LineWithContent r contents line c more) (λ g. LineWithGap r contents takes line g more) code b e q)
+
+    pub element-more : byte s at ≡ 0x23 → (b : ℕ) → b ≡ byte s (at + 1) → LineWithContent r contents line (b % 64) more → LineWithItem r contents takes line s at more
+    element-more code b e p = with-either (element-here (λ c. LineWithContent r contents line c more) (λ g. LineWithGap r contents takes line g more) code b e p)
+
+    pub text-more : (byte s at ≡ 0x22 → ⊥) → (byte s at ≡ 0x23 → ⊥) → LineWithContent r contents line 0 more → LineWithItem r contents takes line s at more
+    text-more no-gap no-element p = with-either (text-here (λ c. LineWithContent r contents line c more) (λ g. LineWithGap r contents takes line g more) no-gap no-element p)
+
+  -- What can change nothing.
+  pub unchanged : (r : Reading) (contents : ℕ) (takes : List ℕ) (line : Line) (t : Bool) → t ≡ false → CanChange s at (line .contents) (line .gaps) t
+      → LineWithItem r contents takes line s at line
+  unchanged r contents takes line t e can = record {
+    content = λ c h. content-absent r contents line c (content-low c h) (can .content e c h);
+    gap = λ g h. gap-absent r contents takes line g (gap-low g h) (can .gap e g h);
+  }
 
 -- ---- all items
 
-module _ (r : Reading) (words takes : List ℕ) (n : ℕ) (s : List ℕ) (φs : List Items) (G : Summary) (M : Morphisms.Morphism) (X : Sets)
-    (lent : Lent r words takes n φs G M X) where
-  -- What the items from an offset on add to the set of what was passed.
-  pub record Added (set : List ℕ) (φ : Items) (end : ℕ) (p : Patterned) : Type 0 where
-    pub ends : p .next .at ≡ end
-    pub is : (A : Set) → Is M set A → Is M (p .set) (product M A (patterns φs G M X n φ))
+module _ (r : Reading) (contents : ℕ) (takes s : List ℕ) (tells : TellsContents r contents) (M : Morphisms.Morphism) (reads : Reads r M) (used : Used M)
+    (φs : List Items) (G : Summary) (X : Sets) (n : ℕ) where
+  -- What items add to what was passed, where all their gaps have something to take.
+  abbrev Added : List ℕ → Line → Items → Type 0
+  Added set line φ = ((g : ℕ) → gapIn φ g ≡ true → GapSetIs φs G M X n takes g) → allTake φs G M X n φ ≡ true
+      → (A : Set) → LineIs M takes line A → Is M set (product M A (patterns φs G M X n φ))
 
-  abbrev pub Adds : List ℕ → ℕ → Patterned → Type 0
-  Adds set at p = (ruled : ℕ → Bool) (f depth end : ℕ) (φ : Items) → items f Template ruled s depth at ≡ whole φ end → Added set φ end p
+  abbrev pub Adds : List ℕ → Line → ℕ → Type 0
+  Adds set line at = (ruled : ℕ → Bool) (f depth end : ℕ) (φ : Items) → items f Template ruled s depth at ≡ whole φ end → Added set line φ
 
-  pub adds-all : (set : List ℕ) (at : ℕ) (p : Patterned) → ((y : ℕ) → holds set y ≡ eqb y 0) → Adds set at p
-      → (ruled : ℕ → Bool) (f depth end : ℕ) (φ : Items) → items f Template ruled s depth at ≡ whole φ end → ListPatterned M φs G X n φ end p
-  adds-all set at p unit A ruled f depth end φ e =
-      let a = A ruled f depth end φ e in
-      record {
-        ends = a .ends;
-        is = is-as (p .set) _ (patterns φs G M X n φ) (a .is (only (M .of [])) (unit-set (lent .reads) (lent .used) set unit))
-            (product-unit-left M (monoid (lent .used)) (patterns φs G M X n φ));
-      }
+  pub adds-all : (line : Line) (at : ℕ) (set : List ℕ) → LineBegins contents line → Adds set line at
+      → (ruled : ℕ → Bool) (f depth end : ℕ) (φ : Items) → items f Template ruled s depth at ≡ whole φ end
+      → ((g : ℕ) → gapIn φ g ≡ true → GapSetIs φs G M X n takes g) → allTake φs G M X n φ ≡ true → Is M set (patterns φs G M X n φ)
+  adds-all line at set begins A ruled f depth end φ e own all =
+      is-as set _ (patterns φs G M X n φ) (A ruled f depth end φ e own all (only (M .of [])) (begins r tells M reads used takes))
+      (product-unit-left M (monoid used) (patterns φs G M X n φ))
 
-  pub list-ends : (set : List ℕ) (at : ℕ) → either 0x26 0x27 (byte s at) ≡ true → Adds set at (record { set = set; next = record { at = at + 1 } })
+  pub list-ends : (line : Line) (at : ℕ) → either 0x26 0x27 (byte s at) ≡ true → Adds (line .set) line at
   unfolding items patterns
-  list-ends set at ended ruled zero depth end φ e = never-unfinished e
-  list-ends set at ended ruled (suc f) depth end φ e = elim (items-whole f Template ruled s depth at φ end e) [
-    | inl q ↦ record {
-      ends = sym (q .after);
-      is = λ A is-a. rw (q .no-more) (is-as set A _ is-a (λ x h. sym (product-unit-right M (monoid (lent .used)) A x h)));
-    }
+  list-ends line at ended ruled zero depth end φ e own all A l = never-unfinished e
+  list-ends line at ended ruled (suc f) depth end φ e own all A l = elim (items-whole f Template ruled s depth at φ end e) [
+    | inl q ↦ rw (q .no-more) (is-as (line .set) A _ (l .is) (λ x h. sym (product-unit-right M (monoid used) A x h)))
     | inr q ↦ absurd (no-item (byte s at) ended (item-begins s ruled depth at (q .next) (q .first) f (q .reads-first) .1))
   ]
 
-  pub past-list : (set : List ℕ) (at : ℕ) (p : Patterned) → length s ≤ at → Adds set at p
+  pub past-list : (line : Line) (at : ℕ) (set : List ℕ) → length s ≤ at → Adds set line at
   unfolding items
-  past-list set at p past ruled zero depth end φ e = never-unfinished e
-  past-list set at p past ruled (suc f) depth end φ e = elim (items-whole f Template ruled s depth at φ end e) [
+  past-list line at set past ruled zero depth end φ e = never-unfinished e
+  past-list line at set past ruled (suc f) depth end φ e = elim (items-whole f Template ruled s depth at φ end e) [
     | inl q ↦ absurd (false≢true (subst (λ (c : ℕ). either 0x26 0x27 c ≡ true) (byte-past s at past) (end-kind s depth at (q .ended))))
     | inr q ↦ absurd (let h = item-begins s ruled depth at (q .next) (q .first) f (q .reads-first) .0 in omega arith)
   ]
 
-  -- An item, and then the others.
-  pub one-more : (set larger : List ℕ) (at : ℕ) (p : Patterned) (w : Walked) → either 0x26 0x27 (byte s at) ≡ false → WalksItem words takes n s at w
-      → FollowsItem r set takes (w .kind) (w .all) larger → Adds larger (w .next .at) p → Adds set at p
-  unfolding items patterns
-  one-more set larger at p w other W F A ruled zero depth end φ e = never-unfinished e
-  one-more set larger at p w other W F A ruled (suc f) depth end φ e = elim (items-whole f Template ruled s depth at φ end e) [
-    | inl q ↦ absurd (false≢true (sym other ∙ end-kind s depth at (q .ended)))
-    | inr q ↦
-        let j = W φs G M X (record { keeps = lent .keeps; gaps = lent .gaps }) ruled f depth (q .next) (q .first) (q .reads-first) in
-        let a = A ruled f depth end (q .rest) (rw (j .ends) (q .reads-rest)) in
-        record {
-          ends = a .ends;
-          is = λ B is-b. rw (q .is-more) (is-as (p .set) _ _
-              (a .is (product M B (itemPatterns φs G M X n (q .first))) (F M (lent .reads) (lent .used) B _ is-b (j .is)))
-              (λ x h. product-assoc M (monoid (lent .used)) B (itemPatterns φs G M X n (q .first)) (patterns φs G M X n (q .rest)) x));
-        }
-  ]
+  -- A list with the item that was read at an offset.
+  item-added : (ruled : ℕ → Bool) (f depth at end : ℕ) (i : Item) → item f Template ruled s depth at ≡ whole i end
+      → ((g : ℕ) → gapInItem i g ≡ true → GapSetIs φs G M X n takes g) → itemTakes φs G M X n i ≡ true
+      → (line longer : Line) → LineWithItem r contents takes line s at longer → (A : Set) → LineIs M takes line A
+      → LineIs M takes longer (product M A (itemPatterns φs G M X n i))
+  unfolding patterns gapIn
+  item-added ruled f depth at end i e own all line longer W A l = go (ℕ-discrete (byte s at) 0x22) (ℕ-discrete (byte s at) 0x23)
+    where
+      content : (c : ℕ) → ContentAt s at c → ((x : ℕ) → x < M .size → itemPatterns φs G M X n i x ≡ only (M .of (c ∷ [])) x)
+          → LineIs M takes longer (product M A (itemPatterns φs G M X n i))
+      content c stands is = line-as takes longer _ _ (W .content c stands tells M reads used takes A l)
+          (λ x b. product-as M A A (only (M .of (c ∷ []))) (itemPatterns φs G M X n i) (λ y k. refl) (λ y k. sym (is y k)) x)
 
--- Where the walk has come: what the items from here on add is what all of them add to the first set.
-pub record Going (r : Reading) (contents : ℕ) (words takes : List ℕ) (n : ℕ) (s : List ℕ) (at₀ : ℕ) (set₀ : List ℕ) (table : List ℕ) (at : ℕ) (set : List ℕ) : Type 0 where
-  pub forward : at₀ ≤ at
-  pub room : length table ≡ 192
-  pub known : Remembers r table
-  pub goes : (φs : List Items) (G : Summary) (M : Morphisms.Morphism) (X : Sets) (lent : Lent r words takes n φs G M X) (p : Patterned)
-      → Adds r words takes n s φs G M X lent set at p → Adds r words takes n s φs G M X lent set₀ at₀ p
+      go : Dec (byte s at ≡ 0x22) → Dec (byte s at ≡ 0x23) → LineIs M takes longer (product M A (itemPatterns φs G M X n i))
+      go (yes code) d =
+          let L = leaf-read s ruled depth at end i f (λ q. omega arith) e in
+          let low : byte s (at + 1) < 8 = gap-range s at (L .ranges) code in
+          let is-gap : i ≡ gap (byte s (at + 1)) = L .is ∙ rw code in
+          let held : gapInItem i (byte s (at + 1)) ≡ true = rw is-gap (eqb-same (byte s (at + 1))) in
+          let taken : Is M (gapWords takes (byte s (at + 1))) (itemPatterns φs G M X n i) = rw is-gap (own (byte s (at + 1)) held) in
+          W .gap (byte s (at + 1)) (code, omega arith) tells M reads used A (itemPatterns φs G M X n i) l taken
+      go (no no-gap) (yes code) =
+          let I = element-read s ruled depth at end i f code e in
+          let small = I .small in
+          content (byte s (at + 1)) (inl (code, omega arith))
+          (λ x b. rw (I .is) (element-pattern φs G M X n (byte s (at + 1)) at (I .named) (I .contents) (subst (λ (j : Item). itemTakes φs G M X n j ≡ true) (I .is) all) x))
+      go (no no-gap) (no no-element) =
+          let L = leaf-read s ruled depth at end i f no-element e in
+          let code : byte s at ≡ 0x21 = text-code (byte s at) (L .permitted) no-gap no-element in
+          let text-is : i ≡ text = L .is ∙ rw code in
+          content 0 (inr (no-gap, no-element, refl)) (λ x b. rw text-is)
+
+  -- An item, and then the others.
+  pub one-more : (at : ℕ) → either 0x26 0x27 (byte s at) ≡ false → (next : Position) → AfterItem s at next → (line longer : Line)
+      → LineWithItem r contents takes line s at longer → (set : List ℕ) → Adds set longer (next .at) → Adds set line at
+  unfolding items patterns gapIn allTake
+  one-more at other next after line longer W set R ruled zero depth end φ e own all A l = never-unfinished e
+  one-more at other next after line longer W set R ruled (suc f) depth end φ e own all A l = elim (items-whole f Template ruled s depth at φ end e) [
+    | inl q ↦ absurd (false≢true (sym other ∙ end-kind s depth at (q .ended)))
+    | inr q ↦ rw (q .is-more) (further f depth end ruled (q .first) (q .rest) (q .next) (q .reads-first) (q .reads-rest)
+        (rw (q .is-more) at own) (rw (q .is-more) at all))
+  ]
+    where
+      further : (f depth end : ℕ) (ruled : ℕ → Bool) (i : Item) (ψ : Items) (onto : ℕ) → item f Template ruled s depth at ≡ whole i onto → items f Template ruled s depth onto ≡ whole ψ end
+          → ((g : ℕ) → gapIn (Items.more i ψ) g ≡ true → GapSetIs φs G M X n takes g) → allTake φs G M X n (Items.more i ψ) ≡ true
+          → Is M set (product M A (patterns φs G M X n (Items.more i ψ)))
+      further f depth end ruled i ψ onto first rest own′ all′ =
+          let here = item-added ruled f depth at onto i first (λ g p. own′ g (or-left (gapInItem i g) (gapIn ψ g) p))
+          (and-left (itemTakes φs G M X n i) (allTake φs G M X n ψ) all′) line longer W A l
+          in
+          let there = R ruled f depth end ψ (rw (after ruled f depth onto i first) rest) (λ g p. own′ g (or-right (gapInItem i g) (gapIn ψ g) p))
+          (and-right (itemTakes φs G M X n i) (allTake φs G M X n ψ) all′) (product M A (itemPatterns φs G M X n i)) here
+          in
+          is-as set _ _ there (λ x h. product-assoc M (monoid used) A (itemPatterns φs G M X n i) (patterns φs G M X n ψ) x)
+
+-- Where the walk has come: what the items from here on add is what all of them add to the first line.
+pub record Going (r : Reading) (contents : ℕ) (takes s : List ℕ) (line₀ : Line) (at₀ : ℕ) (line : Line) (at : ℕ) : Type 0 where
+  pub goes : (tells : TellsContents r contents) (M : Morphisms.Morphism) (reads : Reads r M) (used : Used M) (φs : List Items) (G : Summary) (X : Sets) (n : ℕ) (set : List ℕ)
+      → Adds r contents takes s tells M reads used φs G X n set line at → Adds r contents takes s tells M reads used φs G X n set line₀ at₀

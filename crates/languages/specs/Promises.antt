@@ -1,6 +1,6 @@
 -- What the code that works out pattern sets promises, in terms of the definitions that read items and of the rounds of `patterns`.
 -- Each promise is about bytes that read; what the code answers on others is free, and no public call hands it others.
-use Prim.Native.Nat.{ℕ, _+_, _*_, _%_, _^_, _≤_, _<_}
+use Prim.Native.Nat.{ℕ, _+_, _*_, _-_, _%_, _^_, _≤_, _<_}
 use mathlib.Core.Path.{_≡_}
 use mathlib.Core.List.{List, [], _∷_}
 use mathlib.Core.Bool.{Bool, true, false, cond, _&&_, _||_}
@@ -8,23 +8,23 @@ use mathlib.Core.Logic.{_⊎_}
 use lib.ListN.{length, getD}
 use lib.Dec.{eqb, ltb}
 use Rattle.sets.specs.Sets.{member}
+use Rattle.commands.specs.declared.Position.{Position}
 use Rattle.commands.specs.Commands.{byte}
 use Rattle.commands.specs.Reading.{whole}
 use Rattle.pages.specs.declared.Kind.the-variants.{Template}
-use Rattle.pages.specs.Items.{Attribute, Item, Items}
-use Rattle.pages.specs.ItemReading.{valueAt, attributes, item, items}
+use Rattle.pages.specs.Items.{open-gap, Attribute, Item, Items, gapIn}
+use Rattle.pages.specs.ItemReading.{attributes, item, items}
 use Rattle.summaries.specs.Summaries.{Summary}
 use Rattle.patterns.specs.Morphisms as Morphisms
-use Rattle.patterns.specs.Rounds.{Set, Sets, only, valueTakes, attributesTake, allTake, itemTakes, product, patterns, itemPatterns, round}
+use Rattle.patterns.specs.Rounds.{Set, Sets, only, valueTakes, gapTakes, allTake, product, patterns, round}
 use Rattle.pattern_sets.specs.PatternSets.{holds}
 use Rattle.readings.specs.declared.Reading.{Reading}
 use Rattle.readings.specs.Readings.{Is}
-use Rattle.readings.specs.Promises.{OfReading}
+use Rattle.readings.specs.Promises.{OfReading, TellsContents}
 use Rattle.entries.specs.Words.{Keeps}
-use Rattle.languages.specs.declared.Filled.{Filled}
-use Rattle.languages.specs.declared.Walked.{Walked}
-use Rattle.languages.specs.declared.Patterned.{Patterned}
-use Rattle.languages.specs.Tables.{Used, fourAt, gapWords, GapSetsAre, SetsAre, RowsAre, Lent, Shown}
+use Rattle.entries.specs.Gaps.{GapsAre, ItemsStand, Lone}
+use Rattle.languages.specs.declared.Line.{Line}
+use Rattle.languages.specs.Tables.{Used, fourAt, gapWords, GapSetIs, OwnGapSetsAre, SetsAre, RowsAre, ShownInRounds}
 
 -- The first of the words of a gap in the words of a graph (`entries`, Words): of the edges of gap k, or from 8 on of the strings of
 -- attribute gap k - 8. Template n's is 8 * n words after it.
@@ -44,123 +44,131 @@ pub record UnionOf (templates : ℕ) (rows r : List ℕ) : Type 0 where
   pub complete : (m y : ℕ) → m < 32 → member templates m ≡ true → holds (fourAt rows (m * 4)) y ≡ true → holds r y ≡ true
   pub sound : (y : ℕ) → holds r y ≡ true → (m : ℕ) × (m < 32) × (member templates m ≡ true) × (holds (fourAt rows (m * 4)) y ≡ true)
 
--- Whether the attribute at an offset holds a string, or its gap has some string to take.
-abbrev pub AttributeTakes : List ℕ → ℕ → List ℕ → ℕ → Bool → Type 0
-AttributeTakes words n s at r = (G : Summary) → Keeps words G → (byte s at ≡ 0x25 → byte s (at + 2) < 8)
-    → r ≡ valueTakes G n (valueAt s at (byte s at))
+-- The position after attributes, an item or items that stand at an offset.
+abbrev pub AfterAttributes : List ℕ → ℕ → Position → Type 0
+AfterAttributes s at r = (before : List ℕ) (f end : ℕ) (δ : List Attribute) → attributes f Template s before at ≡ whole δ end → r .at ≡ end
 
--- Whether every attribute gap of the attributes at an offset has some string to take; and their end.
-pub record AttributesFilled (G : Summary) (n : ℕ) (δ : List Attribute) (end : ℕ) (r : Filled) : Type 0 where
-  pub ends : r .next .at ≡ end
-  pub is : r .all ≡ attributesTake G n δ
+abbrev pub AfterItem : List ℕ → ℕ → Position → Type 0
+AfterItem s at r = (ruled : ℕ → Bool) (f depth end : ℕ) (i : Item) → item f Template ruled s depth at ≡ whole i end → r .at ≡ end
 
-abbrev pub FillsAttributes : List ℕ → ℕ → List ℕ → ℕ → Filled → Type 0
-FillsAttributes words n s at r = (G : Summary) → Keeps words G → (before : List ℕ) (f end : ℕ) (δ : List Attribute)
-    → attributes f Template s before at ≡ whole δ end → AttributesFilled G n δ end r
+abbrev pub AfterItems : List ℕ → ℕ → Position → Type 0
+AfterItems s at r = (ruled : ℕ → Bool) (f depth end : ℕ) (φ : Items) → items f Template ruled s depth at ≡ whole φ end → r .at ≡ end
 
--- What an item of kind k gives, where `all` tells whether every gap in it has something to take: nothing, the pattern of content k, or
--- from 64 on what its gap takes.
-pub record ItemIs (M : Morphisms.Morphism) (takes : List ℕ) (kind : ℕ) (all : Bool) (I : Set) : Type 0 where
-  pub nothing : all ≡ false → (x : ℕ) → x < M .size → I x ≡ false
-  pub content : all ≡ true → kind < 64 → (x : ℕ) → x < M .size → I x ≡ only (M .of (kind ∷ [])) x
-  pub gap : all ≡ true → 64 ≤ kind → Is M (gapWords takes (kind % 8)) I
+-- Which element the items at an offset are, if they are one alone; a number above 63 says nothing.
+abbrev pub LoneAt : List ℕ → ℕ → ℕ → Type 0
+LoneAt s at e = (φ : Items) → ItemsStand s at φ → e < 64 → Lone e φ
 
--- What is lent to a walk over items of template n.
-pub record LentGaps (words takes : List ℕ) (n : ℕ) (φs : List Items) (G : Summary) (M : Morphisms.Morphism) (X : Sets) : Type 0 where
-  pub keeps : Keeps words G
-  pub gaps : GapSetsAre φs G M X n takes
-
--- The item at an offset, and its end.
-pub record ItemWalked (takes : List ℕ) (n : ℕ) (φs : List Items) (G : Summary) (M : Morphisms.Morphism) (X : Sets) (i : Item) (end : ℕ) (w : Walked) : Type 0 where
-  pub ends : w .next .at ≡ end
-  pub fills : w .all ≡ itemTakes φs G M X n i
-  pub is : ItemIs M takes (w .kind) (w .all) (itemPatterns φs G M X n i)
-
-abbrev pub WalksItem : List ℕ → List ℕ → ℕ → List ℕ → ℕ → Walked → Type 0
-WalksItem words takes n s at w = (φs : List Items) (G : Summary) (M : Morphisms.Morphism) (X : Sets) → LentGaps words takes n φs G M X
-    → (ruled : ℕ → Bool) (f depth end : ℕ) (i : Item) → item f Template ruled s depth at ≡ whole i end → ItemWalked takes n φs G M X i end w
-
--- Whether every gap of the items from an offset on has something to take, and their end.
-pub record ItemsWalked (n : ℕ) (φs : List Items) (G : Summary) (M : Morphisms.Morphism) (X : Sets) (φ : Items) (end : ℕ) (r : Filled) : Type 0 where
-  pub ends : r .next .at ≡ end
-  pub fills : r .all ≡ allTake φs G M X n φ
-
-abbrev pub WalksItems : List ℕ → List ℕ → ℕ → List ℕ → ℕ → Filled → Type 0
-WalksItems words takes n s at r = (φs : List Items) (G : Summary) (M : Morphisms.Morphism) (X : Sets) → LentGaps words takes n φs G M X
-    → (ruled : ℕ → Bool) (f depth end : ℕ) (φ : Items) → items f Template ruled s depth at ≡ whole φ end → ItemsWalked n φs G M X φ end r
+-- The patterns of a list so far; what cannot change them changes nothing.
+pub record LineIs (M : Morphisms.Morphism) (takes : List ℕ) (line : Line) (A : Set) : Type 0 where
+  pub is : Is M (line .set) A
+  pub contents : (c : ℕ) → c < 64 → member (line .contents) c ≡ false → (x : ℕ) → x < M .size → product M A (only (M .of (c ∷ []))) x ≡ A x
+  pub gaps : (g : ℕ) → g < 8 → member (line .gaps) g ≡ false → (I : Set) → Is M (gapWords takes g) I → (x : ℕ) → x < M .size → product M A I x ≡ A x
 
 -- The product, for a morphism of which the check makes use: by its laws the empty word changes nothing.
 abbrev pub Follows : Reading → List ℕ → List ℕ → List ℕ → Type 0
 Follows r a b words = OfReading r (λ M. Used M → (A B : Set) → Is M a A → Is M b B → Is M words (product M A B))
 
--- At each place of the table stand two sets and their product.
-abbrev pub Remembers : Reading → List ℕ → Type 0
-Remembers r table = (i : ℕ) → i < 16 → Follows r (fourAt table (i * 12)) (fourAt table (i * 12 + 4)) (fourAt table (i * 12 + 8))
+-- A list of no items, with one content more, and with what a gap takes, for a morphism of which the check makes use.
+abbrev pub LineBegins : ℕ → Line → Type 0
+LineBegins contents line = (r : Reading) → TellsContents r contents → OfReading r (λ M. Used M → (takes : List ℕ) → LineIs M takes line (only (M .of [])))
 
--- The product with what an item gives.
-abbrev pub FollowsItem : Reading → List ℕ → List ℕ → ℕ → Bool → List ℕ → Type 0
-FollowsItem r a takes kind all words =
-    OfReading r (λ M. Used M → (A I : Set) → Is M a A → ItemIs M takes kind all I → Is M words (product M A I))
+abbrev pub LineWithContent : Reading → ℕ → Line → ℕ → Line → Type 0
+LineWithContent r contents line c more = TellsContents r contents → OfReading r (λ M. Used M → (takes : List ℕ) (A : Set)
+    → LineIs M takes line A → LineIs M takes more (product M A (only (M .of (c ∷ [])))))
 
--- The patterns of the items from an offset on, and their end.
-pub record ListPatterned (M : Morphisms.Morphism) (φs : List Items) (G : Summary) (X : Sets) (n : ℕ) (φ : Items) (end : ℕ) (r : Patterned) : Type 0 where
-  pub ends : r .next .at ≡ end
-  pub is : Is M (r .set) (patterns φs G M X n φ)
+abbrev pub LineWithGap : Reading → ℕ → List ℕ → Line → ℕ → Line → Type 0
+LineWithGap r contents takes line g more = TellsContents r contents → OfReading r (λ M. Used M → (A I : Set)
+    → LineIs M takes line A → Is M (gapWords takes g) I → LineIs M takes more (product M A I))
 
-abbrev pub ListPatterns : Reading → List ℕ → List ℕ → ℕ → List ℕ → ℕ → Patterned → Type 0
-ListPatterns r words takes n s at p = (φs : List Items) (G : Summary) (M : Morphisms.Morphism) (X : Sets) → Lent r words takes n φs G M X
-    → (ruled : ℕ → Bool) (f depth end : ℕ) (φ : Items) → items f Template ruled s depth at ≡ whole φ end → ListPatterned M φs G X n φ end p
+-- What stands at an offset: content c, or gap g.
+abbrev pub ContentAt : List ℕ → ℕ → ℕ → Type 0
+ContentAt s at c = ((byte s at ≡ 0x23) × (c ≡ byte s (at + 1) % 64)) ⊎ ((byte s at ≡ 0x22 → ⊥) × (byte s at ≡ 0x23 → ⊥) × (c ≡ 0))
+
+abbrev pub GapAt : List ℕ → ℕ → ℕ → Type 0
+GapAt s at g = (byte s at ≡ 0x22) × (g ≡ byte s (at + 1) % 8)
+
+-- Only a no counts: then what stands at an offset is none of the contents and gaps.
+pub record CanChange (s : List ℕ) (at contents gaps : ℕ) (t : Bool) : Type 0 where
+  pub content : t ≡ false → (c : ℕ) → ContentAt s at c → member contents c ≡ false
+  pub gap : t ≡ false → (g : ℕ) → GapAt s at g → member gaps g ≡ false
+
+-- A list with what stands at an offset, one more.
+pub record LineWithItem (r : Reading) (contents : ℕ) (takes : List ℕ) (line : Line) (s : List ℕ) (at : ℕ) (more : Line) : Type 0 where
+  pub content : (c : ℕ) → ContentAt s at c → LineWithContent r contents line c more
+  pub gap : (g : ℕ) → GapAt s at g → LineWithGap r contents takes line g more
+
+-- The patterns of the items from an offset on, all gaps of which have something to take.
+abbrev pub ListPatterns : Reading → ℕ → List ℕ → List ℕ → ℕ → List ℕ → Type 0
+ListPatterns r contents takes s at set = TellsContents r contents → OfReading r (λ M. Used M → (φs : List Items) (G : Summary) (X : Sets) (n : ℕ)
+    → (ruled : ℕ → Bool) (f depth end : ℕ) (φ : Items) → items f Template ruled s depth at ≡ whole φ end
+    → ((g : ℕ) → gapIn φ g ≡ true → GapSetIs φs G M X n takes g) → allTake φs G M X n φ ≡ true → Is M set (patterns φs G M X n φ))
+
+-- Whether gap k, or from 8 on attribute gap k - 8, of template n has something to take.
+pub record GapTakes (words takes : List ℕ) (n k : ℕ) (t : Bool) : Type 0 where
+  pub gap : k < 8 → (φs : List Items) (G : Summary) (M : Morphisms.Morphism) (X : Sets) → GapSetIs φs G M X n takes k → t ≡ gapTakes φs G M X n k
+  pub attribute : 8 ≤ k → (G : Summary) → Keeps words G → t ≡ valueTakes G n (open-gap (k - 8))
+
+-- Whether every gap and attribute gap of items of template n has something to take.
+abbrev pub AllTake : List ℕ → List ℕ → ℕ → ℕ → Bool → Type 0
+AllTake words takes n own t = (φs : List Items) (G : Summary) (M : Morphisms.Morphism) (X : Sets) → Keeps words G → OwnGapSetsAre φs G M X n own takes
+    → (φ : Items) → GapsAre own φ → t ≡ allTake φs G M X n φ
 
 -- The set of template n in the round after that of which the rows are.
-abbrev pub IsRound : Reading → List ℕ → List ℕ → List ℕ → List ℕ → ℕ → List ℕ → Type 0
-IsRound r s words starts rows n row = (φs : List Items) (G : Summary) (M : Morphisms.Morphism) (X : Sets) → Shown r s words starts φs G M
-    → RowsAre φs M X rows → n ≤ length φs → Is M row (round φs G M X n)
+abbrev pub IsRound : Reading → ℕ → List ℕ → List ℕ → List ℕ → List ℕ → List ℕ → List ℕ → ℕ → List ℕ → Type 0
+IsRound r contents s words gaps lone starts rows n row = (φs : List Items) (G : Summary) (M : Morphisms.Morphism) (X : Sets)
+    → ShownInRounds r contents s words gaps lone starts φs G M → RowsAre φs M X rows → n ≤ length φs → Is M row (round φs G M X n)
 
--- The templates to which template n has edges, and 63.
-pub record Targets (words : List ℕ) (n r : ℕ) : Type 0 where
+-- The templates to which gaps of template n have edges, and 63; and those of every template.
+pub record Targets (words : List ℕ) (n own r : ℕ) : Type 0 where
   pub first : member r 63 ≡ true
-  pub has : (g m : ℕ) → g < 8 → member (getD words (32 + n * 8 + g) 0) m ≡ true → member r m ≡ true
+  pub has : (g m : ℕ) → g < 8 → member own g ≡ true → member (getD words (32 + n * 8 + g) 0) m ≡ true → member r m ≡ true
 
--- Sets X and Y of which only those of some templates differ, unless 63 is among these.
+abbrev pub TargetsTable : List ℕ → List ℕ → ℕ → List ℕ → Type 0
+TargetsTable words gaps count table = (n : ℕ) → n < 32 → n ≤ count → Targets words n (getD gaps n 0) (getD table n 0)
+
+-- By the answer: something has changed; or no template has a target that has changed.
+abbrev pub TakesFrom : List ℕ → ℕ → ℕ → Bool → Type 0
+TakesFrom targets count changed true = changed ≡ 0 → ⊥
+TakesFrom targets count changed false = (n k : ℕ) → n < 32 → n ≤ count → member (getD targets n 0) k ≡ true → member changed k ≡ false
+
+-- Sets X and Y of which only those of some templates differ.
 abbrev pub OnlyChanged : List Items → Morphisms.Morphism → Sets → Sets → ℕ → Type 0
-OnlyChanged φs M X Y changed = member changed 63 ≡ false → (m x : ℕ) → m ≤ length φs → x < M .size → member changed m ≡ false → X m x ≡ Y m x
+OnlyChanged φs M X Y changed = (m x : ℕ) → m ≤ length φs → x < M .size → member changed m ≡ false → X m x ≡ Y m x
 
--- The same as IsRound, for a template that had this set in a round after sets Y.
-abbrev pub IsNext : Reading → List ℕ → List ℕ → List ℕ → List ℕ → ℕ → List ℕ → ℕ → List ℕ → Type 0
-IsNext r s words starts rows n row changed next = (φs : List Items) (G : Summary) (M : Morphisms.Morphism) (X Y : Sets) → Shown r s words starts φs G M
-    → RowsAre φs M X rows → OnlyChanged φs M X Y changed → (member changed 63 ≡ false → Is M row (round φs G M Y n)) → n ≤ length φs
-    → Is M next (round φs G M X n)
+-- The sets that rows have came of a round after sets Y, which changed only some of them; or, where 63 is a member, of none.
+abbrev pub CameOf : List Items → Summary → Morphisms.Morphism → Sets → ℕ → List ℕ → Sets → Type 0
+CameOf φs G M X changed rows Y = member changed 63 ≡ false → OnlyChanged φs M X Y changed × RowsAre φs M (round φs G M Y) rows
 
-abbrev pub Rounds : Reading → List ℕ → List ℕ → List ℕ → ℕ → List (List ℕ) → ℕ → List (List ℕ) → Type 0
-Rounds r s words starts count sets changed next = (φs : List Items) (G : Summary) (M : Morphisms.Morphism) (X Y : Sets) → Shown r s words starts φs G M
-    → count ≡ length φs → SetsAre φs M X sets → OnlyChanged φs M X Y changed → (member changed 63 ≡ false → SetsAre φs M (round φs G M Y) sets)
-    → SetsAre φs M (round φs G M X) next
-
--- The sets of templates that are not there are empty.
-abbrev pub EmptyAfter : ℕ → List (List ℕ) → Type 0
-EmptyAfter count sets = (n x : ℕ) → count < n → holds (getD sets n []) x ≡ false
+-- A round more.
+abbrev pub Rounds : Reading → ℕ → List ℕ → List ℕ → List ℕ → List ℕ → List ℕ → List ℕ → List ℕ → ℕ → ℕ → List (List ℕ) → Type 0
+Rounds r contents s words gaps lone starts targets rows count changed next = (φs : List Items) (G : Summary) (M : Morphisms.Morphism) (X Y : Sets)
+    → ShownInRounds r contents s words gaps lone starts φs G M → TargetsTable words gaps count targets → count ≡ length φs → RowsAre φs M X rows
+    → CameOf φs G M X changed rows Y → SetsAre φs M (round φs G M X) next
 
 -- By the answer: every pattern of a set is one of another; or the set has one that the other lacks.
 abbrev pub WithinSet : List ℕ → List ℕ → Bool → Type 0
 WithinSet a b true = (x : ℕ) → holds a x ≡ true → holds b x ≡ true
 WithinSet a b false = (x : ℕ) × (x < 256) × (holds a x ≡ true) × (holds b x ≡ false)
 
--- Some row of the one has a pattern that the same row of the other lacks.
-pub record Lacks (a b : List (List ℕ)) : Type 0 where
+-- The set of some template that is there has a pattern that its other set lacks.
+pub record Lacks (count : ℕ) (has lacks : ℕ → List ℕ) : Type 0 where
   pub row : ℕ
   pub pattern : ℕ
-  pub row-there : row < 32
+  pub row-low : row < 32
+  pub row-there : row ≤ count
   pub pattern-there : pattern < 256
-  pub has : holds (getD a row []) pattern ≡ true
-  pub lacks : holds (getD b row []) pattern ≡ false
+  pub is-held : holds (has row) pattern ≡ true
+  pub is-not : holds (lacks row) pattern ≡ false
 
--- Every row of the one lies within the same row of the other.
-abbrev pub AllWithin : List (List ℕ) → List (List ℕ) → Type 0
-AllWithin a b = (n x : ℕ) → n < 32 → holds (getD a n []) x ≡ true → holds (getD b n []) x ≡ true
+-- The sets of a round have all of those before, and more for these templates alone; the rows now have them.
+pub record Grown (count : ℕ) (before : List ℕ) (next : List (List ℕ)) (after : List ℕ) (more : ℕ) : Type 0 where
+  pub within : (n x : ℕ) → n < 32 → n ≤ count → holds (fourAt before (n * 4)) x ≡ true → holds (getD next n []) x ≡ true
+  pub others : (n x : ℕ) → n < 32 → n ≤ count → member more n ≡ false → holds (getD next n []) x ≡ holds (fourAt before (n * 4)) x
+  pub are : (n x : ℕ) → n < 32 → n ≤ count → holds (fourAt after (n * 4)) x ≡ holds (getD next n []) x
+  pub some : (more ≡ 0 → ⊥) → Lacks count (λ n. getD next n []) (λ n. fourAt before (n * 4))
 
--- Where there is an answer, b has all of a, and more in these rows alone; where there is none, a has what b lacks, or they are the same.
-pub record Grown (a b : List (List ℕ)) (r : ℕ) : Type 0 where
-  pub low : member r 63 ≡ false
-  pub grows : (r ≡ 0 → ⊥) → AllWithin a b × Lacks b a
-  pub others : (r ≡ 0 → ⊥) → (n x : ℕ) → n < 32 → member r n ≡ false → holds (getD a n []) x ≡ holds (getD b n []) x
-  pub none : r ≡ 0 → Lacks a b ⊎ (AllWithin a b × AllWithin b a)
+-- The sets of a round as rows, and the templates whose sets have more patterns in it; or some set lacks one that it had.
+pub record Grows (count : ℕ) (before : List ℕ) (next : List (List ℕ)) (after : List ℕ) (more : ℕ) : Type 0 where
+  pub room : length after ≡ 128
+  pub low : member more 63 ≡ false
+  pub grown : Grown count before next after more ⊎ ((more ≡ 0) × Lacks count (λ n. fourAt before (n * 4)) (λ n. getD next n []))

@@ -4,8 +4,9 @@
 use Prim.Native.Nat.{ℕ, _+_, _*_, _≤_, _<_}
 use mathlib.Core.Path.{_≡_}
 use mathlib.Core.List.{List, [], _∷_}
-use mathlib.Core.Bool.{_&&_}
+use mathlib.Core.Bool.{true, _&&_}
 use lib.ListN.{length, getD, set}
+use Rattle.sets.specs.Sets.{member}
 use Rattle.vocabularies.specs.Vocabulary.{Formula}
 use Rattle.vocabularies.specs.Facts.{factsOf}
 use Rattle.pages.specs.Items.{Items}
@@ -17,8 +18,9 @@ use Rattle.patterns.specs.Given.{Bounded}
 use Rattle.patterns.specs.Rounds.{Sets, anyTemplate}
 use Rattle.readings.specs.declared.Reading.{Reading}
 use Rattle.readings.specs.Readings.{Reads, Is}
+use Rattle.readings.specs.Promises.{TellsContents}
 use Rattle.entries.specs.Words.{Keeps}
-use Rattle.entries.specs.Gaps.{StartsAt}
+use Rattle.entries.specs.Gaps.{StartsAt, GapsTable, LoneTable}
 
 -- The morphisms by which the check reads words: of the facts of a clause, and of the root.
 pub data Used : Morphisms.Morphism → Type 0 where
@@ -39,24 +41,19 @@ SetsAre φs M X sets = (n : ℕ) → n ≤ length φs → Is M (getD sets n []) 
 abbrev pub RowsAre : List Items → Morphisms.Morphism → Sets → List ℕ → Type 0
 RowsAre φs M X rows = (n : ℕ) → n ≤ length φs → Is M (fourAt rows (n * 4)) (X n)
 
-abbrev pub RowsOf : List (List ℕ) → List ℕ → Type 0
-RowsOf sets rows = (n : ℕ) → n < 32 → fourAt rows (n * 4) ≡ getD sets n []
-
 -- The four words of a gap.
 abbrev pub gapWords : List ℕ → ℕ → List ℕ
 gapWords takes g = fourAt takes (g * 4)
 
--- What each gap of template n takes, from the sets of all templates.
-abbrev pub GapSetsAre : List Items → Summary → Morphisms.Morphism → Sets → ℕ → List ℕ → Type 0
-GapSetsAre φs G M X n takes = (g : ℕ) → g < 8 → Is M (gapWords takes g) (λ x. anyTemplate φs (λ m. G (edge n g m) && X m x))
+-- What gap g of template n takes, from the sets of all templates; that of each gap among some; and of every gap.
+abbrev pub GapSetIs : List Items → Summary → Morphisms.Morphism → Sets → ℕ → List ℕ → ℕ → Type 0
+GapSetIs φs G M X n takes g = Is M (gapWords takes g) (λ x. anyTemplate φs (λ m. G (edge n g m) && X m x))
 
--- What is lent to the walk over items of template n: a reading, a graph as words, and the table of the template's gaps.
-pub record Lent (r : Reading) (words takes : List ℕ) (n : ℕ) (φs : List Items) (G : Summary) (M : Morphisms.Morphism) (X : Sets) : Type 0 where
-  pub used : Used M
-  pub reads : Reads r M
-  pub bounded : Bounded φs G
-  pub keeps : Keeps words G
-  pub gaps : GapSetsAre φs G M X n takes
+abbrev pub OwnGapSetsAre : List Items → Summary → Morphisms.Morphism → Sets → ℕ → ℕ → List ℕ → Type 0
+OwnGapSetsAre φs G M X n own takes = (g : ℕ) → g < 8 → member own g ≡ true → GapSetIs φs G M X n takes g
+
+abbrev pub GapSetsAre : List Items → Summary → Morphisms.Morphism → Sets → ℕ → List ℕ → Type 0
+GapSetsAre φs G M X n takes = (g : ℕ) → g < 8 → GapSetIs φs G M X n takes g
 
 -- What is lent for the graph of a show: a reading, the graph as words, and where the items of each template stand in the bytes.
 pub record Shown (r : Reading) (s words starts : List ℕ) (φs : List Items) (G : Summary) (M : Morphisms.Morphism) : Type 0 where
@@ -66,3 +63,10 @@ pub record Shown (r : Reading) (s words starts : List ℕ) (φs : List Items) (G
   pub keeps : Keeps words G
   pub few : length φs < 32
   pub stand : StartsAt s φs starts
+
+-- What is lent to rounds besides: the gaps of each template, and which element it is, if it is one alone.
+pub record ShownInRounds (r : Reading) (contents : ℕ) (s words gaps lone starts : List ℕ) (φs : List Items) (G : Summary) (M : Morphisms.Morphism) : Type 0 where
+  pub shown : Shown r s words starts φs G M
+  pub tells : TellsContents r contents
+  pub gaps-are : GapsTable gaps φs
+  pub lone-are : LoneTable lone φs

@@ -3,9 +3,8 @@
 ghost use mathlib.Core.Path.{_≡_};
 ghost use mathlib.Core.List.{List};
 ghost use mathlib.Core.Bool.{true, _&&_};
-ghost use Prim.Native.Nat.{ℕ, _+_, _*_, _≤_, _<_};
+ghost use Prim.Native.Nat.{_+_, _*_, _≤_, _<_};
 ghost use lib.ListN.{length};
-ghost use lib.Dec.{eqb};
 ghost use Rattle.commands.specs.Commands.{byte, either, allowed};
 ghost use Rattle.pages.specs.Items.{open-gap, Items};
 ghost use Rattle.summaries.specs.Summaries.{Summary};
@@ -14,66 +13,19 @@ ghost use Rattle.patterns.specs.Morphisms as Morphisms;
 ghost use Rattle.patterns.specs.Given.{Bounded};
 ghost use Rattle.patterns.specs.Rounds.{Sets, valueTakes};
 ghost use Rattle.patterns.specs.Exactness.{Exact};
-ghost use Rattle.pattern_sets.specs.PatternSets.{holds};
 ghost use Rattle.entries.specs.Words.{Keeps};
-ghost use Rattle.readings.specs.Promises.{TellsContents};
-ghost use Rattle.languages.specs.Tables.{fourAt, putFour, SetsAre, RowsOf, RowsAre, gapWords, GapSetsAre, Shown};
-ghost use Rattle.languages.specs.Promises.{firstWord, Zeroed, UnionOf, AttributeTakes, FillsAttributes, WalksItem, WalksItems, Follows, Remembers, FollowsItem, ListPatterns, IsRound, Targets, IsNext, Rounds, EmptyAfter, WithinSet, Grown};
+ghost use Rattle.languages.specs.Tables.{fourAt, putFour, SetsAre, RowsAre, gapWords, OwnGapSetsAre, GapSetsAre, Shown};
+ghost use Rattle.entries.specs.Gaps.{StartsAt, GapsTable, LoneTable};
+ghost use Rattle.languages.specs.Promises.{firstWord, Zeroed, UnionOf, AfterAttributes, AfterItem, AfterItems, LoneAt, Follows, LineBegins, LineWithContent, LineWithGap, CanChange, LineWithItem, ListPatterns, GapTakes, AllTake, IsRound, Targets, TargetsTable, TakesFrom, Rounds, WithinSet, Grows};
 use commands::Context;
 use commands::Position;
 use readings::Reading;
 
-// Whether every gap of attributes, or of a list of items at any depth, has something to take; and the position after them.
-pub struct Filled {
-    pub all: bool,
-    pub next: Position,
-}
-
-impl Filled {
-    fn new(all: bool, at: usize) -> Self
-        ensures { λ r. ⌜ r ≡ record { all = all; next = record { at = at } } ⌝ }
-    {
-        Filled {
-            all,
-            next: Position { at },
-        }
-    }
-}
-
-// An item: what content it is, or from 64 on its gap; whether every gap in it has something to take; and the position after it.
-pub struct Walked {
-    pub kind: u8,
-    pub all: bool,
-    pub next: Position,
-}
-
-impl Walked {
-    fn new(kind: u8, all: bool, at: usize) -> Self
-        ensures { λ r. ⌜ r ≡ record { kind = kind; all = all; next = record { at = at } } ⌝ }
-    {
-        Walked {
-            kind,
-            all,
-            next: Position { at },
-        }
-    }
-}
-
-// The patterns of a list of items, and the position after it.
-pub struct Patterned {
+// The patterns of a list of items so far, and the contents and gaps that can still change them.
+pub struct Line {
     pub set: [u64; 4],
-    pub next: Position,
-}
-
-impl Patterned {
-    fn new(set: [u64; 4], at: usize) -> Self
-        ensures { λ r. ⌜ r ≡ record { set = set; next = record { at = at } } ⌝ }
-    {
-        Patterned {
-            set,
-            next: Position { at },
-        }
-    }
+    pub contents: u64,
+    pub gaps: u64,
 }
 
 // The pattern of the empty word.
@@ -81,7 +33,8 @@ const EMPTY: u8 = 0;
 
 const TEXT: u8 = 0;
 
-const GAPS: u8 = 64;
+// Gaps 0 to 7.
+const ALL_GAPS: u64 = 0xFF;
 
 // The first of the words, 8 apart, in which templates have what their gap takes: the edges of gap k, or from 8 on the strings of
 // attribute gap k - 8.
@@ -138,20 +91,6 @@ fn put_four(table: &mut [u64], i: usize, words: [u64; 4])
     table[i + 3] = words[3];
 }
 
-// The sets of all templates one after the other, as they are lent.
-pub fn rows_of(sets: [[u64; 4]; 32]) -> [u64; 128]
-    ensures { λ r. ⌜ RowsOf sets r ⌝ }
-{
-    let mut rows = [0u64; 128];
-    let mut n = 0;
-    while n < 32 {
-        let row = sets[n];
-        put_four(&mut rows, n * 4, row);
-        n += 1;
-    }
-    rows
-}
-
 // The set of template m.
 fn row_at(rows: &[u64; 128], m: usize) -> [u64; 4]
     requires { ⌜ m < 32 ⌝ }
@@ -175,29 +114,29 @@ fn union_of(templates: u64, rows: &[u64; 128]) -> [u64; 4]
     set
 }
 
-// What each gap of template n takes: the patterns of all templates to which it has an edge, from their sets. Gap g has four words
-// from 4 * g on.
-pub fn gaps_from(words: &[u64; 544], rows: &[u64; 128], n: usize) -> [u64; 32]
+// What the gaps of template n among `own` take: the patterns of all templates to which they have edges, from their sets. Gap g has
+// four words from 4 * g on.
+fn own_gaps_from(words: &[u64; 544], rows: &[u64; 128], n: usize, own: u64) -> [u64; 32]
     requires { ⌜ n < 32 ⌝ }
-    ensures { λ r. ⌜ ((φs : List Items) (G : Summary) (M : Morphisms.Morphism) (X : Sets) → length φs < 32 → Bounded φs G → Keeps (now (words .entry)) G → RowsAre φs M X (now (rows .entry)) → GapSetsAre φs G M X n r) ⌝ }
+    ensures { λ r. ⌜ ((φs : List Items) (G : Summary) (M : Morphisms.Morphism) (X : Sets) → length φs < 32 → Bounded φs G → Keeps (now (words .entry)) G → RowsAre φs M X (now (rows .entry)) → OwnGapSetsAre φs G M X n own r) ⌝ }
 {
     let mut takes = [0u64; 32];
-    let mut g = 0;
+    let mut g = pattern_sets::first_member(own, 0);
     while g < 8 {
-        let set = union_of(words[32 + n * 8 + g], rows);
-        put_four(&mut takes, g * 4, set);
-        g += 1;
+        let i = g as usize;
+        let set = union_of(words[32 + n * 8 + i], rows);
+        put_four(&mut takes, i * 4, set);
+        g = pattern_sets::first_member(own, g + 1);
     }
     takes
 }
 
-// The same, from the sets by value.
-pub fn gap_sets(words: &[u64; 544], sets: [[u64; 4]; 32], n: usize) -> [u64; 32]
+// The same of all gaps.
+pub fn gaps_from(words: &[u64; 544], rows: &[u64; 128], n: usize) -> [u64; 32]
     requires { ⌜ n < 32 ⌝ }
-    ensures { λ r. ⌜ ((φs : List Items) (G : Summary) (M : Morphisms.Morphism) (X : Sets) → length φs < 32 → Bounded φs G → Keeps (now (words .entry)) G → SetsAre φs M X sets → GapSetsAre φs G M X n r) ⌝ }
+    ensures { λ r. ⌜ ((φs : List Items) (G : Summary) (M : Morphisms.Morphism) (X : Sets) → length φs < 32 → Bounded φs G → Keeps (now (words .entry)) G → RowsAre φs M X (now (rows .entry)) → GapSetsAre φs G M X n r) ⌝ }
 {
-    let rows = rows_of(sets);
-    gaps_from(words, &rows, n)
+    own_gaps_from(words, rows, n, ALL_GAPS)
 }
 
 // Whether template n's attribute gap h has some string to take.
@@ -220,42 +159,6 @@ pub fn is_attribute(s: &[u8], at: usize) -> bool
     code == 0x24 || code == 0x25
 }
 
-// Whether the attribute at an offset holds a string, or its gap has some string to take.
-pub fn attribute_takes(s: &[u8], at: usize, n: usize, words: &[u64; 544]) -> bool
-    requires { ⌜ n < 32 ⌝ }
-    ensures { λ r. ⌜ AttributeTakes (now (words .entry)) n (now (s .entry)) at r ⌝ }
-{
-    if commands::byte_at(s, at) != 0x25 {
-        return true;
-    }
-    let here = Position { at };
-    takes_string(words, n, here.operand(s, 2))
-}
-
-fn both(a: bool, b: bool) -> bool
-    ensures { λ r. ⌜ r ≡ («a» && «b») ⌝ }
-{
-    a && b
-}
-
-// The attributes straight after `23 e` in template n.
-pub fn fill_attributes(s: &[u8], here: Position, n: usize, words: &[u64; 544]) -> Filled
-    requires { ⌜ n < 32 ⌝ }
-    ensures forward { λ r. ⌜ here .at ≤ r .next .at ⌝ }
-    ensures filled { λ r. ⌜ FillsAttributes (now (words .entry)) n (now (s .entry)) (here .at) r ⌝ }
-{
-    let mut at = here.at;
-    let mut all = true;
-    while is_attribute(s, at) {
-        all = both(all, attribute_takes(s, at, n, words));
-        at += 3;
-    }
-    Filled {
-        all,
-        next: Position { at },
-    }
-}
-
 // The four words of a gap.
 fn taken(takes: &[u64; 32], g: u8) -> [u64; 4]
     ensures { λ r. ⌜ (g < 8 → r ≡ gapWords (now (takes .entry)) g) ⌝ }
@@ -272,233 +175,349 @@ pub fn is_end(s: &[u8], at: usize) -> bool
     code == 0x26 || code == 0x27
 }
 
-// The item here, of template n. An element is walked over whole: a gap inside it that has nothing to take leaves it no page.
-fn walk_item(s: &[u8], here: Position, n: usize, words: &[u64; 544], takes: &[u64; 32]) -> Walked
-    requires { ⌜ n < 32 ⌝ }
-    ensures forward { λ w. ⌜ (here .at < length (now (s .entry)) → here .at < w .next .at) ⌝ }
-    ensures low { λ w. ⌜ w .kind < 72 ⌝ }
-    ensures walked { λ w. ⌜ WalksItem (now (words .entry)) (now (takes .entry)) n (now (s .entry)) (here .at) w ⌝ }
+// The offset after the attributes straight after `23 e`.
+fn after_attributes(s: &[u8], here: Position) -> Position
+    ensures forward { λ r. ⌜ here .at ≤ r .at ⌝ }
+    ensures after { λ r. ⌜ AfterAttributes (now (s .entry)) (here .at) r ⌝ }
+{
+    let mut at = here.at;
+    while is_attribute(s, at) {
+        at += 3;
+    }
+    Position { at }
+}
+
+// The position after the item here.
+pub fn after_item(s: &[u8], here: Position) -> Position
+    ensures forward { λ r. ⌜ (here .at < length (now (s .entry)) → here .at < r .at) ⌝ }
+    ensures after { λ r. ⌜ AfterItem (now (s .entry)) (here .at) r ⌝ }
 {
     let at = here.at;
     if s.len() <= at {
-        return Walked::new(TEXT, true, at);
+        return here;
     }
     match s[at] {
-        0x22 => {
-            let g = commands::byte_at(s, at + 1) % 8;
-            Walked::new(GAPS + g, !pattern_sets::is_empty(taken(takes, g)), at + 2)
-        }
-        0x23 => {
-            let named = fill_attributes(s, Position { at: at + 2 }, n, words);
-            let start = named.next;
-            let inside = walk_items(s, start, n, words, takes);
-            let next = inside.next;
-            Walked {
-                kind: commands::byte_at(s, at + 1) % 64,
-                all: both(named.all, inside.all),
-                next,
-            }
-        }
-        _ => Walked::new(TEXT, true, at + 1),
+        0x22 => Position { at: at + 2 },
+        0x23 => after_items(s, after_attributes(s, Position { at: at + 2 })),
+        _ => Position { at: at + 1 },
     }
 }
 
-// The items from here on, of template n, up to and with what ends them.
-fn walk_items(s: &[u8], here: Position, n: usize, words: &[u64; 544], takes: &[u64; 32]) -> Filled
-    requires { ⌜ n < 32 ⌝ }
-    ensures forward { λ r. ⌜ here .at ≤ r .next .at ⌝ }
-    ensures walked { λ r. ⌜ WalksItems (now (words .entry)) (now (takes .entry)) n (now (s .entry)) (here .at) r ⌝ }
+// The position after the items from here on, and what ends them.
+pub fn after_items(s: &[u8], here: Position) -> Position
+    ensures forward { λ r. ⌜ here .at ≤ r .at ⌝ }
+    ensures after { λ r. ⌜ AfterItems (now (s .entry)) (here .at) r ⌝ }
 {
     let mut at = here.at;
-    let mut all = true;
     while at < s.len() {
         if is_end(s, at) {
-            return Filled::new(all, at + 1);
+            return Position { at: at + 1 };
         }
-        let item = walk_item(s, Position { at }, n, words, takes);
-        all = both(all, item.all);
-        let next = item.next;
-        at = next.at;
+        if s[at] == 0x22 {
+            at += 2;
+        } else {
+            let next = after_item(s, Position { at });
+            at = next.at;
+        }
     }
-    Filled::new(all, at)
+    Position { at }
 }
 
-// Whether a set has the pattern of the empty word alone.
-fn is_unit(set: [u64; 4]) -> bool
-    ensures { λ r. ⌜ (r ≡ true → (y : ℕ) → holds set y ≡ eqb y 0) ⌝ }
+// Of a template that is not one element alone.
+const NOT_LONE: u8 = 64;
+
+// Which element the template at an offset is, if it is one alone.
+fn lone_element(s: &[u8], at: usize) -> u8
+    ensures { λ e. ⌜ LoneAt (now (s .entry)) at e ⌝ }
 {
-    pattern_sets::same(set, pattern_sets::only(EMPTY))
+    if s.len() <= at {
+        return NOT_LONE;
+    }
+    if s[at] != 0x23 {
+        return NOT_LONE;
+    }
+    let next = after_item(s, Position { at });
+    if !is_end(s, next.at) {
+        return NOT_LONE;
+    }
+    commands::byte_at(s, at + 1)
 }
 
-// The patterns of words of the one set with words of the other after them.
+// Which element each template is, if it is one alone. Template 0 is empty.
+pub fn lone_elements(s: &[u8], starts: &[usize; 32], count: usize) -> [u8; 32]
+    ensures { λ r. ⌜ ((φs : List Items) → StartsAt (now (s .entry)) φs (now (starts .entry)) → count ≡ length φs → LoneTable r φs) ⌝ }
+{
+    let mut lone = [64u8; 32];
+    let mut n = 1;
+    while n < 32 {
+        if count < n {
+            return lone;
+        }
+        lone[n] = lone_element(s, starts[n]);
+        n += 1;
+    }
+    lone
+}
+
+// A list of no items. `contents` are those that have another pattern than the empty word.
+pub fn no_items(contents: u64) -> Line
+    ensures { λ line. ⌜ LineBegins contents line ⌝ }
+{
+    Line {
+        set: pattern_sets::only(EMPTY),
+        contents,
+        gaps: ALL_GAPS,
+    }
+}
+
+// The patterns of words of the one set with words of the other after them. The empty word before others changes nothing: so lists begin.
 fn followed(r: Reading, a: [u64; 4], b: [u64; 4]) -> [u64; 4]
     ensures { λ words. ⌜ Follows r a b words ⌝ }
 {
-    if is_unit(b) {
-        return a;
+    if pattern_sets::same(a, pattern_sets::only(EMPTY)) {
+        return b;
     }
     readings::product(r, a, b)
 }
 
-// The same as `followed`. Long lists soon meet the same sets again: at each of 16 places the table remembers two sets and what they
-// give.
-fn remembered(r: Reading, a: [u64; 4], b: [u64; 4], place: usize, table: &mut [u64]) -> [u64; 4]
-    requires { ⌜ (length (now table) ≡ 192) × (place < 16) ⌝ }
-    ensures long { λ _. ⌜ length (now (table .exit)) ≡ 192 ⌝ }
-    ensures gives { λ words. ⌜ (Remembers r (now (table .entry)) → Follows r a b words × Remembers r (now (table .exit))) ⌝ }
+// A list with one content more.
+pub fn with_content(r: Reading, contents: u64, line: Line, c: u8) -> Line
+    requires { ⌜ c < 64 ⌝ }
+    ensures { λ more. ⌜ LineWithContent r contents line c more ⌝ }
 {
-    let i = place * 12;
-    if pattern_sets::same(a, four_at(table, i)) {
-        if pattern_sets::same(b, four_at(table, i + 4)) {
-            return four_at(table, i + 8);
-        }
+    if !sets::has(line.contents, c) {
+        return line;
     }
-    let words = followed(r, a, b);
-    put_four(table, i, a);
-    put_four(table, i + 4, b);
-    put_four(table, i + 8, words);
-    words
+    let set = line.set;
+    let more = followed(r, set, pattern_sets::only(readings::single(r, c)));
+    if pattern_sets::same(more, set) {
+        return Line {
+            set,
+            contents: pattern_sets::without(line.contents, sets::with(0, c)),
+            gaps: line.gaps,
+        };
+    }
+    Line {
+        set: more,
+        contents,
+        gaps: ALL_GAPS,
+    }
 }
 
-// The patterns of a list with one more item.
-fn with_item(
-    r: Reading,
-    contents: u64,
-    set: [u64; 4],
-    kind: u8,
-    all: bool,
-    takes: &[u64; 32],
-    table: &mut [u64],
-) -> [u64; 4]
-    requires { ⌜ (length (now table) ≡ 192) × (kind < 72) ⌝ }
-    ensures long { λ _. ⌜ length (now (table .exit)) ≡ 192 ⌝ }
-    ensures gives { λ words. ⌜ (TellsContents r contents → Remembers r (now (table .entry)) → FollowsItem r set (now (takes .entry)) kind all words × Remembers r (now (table .exit))) ⌝ }
+// A list with what gap g takes, one more.
+pub fn with_gap(r: Reading, contents: u64, line: Line, takes: &[u64; 32], g: u8) -> Line
+    requires { ⌜ g < 8 ⌝ }
+    ensures { λ more. ⌜ LineWithGap r contents (now (takes .entry)) line g more ⌝ }
 {
-    if !all {
-        return pattern_sets::empty();
+    if !sets::has(line.gaps, g) {
+        return line;
     }
-    let place = (kind % 8) as usize;
-    if GAPS <= kind {
-        return remembered(r, set, taken(takes, kind % 8), place, table);
+    let set = line.set;
+    let more = followed(r, set, taken(takes, g));
+    if pattern_sets::same(more, set) {
+        return Line {
+            set,
+            contents: line.contents,
+            gaps: pattern_sets::without(line.gaps, sets::with(0, g)),
+        };
     }
-    if !sets::has(contents, kind) {
-        return set;
+    Line {
+        set: more,
+        contents,
+        gaps: ALL_GAPS,
     }
-    let own = pattern_sets::only(readings::single(r, kind));
-    remembered(r, set, own, 8 + place, table)
 }
 
-// The items from here on, of template n, up to and with what ends them: the product of the sets of its items.
-pub fn list_patterns(
-    s: &[u8],
-    here: Position,
-    r: Reading,
-    n: usize,
-    words: &[u64; 544],
-    takes: &[u64; 32],
-) -> Patterned
-    requires { ⌜ n < 32 ⌝ }
-    ensures forward { λ p. ⌜ here .at ≤ p .next .at ⌝ }
-    ensures patterned { λ p. ⌜ ListPatterns r (now (words .entry)) (now (takes .entry)) n (now (s .entry)) (here .at) p ⌝ }
+// Whether the item at an offset can still change a list.
+fn can_change(s: &[u8], at: usize, contents: u64, gaps: u64) -> bool
+    requires { ⌜ at < length (now s) ⌝ }
+    ensures { λ t. ⌜ CanChange (now (s .entry)) at contents gaps t ⌝ }
 {
-    let contents = readings::contents(r);
-    let mut table = [0u64; 192];
+    match s[at] {
+        0x22 => sets::has(gaps, commands::byte_at(s, at + 1) % 8),
+        0x23 => sets::has(contents, commands::byte_at(s, at + 1) % 64),
+        _ => sets::has(contents, TEXT),
+    }
+}
+
+// A list with the item at an offset, one more.
+fn with_item(s: &[u8], at: usize, r: Reading, contents: u64, line: Line, takes: &[u64; 32]) -> Line
+    requires { ⌜ at < length (now s) ⌝ }
+    ensures { λ more. ⌜ LineWithItem r contents (now (takes .entry)) line (now (s .entry)) at more ⌝ }
+{
+    match s[at] {
+        0x22 => with_gap(r, contents, line, takes, commands::byte_at(s, at + 1) % 8),
+        0x23 => with_content(r, contents, line, commands::byte_at(s, at + 1) % 64),
+        _ => with_content(r, contents, line, TEXT),
+    }
+}
+
+// The patterns of the items from here on, up to what ends them, where every gap in them has something to take: the product of the
+// sets of the items.
+fn list_patterns(s: &[u8], here: Position, r: Reading, contents: u64, takes: &[u64; 32]) -> [u64; 4]
+    ensures { λ set. ⌜ ListPatterns r contents (now (takes .entry)) (now (s .entry)) (here .at) set ⌝ }
+{
+    let mut line = no_items(contents);
     let mut at = here.at;
-    let mut set = pattern_sets::only(EMPTY);
     while at < s.len() {
         if is_end(s, at) {
-            return Patterned::new(set, at + 1);
+            let set = line.set;
+            return set;
         }
-        let item = walk_item(s, Position { at }, n, words, takes);
-        let more = with_item(r, contents, set, item.kind, item.all, takes, &mut table);
-        set = more;
-        let next = item.next;
+        if can_change(s, at, line.contents, line.gaps) {
+            let longer = with_item(s, at, r, contents, line, takes);
+            line = longer;
+        }
+        let next = after_item(s, Position { at });
         at = next.at;
     }
-    Patterned::new(set, at)
+    let set = line.set;
+    set
 }
 
-// The set of template n, from the sets of the round before. Template 0 is empty.
+// Whether gap k, or from 8 on attribute gap k - 8, of template n has something to take.
+fn gap_takes(words: &[u64; 544], takes: &[u64; 32], n: usize, k: u8) -> bool
+    requires { ⌜ (n < 32) × (k < 16) ⌝ }
+    ensures { λ t. ⌜ GapTakes (now (words .entry)) (now (takes .entry)) n k t ⌝ }
+{
+    if k < 8 {
+        return !pattern_sets::is_empty(taken(takes, k));
+    }
+    takes_string(words, n, k - 8)
+}
+
+// Whether every gap and attribute gap of template n among `own` has something to take.
+fn all_take(words: &[u64; 544], takes: &[u64; 32], n: usize, own: u64) -> bool
+    requires { ⌜ n < 32 ⌝ }
+    ensures { λ t. ⌜ AllTake (now (words .entry)) (now (takes .entry)) n own t ⌝ }
+{
+    let mut gap = pattern_sets::first_member(own, 0);
+    while gap < 16 {
+        if !gap_takes(words, takes, n, gap as u8) {
+            return false;
+        }
+        gap = pattern_sets::first_member(own, gap + 1);
+    }
+    true
+}
+
+// Elements are 1 to 63; content 0 is text.
+fn is_element(e: u8) -> bool
+    ensures { λ t. ⌜ (t ≡ true → (0 < e) × (e < 64)) ⌝ }
+{
+    0 < e && e < NOT_LONE
+}
+
+// The set of template n, from the sets of the round before. Template 0 is empty. There is no pattern while a gap has nothing to take.
 fn template_patterns(
     s: &[u8],
     r: Reading,
+    contents: u64,
     words: &[u64; 544],
+    gaps: &[u64; 32],
+    lone: &[u8; 32],
     starts: &[usize; 32],
     rows: &[u64; 128],
     n: usize,
 ) -> [u64; 4]
     requires { ⌜ n < 32 ⌝ }
-    ensures { λ row. ⌜ IsRound r (now (s .entry)) (now (words .entry)) (now (starts .entry)) (now (rows .entry)) n row ⌝ }
+    ensures { λ row. ⌜ IsRound r contents (now (s .entry)) (now (words .entry)) (now (gaps .entry)) (now (lone .entry)) (now (starts .entry)) (now (rows .entry)) n row ⌝ }
 {
     if n == 0 {
         return pattern_sets::only(EMPTY);
     }
-    let takes = gaps_from(words, rows, n);
-    let list = list_patterns(s, Position { at: starts[n] }, r, n, words, &takes);
-    list.set
+    let own = gaps[n];
+    let takes = own_gaps_from(words, rows, n, own);
+    if !all_take(words, &takes, n, own) {
+        return pattern_sets::empty();
+    }
+    let e = lone[n];
+    if is_element(e) {
+        return pattern_sets::only(readings::single(r, e));
+    }
+    list_patterns(s, Position { at: starts[n] }, r, contents, &takes)
 }
 
 // Templates are below 32; as a member of those whose sets have changed this stands for a first round.
 const FIRST: u8 = 63;
 
-// The templates to which the gaps of template n have edges, and `FIRST`.
-fn targets(words: &[u64; 544], n: usize) -> u64
+// The templates to which the gaps of template n among `own` have edges, and `FIRST`.
+fn targets(words: &[u64; 544], n: usize, own: u64) -> u64
     requires { ⌜ n < 32 ⌝ }
-    ensures { λ r. ⌜ Targets (now (words .entry)) n r ⌝ }
+    ensures { λ r. ⌜ Targets (now (words .entry)) n own r ⌝ }
 {
     let mut all = sets::with(0, FIRST);
-    let mut g = 0;
+    let mut g = pattern_sets::first_member(own, 0);
     while g < 8 {
-        all = sets::union(all, words[32 + n * 8 + g]);
-        g += 1;
+        all = sets::union(all, words[32 + n * 8 + g as usize]);
+        g = pattern_sets::first_member(own, g + 1);
     }
     all
 }
 
-// The same as `template_patterns`, where the template had the set `row` in the round before. It keeps it if no set has changed that
-// it takes from.
-fn next_row(
-    s: &[u8],
-    r: Reading,
-    words: &[u64; 544],
-    starts: &[usize; 32],
-    rows: &[u64; 128],
-    n: usize,
-    row: [u64; 4],
-    changed: u64,
-) -> [u64; 4]
-    requires { ⌜ n < 32 ⌝ }
-    ensures { λ next. ⌜ IsNext r (now (s .entry)) (now (words .entry)) (now (starts .entry)) (now (rows .entry)) n row changed next ⌝ }
+// The same of every template.
+fn all_targets(words: &[u64; 544], gaps: &[u64; 32], count: usize) -> [u64; 32]
+    ensures { λ r. ⌜ TargetsTable (now (words .entry)) (now (gaps .entry)) count r ⌝ }
 {
-    if pattern_sets::common(targets(words, n), changed) == 0 {
-        return row;
+    let mut table = [0u64; 32];
+    let mut n = 0;
+    while n < 32 {
+        if count < n {
+            return table;
+        }
+        table[n] = targets(words, n, gaps[n]);
+        n += 1;
     }
-    template_patterns(s, r, words, starts, rows, n)
+    table
 }
 
-// A round: the sets of all templates, from those of the round before, of which these have changed in it.
+// Whether some template has one of these among its targets.
+fn takes_from(targets: &[u64; 32], count: usize, changed: u64) -> bool
+    ensures { λ t. ⌜ TakesFrom (now (targets .entry)) count changed t ⌝ }
+{
+    let mut n = 0;
+    while n < 32 {
+        if count < n {
+            return false;
+        }
+        if pattern_sets::common(targets[n], changed) != 0 {
+            return true;
+        }
+        n += 1;
+    }
+    false
+}
+
+// A round: the sets of all templates, from those of the round before, of which these have changed in it. A template keeps its set if
+// it takes from none that has changed.
 fn round(
     s: &[u8],
     r: Reading,
+    contents: u64,
     words: &[u64; 544],
+    gaps: &[u64; 32],
+    lone: &[u8; 32],
     starts: &[usize; 32],
+    targets: &[u64; 32],
+    rows: &[u64; 128],
     count: usize,
-    sets: [[u64; 4]; 32],
     changed: u64,
 ) -> [[u64; 4]; 32]
-    ensures there { λ next. ⌜ Rounds r (now (s .entry)) (now (words .entry)) (now (starts .entry)) count sets changed next ⌝ }
-    ensures others { λ next. ⌜ EmptyAfter count next ⌝ }
+    ensures { λ next. ⌜ Rounds r contents (now (s .entry)) (now (words .entry)) (now (gaps .entry)) (now (lone .entry)) (now (starts .entry)) (now (targets .entry)) (now (rows .entry)) count changed next ⌝ }
 {
-    let rows = rows_of(sets);
     let mut next = [[0u64; 4]; 32];
     let mut n = 0;
     while n < 32 {
         if count < n {
             return next;
         }
-        let row = sets[n];
-        let new = next_row(s, r, words, starts, &rows, n, row, changed);
-        next[n] = new;
+        if pattern_sets::common(targets[n], changed) == 0 {
+            let kept = row_at(rows, n);
+            next[n] = kept;
+        } else {
+            let new = template_patterns(s, r, contents, words, gaps, lone, starts, rows, n);
+            next[n] = new;
+        }
         n += 1;
     }
     next
@@ -511,19 +530,25 @@ fn is_within(a: [u64; 4], b: [u64; 4]) -> bool
     pattern_sets::is_empty(pattern_sets::difference(a, b))
 }
 
-// The templates whose second sets have more patterns than the first; none, if a second set lacks one.
-fn grown(a: [[u64; 4]; 32], b: [[u64; 4]; 32]) -> u64
-    ensures { λ r. ⌜ Grown a b r ⌝ }
+// The rows get the sets of the next round. The templates whose sets have more patterns in it; none, if a set lacks one that it had.
+fn grow(rows: &mut [u64], next: [[u64; 4]; 32], count: usize) -> u64
+    requires { ⌜ length (now rows) ≡ 128 ⌝ }
+    ensures { λ r. ⌜ Grows count (now (rows .entry)) next (now (rows .exit)) r ⌝ }
 {
     let mut more: u64 = 0;
     let mut n: u8 = 0;
     while n < 32 {
-        let old = a[n as usize];
-        let new = b[n as usize];
+        let m = n as usize;
+        if count < m {
+            return more;
+        }
+        let old = four_at(rows, m * 4);
+        let new = next[m];
         if !is_within(old, new) {
             return 0;
         }
         if !is_within(new, old) {
+            put_four(rows, m * 4, new);
             more = sets::with(more, n);
         }
         n += 1;
@@ -531,25 +556,64 @@ fn grown(a: [[u64; 4]; 32], b: [[u64; 4]; 32]) -> u64
     more
 }
 
-// The exact sets of all templates: all empty at first, then round after round, until a round changes nothing. Sets of rounds grow, so
-// there are at most as many rounds as patterns that the sets can hold, and the last.
+// The exact sets of all templates, one after the other: all empty at first, then round after round, until a round would change
+// nothing. Sets of rounds grow, so there are at most as many rounds as patterns that the sets can hold.
+pub fn settled_rows(
+    s: &[u8],
+    r: Reading,
+    words: &[u64; 544],
+    gaps: &[u64; 32],
+    lone: &[u8; 32],
+    starts: &[usize; 32],
+    count: usize,
+) -> [u64; 128]
+    ensures { λ rows. ⌜ ((φs : List Items) (G : Summary) (M : Morphisms.Morphism) (X : Sets) → Shown r (now (s .entry)) (now (words .entry)) (now (starts .entry)) φs G M → GapsTable (now (gaps .entry)) φs → LoneTable (now (lone .entry)) φs → count ≡ length φs → Exact φs G M X → RowsAre φs M X rows) ⌝ }
+{
+    let contents = readings::contents(r);
+    let targets = all_targets(words, gaps, count);
+    let mut rows = [0u64; 128];
+    let mut changed = sets::with(0, FIRST);
+    while takes_from(&targets, count, changed) {
+        let next = round(
+            s,
+            r,
+            contents,
+            words,
+            gaps,
+            lone,
+            starts,
+            &targets,
+            &rows,
+            count,
+            changed,
+        );
+        changed = grow(&mut rows, next, count);
+    }
+    rows
+}
+
+// The same as arrays.
 pub fn settle(
     s: &[u8],
     r: Reading,
     words: &[u64; 544],
+    gaps: &[u64; 32],
+    lone: &[u8; 32],
     starts: &[usize; 32],
     count: usize,
 ) -> [[u64; 4]; 32]
-    ensures { λ sets. ⌜ ((φs : List Items) (G : Summary) (M : Morphisms.Morphism) (X : Sets) → Shown r (now (s .entry)) (now (words .entry)) (now (starts .entry)) φs G M → count ≡ length φs → Exact φs G M X → SetsAre φs M X sets) ⌝ }
+    ensures { λ sets. ⌜ ((φs : List Items) (G : Summary) (M : Morphisms.Morphism) (X : Sets) → Shown r (now (s .entry)) (now (words .entry)) (now (starts .entry)) φs G M → GapsTable (now (gaps .entry)) φs → LoneTable (now (lone .entry)) φs → count ≡ length φs → Exact φs G M X → SetsAre φs M X sets) ⌝ }
 {
+    let rows = settled_rows(s, r, words, gaps, lone, starts, count);
     let mut sets = [[0u64; 4]; 32];
-    let mut next = round(s, r, words, starts, count, sets, sets::with(0, FIRST));
-    let mut changed = grown(sets, next);
-    while changed != 0 {
-        let newer = round(s, r, words, starts, count, next, changed);
-        sets = next;
-        next = newer;
-        changed = grown(sets, next);
+    let mut n = 0;
+    while n < 32 {
+        if count < n {
+            return sets;
+        }
+        let row = row_at(&rows, n);
+        sets[n] = row;
+        n += 1;
     }
     sets
 }

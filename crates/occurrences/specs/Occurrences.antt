@@ -1,53 +1,77 @@
--- In which templates each element stands, as a table: for each element a set that has every template in which it stands, at any depth.
--- A clause whose element stands in no template that is reached need not be looked at.
-use Prim.Native.Nat.{ℕ, _≤_, _<_}
+-- In which templates each element stands, and with which attributes, as a table of three words for each element: a set that has every
+-- template in which it stands, at any depth; a set of attributes that all of these have; and one of all that some has.
+-- A clause whose element stands in no template that is reached, or that holds by the attributes, need not be looked at.
+use Prim.Native.Nat.{ℕ, _+_, _≤_, _<_}
 use mathlib.Core.Path.{_≡_}
 use mathlib.Core.List.{List}
 use mathlib.Core.Bool.{Bool, true}
 use lib.ListN.{length, getD}
 use Rattle.sets.specs.Sets.{member}
+use Rattle.commands.specs.declared.Position.{Position}
 use Rattle.commands.specs.Reading.{whole}
+use Rattle.vocabularies.specs.Vocabulary.{isIn}
 use Rattle.pages.specs.declared.Kind.the-variants.{Template}
-use Rattle.pages.specs.Items.{Attribute, Item, Items}
+use Rattle.pages.specs.Items.{Attribute, Item, text, gap, element, Items, none, more}
 use Rattle.pages.specs.ItemReading.{attributes, item, items}
-use Rattle.pages.specs.RightPages.{SomeElement, SomeElementOf}
+use Rattle.pages.specs.RightPages.{names}
 use Rattle.programs.specs.Program.{templateAt}
 use Rattle.entries.specs.Gaps.{StartsAt}
-use Rattle.occurrences.specs.declared.ElementNames.{ElementNames}
 
 -- The end of the attributes that stand at an offset.
 abbrev pub EndsAttributes : List ℕ → ℕ → ℕ → Type 0
 EndsAttributes s at r = (before : List ℕ) (f end : ℕ) (δ : List Attribute) → attributes f Template s before at ≡ whole δ end → r ≡ end
 
--- An element e stands in the items, or is the item or stands in it.
-abbrev pub Stands : ℕ → Items → Type 0
-Stands e φ = SomeElement (λ e′ mark δ χ. e′ ≡ e) φ
+-- Every element of the items, or of the item, at any depth, is as P says.
+unfoldable mutual
+  pub AllElements : (ℕ → ℕ → List Attribute → Items → Type 0) → Items → Type 0
+  AllElements P none = Unit {0}
+  AllElements P (more i φ) = AllElementsOf P i × AllElements P φ
 
-abbrev pub StandsIn : ℕ → Item → Type 0
-StandsIn e i = SomeElementOf (λ e′ mark δ χ. e′ ≡ e) i
+  pub AllElementsOf : (ℕ → ℕ → List Attribute → Items → Type 0) → Item → Type 0
+  AllElementsOf P text = Unit {0}
+  AllElementsOf P (gap g) = Unit {0}
+  AllElementsOf P (element e mark δ φ) = P e mark δ φ × AllElements P φ
 
--- A set with the elements of the items at an offset, and their end.
-pub record NamesAre (set : ℕ) (P : ℕ → Type 0) (end : ℕ) (r : ElementNames) : Type 0 where
-  pub ends : r .next .at ≡ end
-  pub keeps : (k : ℕ) → member set k ≡ true → member (r .set) k ≡ true
-  pub has : (e : ℕ) → P e → member (r .set) e ≡ true
+-- What the table tells of an element e with attributes δ of template n.
+pub record Tells (table : List ℕ) (n e : ℕ) (δ : List Attribute) : Type 0 where
+  pub low : e < 64
+  pub stands : member (getD table e 0) n ≡ true
+  pub always : (a : ℕ) → member (getD table (e + 64) 0) a ≡ true → isIn a (names δ) ≡ true
+  pub ever : (a : ℕ) → isIn a (names δ) ≡ true → member (getD table (e + 128) 0) a ≡ true
 
-abbrev pub NamesInItems : List ℕ → ℕ → ℕ → ElementNames → Type 0
-NamesInItems s at set r = (ruled : ℕ → Bool) (f depth end : ℕ) (φ : Items) → items f Template ruled s depth at ≡ whole φ end
-    → NamesAre set (λ e. Stands e φ) end r
+-- It tells this of all elements of the items, or of the item.
+abbrev pub AllTold : List ℕ → ℕ → Items → Type 0
+AllTold table n φ = AllElements (λ e mark δ χ. Tells table n e δ) φ
 
-abbrev pub NamesInItem : List ℕ → ℕ → ℕ → ElementNames → Type 0
-NamesInItem s at set r = (ruled : ℕ → Bool) (f depth end : ℕ) (i : Item) → item f Template ruled s depth at ≡ whole i end
-    → NamesAre set (λ e. StandsIn e i) end r
+abbrev pub AllToldOf : List ℕ → ℕ → Item → Type 0
+AllToldOf table n i = AllElementsOf (λ e mark δ χ. Tells table n e δ) i
 
--- Template n is put into the sets of the elements of a set.
-pub record PutsTemplate (table : List ℕ) (names n : ℕ) (r : List ℕ) : Type 0 where
-  pub wide : length r ≡ length table
-  pub keeps : (e k : ℕ) → member (getD table e 0) k ≡ true → member (getD r e 0) k ≡ true
-  pub puts : (e : ℕ) → e < 64 → member names e ≡ true → member (getD r e 0) n ≡ true
+-- The second table tells what the first one does.
+abbrev pub Keeps : List ℕ → List ℕ → Type 0
+Keeps table larger = (n e : ℕ) (δ : List Attribute) → Tells table n e δ → Tells larger n e δ
 
+-- And of an element e more, of template n, whose attributes have these names.
+pub record AddsElement (n e named : ℕ) (table larger : List ℕ) : Type 0 where
+  pub keeps : Keeps table larger
+  pub adds : (δ : List Attribute) → ((a : ℕ) → member named a ≡ isIn a (names δ)) → Tells larger n e δ
+
+-- And of the elements of what was passed, up to its end.
+pub record Passed (table larger : List ℕ) (Told : Type 0) (end : ℕ) (r : Position) : Type 0 where
+  pub ends : r .at ≡ end
+  pub keeps : Keeps table larger
+  pub tells : Told
+
+abbrev pub NamesInItems : List ℕ → ℕ → ℕ → List ℕ → Position → List ℕ → Type 0
+NamesInItems s at n table r larger = (ruled : ℕ → Bool) (f depth end : ℕ) (φ : Items) → items f Template ruled s depth at ≡ whole φ end
+    → Passed table larger (AllTold larger n φ) end r
+
+abbrev pub NamesInItem : List ℕ → ℕ → ℕ → List ℕ → Position → List ℕ → Type 0
+NamesInItem s at n table r larger = (ruled : ℕ → Bool) (f depth end : ℕ) (i : Item) → item f Template ruled s depth at ≡ whole i end
+    → Passed table larger (AllToldOf larger n i) end r
+
+-- The table tells of every element of every template.
 abbrev pub Occurrences : List Items → List ℕ → Type 0
-Occurrences φs table = (n e : ℕ) → n ≤ length φs → e < 64 → Stands e (templateAt φs n) → member (getD table e 0) n ≡ true
+Occurrences φs table = (n : ℕ) → n ≤ length φs → AllTold table n (templateAt φs n)
 
 abbrev pub TellsOccurrences : List ℕ → List ℕ → ℕ → List ℕ → Type 0
 TellsOccurrences s starts count r = (φs : List Items) → StartsAt s φs starts → count ≡ length φs → count ≤ 31 → Occurrences φs r

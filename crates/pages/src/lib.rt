@@ -5,7 +5,7 @@ ghost use Rattle.sets.specs.Sets.{member};
 ghost use Rattle.commands.specs.Reading.{enough};
 ghost use Rattle.commands.specs.Parts.{Agrees};
 ghost use Rattle.pages.specs.ItemReading.{itemContext, attributeContext, nesting, endOf, items};
-ghost use Rattle.pages.specs.Promises.{partOf, AttributesRead, ItemsRead, ItemRead, TemplatesFrom, alonePart, PastText};
+ghost use Rattle.pages.specs.Promises.{partOf, AttributesRead, ItemsRead, ItemRead, TemplatesFrom, alonePart, PastText, PastLeaves};
 use commands::Context;
 use commands::Decoded;
 use commands::Part;
@@ -88,23 +88,57 @@ pub fn after_text(s: &[u8], here: Position) -> Position
     Position { at }
 }
 
+// Steps over the texts and the gaps of a template that stand one after the other.
+fn after_gaps(s: &[u8], here: Position) -> Position
+    ensures { λ r. ⌜ PastLeaves Kind.Template (now (s .entry)) (here .at) (r .at) ⌝ }
+{
+    let mut at = here.at;
+    while at < s.len() {
+        if s[at] == 0x22 {
+            if s.len() - at < 2 {
+                return Position { at };
+            }
+            if 7 < s[at + 1] {
+                return Position { at };
+            }
+            at += 2;
+        } else {
+            if s[at] != 0x21 {
+                return Position { at };
+            }
+            at += 1;
+        }
+    }
+    Position { at }
+}
+
+// Steps over the items without elements that stand one after the other: texts, and in a template gaps.
+fn after_leaves(kind: Kind, s: &[u8], here: Position) -> Position
+    ensures { λ r. ⌜ PastLeaves kind (now (s .entry)) (here .at) (r .at) ⌝ }
+{
+    match kind {
+        Kind::Template => after_gaps(s, here),
+        Kind::Page => after_text(s, here),
+    }
+}
+
 // A list of items below `depth` open elements, up to and with what ends it; `declared` is the set of elements that have a rule.
 pub fn read_items(kind: Kind, declared: u64, s: &[u8], here: Position, depth: usize) -> Part
     ensures { λ r. ⌜ ItemsRead kind (member declared) (now (s .entry)) depth (here .at) r ⌝ }
 {
     let end = end_of(depth);
-    let mut p = after_text(s, here);
+    let mut p = after_leaves(kind, s, here);
     while commands::byte_at(s, p.at) != end {
         let part = read_item(kind, declared, s, p, depth);
         let Part::Whole(next) = part else {
             return part;
         };
-        p = after_text(s, next);
+        p = after_leaves(kind, s, next);
     }
     Part::Whole(Position { at: p.at + 1 })
 }
 
-// Text, a gap, or an element with its attributes and contents.
+// Text, a gap, or an element with its attributes and contents. An element without elements inside ends where these leaves do.
 fn read_item(kind: Kind, declared: u64, s: &[u8], here: Position, depth: usize) -> Part
     ensures { λ r. ⌜ ItemRead kind (member declared) (now (s .entry)) depth (here .at) r ⌝ }
 {
@@ -125,7 +159,11 @@ fn read_item(kind: Kind, declared: u64, s: &[u8], here: Position, depth: usize) 
     let Part::Whole(inside) = attributes else {
         return attributes;
     };
-    read_items(kind, declared, s, inside, depth + 1)
+    let first = after_leaves(kind, s, inside);
+    if commands::byte_at(s, first.at) == 0x26 {
+        return Part::Whole(Position { at: first.at + 1 });
+    }
+    read_items(kind, declared, s, first, depth + 1)
 }
 
 // The attributes straight after `23 e`: none is named twice.

@@ -1,4 +1,4 @@
--- An element that is wrong in some page (verdict 12): it has an attribute that is not allowed, or can get a content that is not
+-- An element that is wrong in some page (document 01, verdict 12): it has an attribute that is not allowed, or can get a content that is not
 -- allowed, or some clause fails for a choice of its attributes' strings and a pattern of its contents. Each attribute gap takes a
 -- string by itself. All of this is said of items of a template of which pages come.
 use Prim.Native.Nat.{ℕ, _^_}

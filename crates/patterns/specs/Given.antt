@@ -1,4 +1,4 @@
--- What the theorems ask of the graph, the templates and the vocabulary of a show. Every job that reads has it: reading refuses
+-- What the theorems ask of the graph, the templates and the vocabulary of a show. Every job of bytes that reads has it: reading refuses
 -- templates that are not there, names and strings out of range; a set of strings has eight bytes; and "any string" holds every string.
 use Prim.Native.Nat.{ℕ, _≤_, _<_}
 use mathlib.Core.Path.{_≡_}

@@ -1,5 +1,6 @@
--- Morphisms of words into a finite monoid: each word has a pattern, a number below `size`, and the pattern of two words, one after the
--- other, is `op` of theirs. Pattern sets are worked out for any such morphism; the check uses the two that stand here.
+-- Morphisms of words into a finite monoid (document 01, "An exact check needs ..": the pattern of a word of contents): each word has a
+-- pattern, a number below `size`, and the pattern of two words, one after the other, is `op` of theirs; that the two which the check uses,
+-- and which stand here, are such is proved, not part of the record.
 use Prim.Native.Nat.{ℕ, _^_}
 use mathlib.Core.List.{List, [], _∷_}
 use mathlib.Core.Bool.{cond}

@@ -1,4 +1,4 @@
--- Pattern sets in rounds (document 02, F-10): all sets empty, and in each round every template's set is worked out from all sets of
+-- Pattern sets in rounds (document 01, "An exact check needs .."; document 02, F-10): all sets empty, and in each round every template's set is worked out from all sets of
 -- the round before, until a round changes nothing. A set tells the patterns of the outer items of the pages that come of a template;
 -- there is none while a gap or an attribute gap inside, at any depth, has nothing to take.
 use Prim.Native.Nat.{ℕ, zero, suc, _≤_, _<_}

@@ -35,7 +35,7 @@ templateAt (φ ∷ φs) zero = Items.none
 templateAt (φ ∷ φs) (suc zero) = φ
 templateAt (φ ∷ φs) (suc (suc t)) = templateAt φs (suc t)
 
--- A variable as `40` numbers it: 0 to 3 the template variables, 4 to 7 the string variables 0 to 3.
+-- A variable: template variable 0 to 3, or string variable 0 to 3. `40` numbers them 0 to 7 in this order.
 pub data Variable : Type 0 where
   templates : ℕ → Variable
   strings : ℕ → Variable

@@ -32,12 +32,12 @@ unfoldable mutual
 abbrev pub stay : ℕ → Items
 stay g = one (gap g)
 
--- x with the items of `new` in place of each gap g; gaps inside those items stay open.
+-- A value with the items of `new` in place of each gap g; gaps inside those items stay open.
 unfoldable pub plugged : ℕ → Items → Items → Items
 unfolding replaced
 plugged g new φ = replaced (λ k. cond (eqb k g) new (stay k)) open-gap φ
 
--- x with string s at each attribute gap h.
+-- A value with string s at each attribute gap h.
 unfoldable pub pluggedString : ℕ → ℕ → Items → Items
 unfolding replaced
 pluggedString h s φ = replaced stay (λ k. cond (eqb k h) (string s) (open-gap k)) φ
@@ -56,14 +56,14 @@ pub record Choice : Type 0 where
   pub second : Bool
   pub string : ℕ
 
--- The values of all variables; a program names 0 to 3 alone.
+-- The point, the values of all variables, of which a program names 0 to 3 alone, and the pages shown.
 pub record State : Type 0 where
   pub point : ℕ
   pub template : ℕ → Items
   pub string : ℕ → ℕ
   pub pages : List Items
 
--- Every variable empty, every string string 0, no page.
+-- Point 0, every template variable empty, every string variable string 0, no page.
 abbrev pub start : State
 start = record { point = 0; template = λ x. none; string = λ y. emptyString; pages = [] }
 
@@ -71,7 +71,7 @@ abbrev pub update : {A : Type 0} → ℕ → A → (ℕ → A) → ℕ → A
 update v new old k = cond (eqb k v) new (old k)
 
 module _ (templates : List Items) where
-  -- What a statement does to the template variables; `s` is the choice's string.
+  -- What a statement does to the template variables.
   abbrev pub actTemplates : Act → (ℕ → Items) → (ℕ → ℕ) → ℕ → Items
   actTemplates (copyTemplate x x′) X Y = update x (X x′) X
   actTemplates (setTemplate x t) X Y = update x (templateAt templates t) X
@@ -82,6 +82,7 @@ module _ (templates : List Items) where
   actTemplates (plugString x x′ h y) X Y = update x (pluggedString h (Y y) (X x′)) X
   actTemplates (show x) X Y = X
 
+-- What a statement does to the string variables; `s` is the choice's string.
 abbrev pub actStrings : Act → ℕ → (ℕ → ℕ) → ℕ → ℕ
 actStrings (copyTemplate x x′) s Y = Y
 actStrings (setTemplate x t) s Y = Y

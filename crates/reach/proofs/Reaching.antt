@@ -19,7 +19,8 @@ use Rattle.patterns.specs.Exactness.{YieldsExact, ReachedExact}
 use Rattle.patterns.proofs.Tests.{and-both, and-left, and-right, either, same-test, any-below, below-any}
 use Rattle.patterns.proofs.Reaching.{reached-there}
 use Rattle.reach.specs.Closures.{ClosedUnder, Closure}
-use Rattle.reach.specs.Promises.{edgesBy, EdgeTable, GraphKept, GapsTable}
+use Rattle.entries.specs.Gaps.{GapsTable}
+use Rattle.reach.specs.Promises.{edgesBy, EdgeTable, GraphKept}
 use Rattle.reach.proofs.Sets.{not-in-zero}
 
 -- What an edge of the table tells.

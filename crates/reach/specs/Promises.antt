@@ -17,7 +17,7 @@ use Rattle.patterns.specs.Rounds.{Set, Sets, anyBelow}
 use Rattle.patterns.specs.Exactness.{Exact, YieldsExact, ReachedExact, ContentsExact}
 use Rattle.readings.specs.Readings.{Is}
 use Rattle.entries.specs.Words.{Keeps}
-use Rattle.entries.specs.Gaps.{GapsAre}
+use Rattle.entries.specs.Gaps.{GapsTable}
 use Rattle.reach.specs.Closures.{United, Closure}
 use Rattle.reach.specs.Outlines.{Outline}
 
@@ -42,10 +42,6 @@ pub record GraphKept (φs : List Items) (G : Summary) (words : List ℕ) (count 
   pub bounded : Bounded φs G
   pub counts : count ≡ length φs
   pub few : count ≤ 31
-
--- The gaps of each template, at any depth.
-abbrev pub GapsTable : List ℕ → List Items → Type 0
-GapsTable gaps φs = (t : ℕ) → t ≤ length φs → GapsAre (getD gaps t 0) (templateAt φs t)
 
 -- The templates that are reached: there is one exact set, and it is this one.
 abbrev pub TellsReached : List ℕ → List ℕ → ℕ → ℕ → ℕ → Type 0

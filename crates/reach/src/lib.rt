@@ -83,17 +83,19 @@ fn union_of(first: u64, set: u64, table: &[u64]) -> u64
     all
 }
 
-// The least set that has the members of a set and is closed under a table of edges.
+// The least set that has the members of a set and is closed under a table of edges. A round follows only what the last one added.
 fn closure(set: u64, table: &[u64]) -> u64
     requires { ⌜ length (now table) < 64 ⌝ }
     ensures { λ r. ⌜ Closure set (now (table .entry)) r ⌝ }
 {
     let mut all = set;
+    let mut fresh = set;
     loop {
-        let more = union_of(all, all, table);
+        let more = union_of(all, fresh, table);
         if more == all {
             return all;
         }
+        fresh = pattern_sets::without(more, all);
         all = more;
     }
 }
@@ -160,7 +162,7 @@ fn is_attribute(code: u8) -> bool
 }
 
 // The names of the attributes straight after `23 e`.
-fn names_at(s: &[u8], here: Position) -> Named
+pub fn names_at(s: &[u8], here: Position) -> Named
     ensures forward { λ r. ⌜ here .at ≤ r .next .at ⌝ }
     ensures named { λ r. ⌜ NamesAt (now (s .entry)) (here .at) r ⌝ }
 {

@@ -15,13 +15,14 @@ use Rattle.patterns.specs.Given.{Bounded}
 use Rattle.patterns.specs.Exactness.{YieldsExact}
 use Rattle.patterns.specs.Shows.{lower, ExactTables, lowestWrongIn}
 use Rattle.patterns.specs.Shows as Decided
+use Rattle.patterns.proofs.Standing.{reached-yields}
 use Rattle.patterns.proofs.ReadVocabularies.{Bytes}
 use Rattle.patterns.proofs.ReadJobs.{GivenJob, job-given}
 use Rattle.languages.specs.Tables.{SetsAre}
 use Rattle.reach.specs.Promises.{GraphKept, TellsYielding, TellsReached, TellsContents}
 use Rattle.reach.specs.Walking.{RulesKept, ContentsKept, TellsPlainlyWrong}
 use Rattle.reach.proofs.Splitting.{lowest-split}
-use Rattle.elements.specs.Rules.{RulesStand, SearchesRules}
+use Rattle.elements.specs.Rules.{Standing, AllYield, RulesStand, SearchesRules}
 use Rattle.shows.specs.declared.TemplateTables.{TemplateTables}
 use Rattle.shows.specs.Promises.{ShowAt, wrongAt}
 
@@ -54,9 +55,16 @@ module _ (s : List ℕ) (rules : Tables) (templates : TemplateTables) (count : �
       (reached : ℕ) (tells-reached : TellsReached words (templates .gaps) count yields reached)
       (within : List ℕ) (tells-contents : TellsContents words (templates .contents) (templates .outer) count yields within)
       (plain : List ℕ) (tells-plain : TellsPlainlyWrong s (rules .attributes) (rules .contents) starts count words within reached plain)
-      (table : List ℕ) (searches : SearchesRules s (rules .declared) (rules .clauses) (templates .occurrences) words starts count reached yields plain table) where
+      (table : List ℕ) (searches : SearchesRules s (rules .declared) (rules .clauses) (templates .occurrences) words (templates .gaps) (templates .lone) starts count reached plain table) where
     yielding : YieldsExact (j .templates) (A .graph) (member yields)
     yielding = tells-yields (j .templates) (A .graph) (j .vocabulary .root) (T .kinds) (A .located .counted) (A .few) sets (exact .kinds)
+
+    is-reached : (n : ℕ) → n ≤ length (j .templates) → member reached n ≡ T .reached n
+    is-reached = tells-reached (j .templates) (A .graph) graph-kept (A .tabled .gaps) yielding (T .reached) (exact .reached)
+
+    -- What is reached stands in a page.
+    all-yield : AllYield (j .templates) (A .graph) reached
+    all-yield n l e = reached-yields (j .templates) (A .graph) (exact .reached n l .0 (sym (is-reached n l) ∙ e))
 
     contents-kept : ContentsKept (j .templates) (T .contents) within
     contents-kept n c l h = tells-contents (j .templates) (A .graph) graph-kept (A .tabled .outlines) yielding (T .contents) (exact .contents) n c l
@@ -66,9 +74,10 @@ module _ (s : List ℕ) (rules : Tables) (templates : TemplateTables) (count : �
     elements-are n l =
         let counts = A .located .counted in
         let there : n ≤ length (j .templates) = omega arith in
-        let is-reached = tells-reached (j .templates) (A .graph) graph-kept (A .tabled .gaps) yielding (T .reached) (exact .reached) n there in
-        let lowered = searches (j .templates) (A .graph) (j .vocabulary) (T .clauses) (record { graph = graph-kept; stand = A .stand }) (λ k h e. yielding k h .0 e) rules-stand (A .tabled .occurrences) (exact .clauses) in
-        rw (← is-reached) (joined (member reached n) (wrongAt plain n) (wrongAt table n) _ _ _
+        let standing : Standing s (j .templates) (A .graph) words (templates .gaps) (templates .lone) starts count =
+        (record { graph = graph-kept; stand = A .stand; gaps-are = A .tabled .gaps; lone-are = A .tabled .lone }) in
+        let lowered = searches (j .templates) (A .graph) (j .vocabulary) (T .clauses) standing all-yield rules-stand (A .tabled .occurrences) (exact .clauses) in
+        rw (← is-reached n there) (joined (member reached n) (wrongAt plain n) (wrongAt table n) _ _ _
         (tells-plain (j .templates) (A .graph) (T .contents) (j .vocabulary) graph-kept rules-kept (A .located) contents-kept n there)
         (lowered .at n there)
         (lowest-split (j .templates) (A .graph) (T .clauses) (T .contents) (j .vocabulary) n (templateAt (j .templates) n)))

@@ -18,6 +18,7 @@ use Rattle.patterns.proofs.ReadVocabularies.{Bytes}
 use Rattle.patterns.proofs.Settling.{worked-out}
 use Rattle.readings.specs.declared.Reading.{Reading}
 use Rattle.readings.specs.Readings.{Reads}
+use Rattle.entries.specs.Gaps.{GapsTable, LoneTable}
 use Rattle.languages.specs.Tables.{SetsAre, of-root}
 use Rattle.languages.specs.Tables as Languages
 use Rattle.shows.specs.declared.TemplateTables.{TemplateTables}
@@ -35,7 +36,8 @@ module _ (s : List ℕ) (rules : Tables) (templates : TemplateTables) (count : �
       (given s rules templates count starts words j p A bytes .templates) (j .vocabulary)
 
   module _ (r : Reading) (reads : Reads r (rootMorphism (rules .root))) (kinds : List (List ℕ))
-      (settled : (φs : List Items) (G : Summary) (M : Morphism) (X : Sets) → Languages.Shown r s words starts φs G M → count ≡ length φs → Exact φs G M X → SetsAre φs M X kinds)
+      (settled : (φs : List Items) (G : Summary) (M : Morphism) (X : Sets) → Languages.Shown r s words starts φs G M → GapsTable (templates .gaps) φs → LoneTable (templates .lone) φs
+      → count ≡ length φs → Exact φs G M X → SetsAre φs M X kinds)
       (other-root : ℕ) (found : LowestRoot (getD words 0 0) kinds count other-root) where
     sets : SetsAre (j .templates) (rootMorphism (j .vocabulary .root)) (tables .0 .kinds) kinds
     sets = settled (j .templates) (A .graph) (rootMorphism (j .vocabulary .root)) (tables .0 .kinds) (record {
@@ -45,7 +47,7 @@ module _ (s : List ℕ) (rules : Tables) (templates : TemplateTables) (count : �
       keeps = A .words-are;
       few = let few = A .few in let counts = A .located .counted in omega arith;
       stand = A .stand;
-    }) (A .located .counted) (tables .1 .kinds)
+    }) (A .tabled .gaps) (A .tabled .lone) (A .located .counted) (tables .1 .kinds)
 
     same-root : (n : ℕ) → n ≤ count → isOther (getD words 0 0) (getD kinds n []) n ≡ notRoot (A .graph) (tables .0 .kinds) n
     same-root n l =

@@ -22,9 +22,9 @@ use Rattle.summaries.specs.Languages.{graphShown}
 use Rattle.jobs.specs.Job.{Job, job}
 use Rattle.jobs.specs.JobVerdict.{ShowHolds, NotRootAt, WrongIn}
 use Rattle.entries.specs.Words.{Keeps}
-use Rattle.entries.specs.Gaps.{StartsAt}
+use Rattle.entries.specs.Gaps.{StartsAt, GapsTable, LoneTable}
 use Rattle.covering.specs.Tables.{EntriesAt, StatementStands}
-use Rattle.reach.specs.Promises.{GapsTable, OutlinesTo}
+use Rattle.reach.specs.Promises.{OutlinesTo}
 use Rattle.occurrences.specs.Occurrences.{Occurrences}
 use Rattle.pattern_sets.specs.PatternSets.{holds}
 use Rattle.patterns.specs.Morphisms.{empty, other, rootMorphism}
@@ -67,15 +67,16 @@ abbrev pub KeepsGraph : List ℕ → List ℕ → ℕ → ℕ → List ℕ → T
 KeepsGraph s heads place p words = (j : Job) (count : ℕ) (G : Summary) → StatementStands s count place (statementAt (j .program) p) → p < 32
     → EntriesAt s heads (j .proposal) p → graphShown (j .program) (j .proposal) p ≡ some G → Keeps words G
 
--- What is worked out of the templates of a job, once for all its shows: the gaps of each, at any depth, its outline, and the
--- templates in which each element stands.
+-- What is worked out of the templates of a job, once for all its shows: the gaps of each, at any depth, which element it is, if it is
+-- one alone, its outline, and the templates in which each element stands, with its attributes.
 pub record TablesOf (φs : List Items) (count : ℕ) (t : TemplateTables) : Type 0 where
   pub gaps : GapsTable (t .gaps) φs
+  pub lone : LoneTable (t .lone) φs
   pub outlines : OutlinesTo φs count (t .contents) (t .outer)
   pub occurrences : Occurrences φs (t .occurrences)
 
-abbrev pub TabledBy : List ℕ → List ℕ → ℕ → TemplateTables → Type 0
-TabledBy s starts count r = (φs : List Items) → StartsAt s φs starts → count ≡ length φs → count ≤ 31 → TablesOf φs count r
+abbrev pub TabledBy : List ℕ → List ℕ → List ℕ → ℕ → TemplateTables → Type 0
+TabledBy s gaps starts count r = (φs : List Items) → GapsTable gaps φs → StartsAt s φs starts → count ≡ length φs → count ≤ 31 → TablesOf φs count r
 
 -- What is known where a show is decided: the job was read from these bytes, its vocabulary and templates stand where the tables say,
 -- and the words are those of the graph that the point shows.

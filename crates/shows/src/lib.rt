@@ -13,13 +13,14 @@ pub enum Shown {
     Wrong { template: usize, at: usize },
 }
 
-// What is worked out of the templates of a job: the gaps of each, at any depth; the contents and the gaps among its outer items; and
-// for each element the templates in which it stands.
+// What is worked out of the templates of a job: the gaps of each, at any depth; which element it is, if it is one alone; the contents
+// and the gaps among its outer items; and for each element the templates in which it stands, and its attributes.
 pub struct TemplateTables {
     pub gaps: [u64; 32],
+    pub lone: [u8; 32],
     pub contents: [u64; 32],
     pub outer: [u64; 32],
-    pub occurrences: [u64; 64],
+    pub occurrences: [u64; 192],
 }
 
 const MOST_TEMPLATES: usize = 31;
@@ -40,17 +41,18 @@ pub fn shown_words(s: &[u8], heads: &[usize; 256], place: usize, p: usize) -> [u
     languages::close(entries::load(s, covering::template_head(heads, p, x)))
 }
 
-// What is worked out of the templates, once for all shows.
-pub fn tables_of(s: &[u8], starts: &[usize; 32], count: usize) -> TemplateTables
-    ensures { λ r. ⌜ TabledBy (now (s .entry)) (now (starts .entry)) count r ⌝ }
+// What is worked out of the templates, whose gaps are given, once for all shows.
+pub fn tables_of(s: &[u8], gaps: [u64; 32], starts: &[usize; 32], count: usize) -> TemplateTables
+    ensures { λ r. ⌜ TabledBy (now (s .entry)) gaps (now (starts .entry)) count r ⌝ }
 {
     let outlines = reach::outlines_of(s, starts, count);
     let contents = outlines.contents;
     let outer = outlines.gaps;
-    let gaps = entries::gaps_of(s, starts, count);
+    let lone = languages::lone_elements(s, starts, count);
     let occurrences = occurrences::of_templates(s, starts, count);
     TemplateTables {
         gaps,
+        lone,
         contents,
         outer,
         occurrences,
@@ -141,6 +143,7 @@ fn wrong_elements(
     ensures { λ r. ⌜ WrongElements (now (s .entry)) rules templates count (now (starts .entry)) (now (words .entry)) kinds r ⌝ }
 {
     let gaps = templates.gaps;
+    let lone = templates.lone;
     let contents = templates.contents;
     let outer = templates.outer;
     let occurrences = templates.occurrences;
@@ -166,10 +169,11 @@ fn wrong_elements(
         &clauses,
         &occurrences,
         words,
+        &gaps,
+        &lone,
         starts,
         count,
         reached,
-        yields,
         plain,
     )
 }
@@ -188,7 +192,17 @@ pub fn decide(
     if MOST_TEMPLATES < count {
         return Shown::Right;
     }
-    let kinds = languages::settle(s, readings::root_reading(rules.root), words, starts, count);
+    let gaps = templates.gaps;
+    let lone = templates.lone;
+    let kinds = languages::settle(
+        s,
+        readings::root_reading(rules.root),
+        words,
+        &gaps,
+        &lone,
+        starts,
+        count,
+    );
     let other = lowest_root(words[0], kinds, count);
     if other != 0 {
         return Shown::NotRoot(other - 1);

@@ -1,5 +1,5 @@
 -- Reading a proposal (document 01, "A job, command by command", Proposal). Heads rise strictly by (p, v), the items under one by
--- command, then operands; each is compared as one number, a digit to a byte.
+-- command, then operands; each is compared as one number.
 use Prim.Native.Nat.{ℕ, zero, suc, _+_, _*_, _-_}
 use mathlib.Core.List.{List, [], _∷_}
 use mathlib.Core.Bool.{Bool, true, false, cond, _&&_}

@@ -1,6 +1,6 @@
--- Summaries and their transfer functions (source 000, sections 3 to 5, as document 01, "Covering", reads them). A summary of a
--- template variable is a summary graph (R, E, α) with the gap track τ of its gaps, given by what it holds; `string n h s` says that
--- string s is in α(n, h), and • holds every string. A summary of a string variable is the set of its strings.
+-- Summaries and their transfer functions (source 000, sections 3 to 5, as document 01, "Covering, and the language of a show", reads
+-- them). A summary of a template variable is a summary graph (R, E, α) with the gap track τ of its gaps, given by what it holds;
+-- `string n h s` says that string s is in α(n, h), and • holds every string. A summary of a string variable is the set of its strings.
 use Prim.Native.Nat.{ℕ, zero, suc}
 use mathlib.Core.Path.{_≡_}
 use mathlib.Core.List.{List, [], _∷_}
@@ -44,7 +44,8 @@ plugSummary g S T (string n h s) = S (string n h s) || T (string n h s)
 plugSummary g S T (gapFrom k n) = cond (eqb k g) (T (gapFrom k n)) (S (gapFrom k n) || T (gapFrom k n))
 plugSummary g S T (attributeGapFrom h n) = S (attributeGapFrom h n) || T (attributeGapFrom h n)
 
--- hplug and tplug at an attribute gap: the strings at h alone in h's origins, and no origin of h left.
+-- hplug and tplug at an attribute gap: the strings at h alone in h's origins, as document 01 has it (section 5 prints no such
+-- condition), and no origin of h left.
 abbrev pub plugStringSummary : ℕ → Summary → Strings → Summary
 plugStringSummary h S Y (root n) = S (root n)
 plugStringSummary h S Y (edge n g m) = S (edge n g m)

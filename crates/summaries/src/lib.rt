@@ -82,7 +82,7 @@ fn fact_here(s: &[u8], here: Position, context: Context, templates: usize, least
 }
 
 // The byte at an offset that is inside.
-fn inside(s: &[u8], i: usize) -> u8
+pub fn inside(s: &[u8], i: usize) -> u8
     requires { ⌜ i < length (now s) ⌝ }
     ensures { λ r. ⌜ r ≡ byte (now (s .entry)) i ⌝ }
 {

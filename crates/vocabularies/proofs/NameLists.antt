@@ -18,7 +18,7 @@ use Rattle.commands.specs.declared.Decoded.{Decoded}
 use Rattle.commands.specs.declared.Decoded.the-variants as Decodeds
 use Rattle.commands.specs.declared.Part.{Part}
 use Rattle.commands.specs.declared.Part.the-variants.{Whole, Refused}
-use Rattle.commands.specs.Commands.{byte, allowed, command, operandsOf, inRange, allInRange}
+use Rattle.commands.specs.Commands.{byte, allowed, command, operandsOf, inRange, allInRange, attribute, content, Single}
 use Rattle.commands.specs.Reading.{Read, whole, refused, unfinished, andThen}
 use Rattle.commands.specs.Parts.{AgreesAs, Enough}
 use Rattle.commands.proofs.Laws.{moved, MovedOver}
@@ -194,3 +194,12 @@ module _ (s : List ℕ) (x : Context) (start least set : ℕ) (place : Position)
 
       pub next-name-fits : (x ≡ Attributes) ⊎ (x ≡ Contents) → name + 1 < 2 ^ 8
       next-name-fits k = let l = name-low k in omega arith
+
+-- The commands of the two lists.
+pub attribute-single : Single Attributes 0x02 31
+unfolding allowed operandsOf inRange
+attribute-single = record { may-stand = refl; operand = attribute; alone = refl; is-byte = refl; range = λ s i. refl }
+
+pub content-single : Single Contents 0x03 63
+unfolding allowed operandsOf inRange
+content-single = record { may-stand = refl; operand = content; alone = refl; is-byte = refl; range = λ s i. refl }

@@ -4,7 +4,7 @@ ghost use mathlib.Core.Path.{_≡_};
 ghost use mathlib.Core.List.{List, []};
 ghost use mathlib.Core.Logic.{_⊎_};
 ghost use lib.ListN.{length};
-ghost use Rattle.commands.specs.Commands.{byte, setAt};
+ghost use Rattle.commands.specs.Commands.{byte, setAt, Single};
 ghost use Rattle.vocabularies.specs.Vocabulary.{order};
 ghost use Rattle.vocabularies.specs.Promises.{partOf, StepsOver, AddsMost, Short, FormulaReads, Represents, TellsSame, TellsAmong, Adds, FactsWith, LeafAdds, Gathers, NamesRead, ClausesRead, RuleReads, Long, DescribesRules, rooted, VocabularyReads};
 use commands::Context;
@@ -374,9 +374,9 @@ pub fn gather(s: &[u8], here: Position, facts: Facts) -> Gathered
     }
 }
 
-// A rising list of attributes or of contents.
-fn read_names(s: &[u8], here: Position, context: Context) -> Names
-    requires { ⌜ (context ≡ Context.Attributes) ⊎ (context ≡ Context.Contents) ⌝ }
+// A rising list of attributes or of contents, each `code` and a number of at most `most`.
+fn read_names(s: &[u8], here: Position, context: Context, code: u8, most: u8) -> Names
+    requires { ⌜ ((context ≡ Context.Attributes) ⊎ (context ≡ Context.Contents)) × Single context code most ⌝ }
     ensures { λ r. ⌜ NamesRead (now (s .entry)) context (here .at) r ⌝ }
 {
     let mut place = here;
@@ -390,7 +390,7 @@ fn read_names(s: &[u8], here: Position, context: Context) -> Names
                 set,
             };
         }
-        let d = place.command(s, context);
+        let d = place.name_command(s, context, code, most);
         let Decoded::Moved(_, next) = d else {
             return Names {
                 part: part_of(d),
@@ -442,7 +442,7 @@ pub fn read_clauses(s: &[u8], here: Position) -> Part
 fn read_rule(s: &[u8], here: Position) -> RuleRead
     ensures { λ r. ⌜ RuleReads (now (s .entry)) (here .at) r ⌝ }
 {
-    let allowed = read_names(s, here, Context::Attributes);
+    let allowed = read_names(s, here, Context::Attributes, 0x02, 31);
     let attributes = allowed.set;
     let part = allowed.part;
     let Part::Whole(next) = part else {
@@ -453,7 +453,7 @@ fn read_rule(s: &[u8], here: Position) -> RuleRead
             clauses: 0,
         };
     };
-    let held = read_names(s, next, Context::Contents);
+    let held = read_names(s, next, Context::Contents, 0x03, 63);
     let contents = held.set;
     let part = held.part;
     let Part::Whole(next) = part else {

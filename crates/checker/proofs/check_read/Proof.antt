@@ -1,9 +1,12 @@
 -- 9 and 10 where the covering fails, else what the shows give.
 use borrow.Author.Needs.{needs}
 use Rattle.covering.proofs.Laws.{tables-of}
-use Rattle.checker.proofs.Reading.{uncovered, covered, read-at}
+use Rattle.checker.proofs.Reading.{uncovered, covered, gaps-table, read-at}
 use Rattle.checker.proofs.check_read.Statement.{statement}
 use Rattle.checker.proofs.check_read.Tie as tie
+
+gaps-of-requires : tie.Need-gaps-of-requires
+gaps-of-requires c κs = search needs
 
 first-uncovered-requires : tie.Need-first-uncovered-requires
 first-uncovered-requires c κs = search needs
@@ -22,17 +25,18 @@ first-fault-requires c κs = search needs
 
 returns : tie.Need-returns
 returns c j end reads K =
-    uncovered _ j end reads (c .before .before .before .first-uncovered .result) (c .before .before .before .first-uncovered .ensures j (tables-of _ j end _ reads K)) _ (c .before .covering .given .1)
+    uncovered _ j end reads (c .before .before .before .first-uncovered .result) (c .before .before .before .first-uncovered .ensures j _ _ (tables-of _ j end _ reads K) (gaps-table _ j end reads _ K (c .before .before .before .before .before .before .before .gaps-of .result) (c .before .before .before .before .before .before .before .gaps-of .ensures))) _ (c .before .covering .given .1)
 
 returns-2 : tie.Need-returns-2
 returns-2 c j end reads K =
-    c .first-fault .ensures j (read-at _ j end reads _ K (c .before .before .before .before .tables-of .result) (c .before .before .before .before .tables-of .ensures))
-    (covered _ j end reads (c .before .before .before .before .before .before .before .before .before .first-uncovered .result) (c .before .before .before .before .before .before .before .before .before .first-uncovered .ensures j (tables-of _ j end _ reads K)) (c .before .before .before .before .before .before .before .enum-told .given .1))
+    c .first-fault .ensures j (read-at _ j end reads _ K (c .before .before .before .before .before .before .before .before .before .before .before .before .before .gaps-of .result) (gaps-table _ j end reads _ K (c .before .before .before .before .before .before .before .before .before .before .before .before .before .gaps-of .result) (c .before .before .before .before .before .before .before .before .before .before .before .before .before .gaps-of .ensures)) (c .before .before .before .before .tables-of .result) (c .before .before .before .before .tables-of .ensures))
+    (covered _ j end reads (c .before .before .before .before .before .before .before .before .before .first-uncovered .result) (c .before .before .before .before .before .before .before .before .before .first-uncovered .ensures j _ _ (tables-of _ j end _ reads K) (gaps-table _ j end reads _ K (c .before .before .before .before .before .before .before .before .before .before .before .before .before .gaps-of .result) (c .before .before .before .before .before .before .before .before .before .before .before .before .before .gaps-of .ensures))) (c .before .before .before .before .before .before .before .enum-told .given .1))
 
 pub check-read-spec : {M : Type 1} → statement M
 check-read-spec =
     tie.close
     (tie.spec
+    gaps-of-requires
     first-uncovered-requires
     enum-known-covering
     enum-told

@@ -1,13 +1,12 @@
 -- The shows of the points passed hold.
-use Prim.Native.Nat.{ℕ, _-_}
-use mathlib.Core.Path.{ap}
+use Prim.Native.Nat.{_-_}
+use mathlib.Core.Path.{subst}
 use native.Mathlib.Omega.{arith}
-use lib.ListN.{getD}
 use borrow.Author.Needs.{needs}
 use Rattle.jobs.specs.Job.{Job}
 use Rattle.shows.specs.Promises.{ShowFound}
 use Rattle.checker.specs.Promises.{ReadAt}
-use Rattle.checker.proofs.Points.{Below, shows-go, shows-fail, shows-end}
+use Rattle.checker.proofs.Points.{place-is, Below, shows-nothing, shows-graph, right-words, accepts-right, shows-go, shows-pass, shows-fail, shows-end}
 use Rattle.checker.proofs.first_fault.Statement.{statement}
 use Rattle.checker.proofs.first_fault.Tie as tie
 
@@ -16,14 +15,6 @@ Inv-loop s rules templates count starts points places heads p₀ p = (j : Job) �
 
 abbrev μ-loop : tie.MeasureT-loop
 μ-loop s rules templates count starts points places heads p₀ p = points - p
-
--- What was found at the point.
-found : (c : tie.After-found-at Inv-loop μ-loop) (j : Job) → ReadAt (c .before .before .before .before .before .args .s .now) (c .before .before .before .before .before .args .rules) (c .before .before .before .before .before .args .templates) (c .before .before .before .before .before .args .count) (c .before .before .before .before .before .args .starts .now) (c .before .before .before .before .before .args .points) (c .before .before .before .before .before .args .places .now) (c .before .before .before .before .before .args .heads .now) j
-    → ShowFound j (c .before .before .before .loop .p) (c .found-at .result)
-found c j R =
-    let h = c .before .before .loop-test .taken in
-    let l = R .parts .few-points in
-    c .found-at .ensures (c .before .before .before .before .before .args .points) (c .before .before .before .before .before .args .places .now) j R h (ap (λ (i : ℕ). getD (c .before .before .before .before .before .args .places .now) i 0) (omega arith))
 
 loop-holds : tie.Need-loop-holds Inv-loop μ-loop
 loop-holds c j R q l = absurd (omega arith)
@@ -34,8 +25,14 @@ mul-place c = search needs
 element-copy-out-place : tie.Need-element-copy-out-place Inv-loop μ-loop
 element-copy-out-place c = search needs
 
-found-at-requires : tie.Need-found-at-requires Inv-loop μ-loop
-found-at-requires c κs = search needs
+is-show-requires : tie.Need-is-show-requires Inv-loop μ-loop
+is-show-requires c κs = search needs
+
+shown-words-requires : tie.Need-shown-words-requires Inv-loop μ-loop
+shown-words-requires c κs = search needs
+
+decide-requires : tie.Need-decide-requires Inv-loop μ-loop
+decide-requires c κs = search needs
 
 fault-at-requires : tie.Need-fault-at-requires Inv-loop μ-loop
 fault-at-requires c κs = search needs
@@ -48,19 +45,49 @@ enum-told-2 c = search needs
 
 returns : tie.Need-returns Inv-loop μ-loop
 returns c j R covered =
-    shows-fail j (c .before .before .before .before .before .before .loop .p) (c .before .before .before .before .before .before .loop .inv j R) (c .before .before .before .found-at .result)
-    (found (c .before .before .before) j R) (c .before .before .fault-at .result) (c .before .before .fault-at .ensures) _ (c .enum-told2 .given .1) _ (R .end) (R .reads) covered
+    let l = c .before .before .before .before .before .before .before .before .before .before .loop in
+    let h = c .before .before .before .before .before .before .before .before .before .loop-test .taken in
+    let show = c .before .before .before .before .before .before .before .is-show in
+    let words = c .before .before .before .before .before .shown-words in
+    let decide = c .before .before .before .decide in
+    shows-fail j (l .p) (l .inv j R) (decide .result)
+    (shows-graph _ _ _ _ _ _ _ _ j R (l .p) _ h (place-is _ _ (c .before .before .before .before .before .before .before .before .before .before .before .before .args .places .now) (R .parts .few-points) h) (show .result) (show .ensures) (c .before .before .before .before .before .before .if1 .taken) (words .result) (words .ensures) (decide .result) (decide .ensures))
+    (c .before .before .fault-at .result) (c .before .before .fault-at .ensures) _ (c .enum-told2 .given .1) _ (R .end) (R .reads) covered
+
+add-other-show : tie.Need-add-other-show Inv-loop μ-loop
+add-other-show c = search needs
+
+other-show-requires : tie.Need-other-show-requires Inv-loop μ-loop
+other-show-requires c κs = search needs
+
+loop-less : tie.Need-loop-less Inv-loop μ-loop
+loop-less c = omega (arith, c .other-show .ensures .forward, c .before .before .before .before .before .before .before .before .before .before .before .loop-test .taken)
+
+loop-again : tie.Need-loop-again Inv-loop μ-loop
+loop-again c j R =
+    let l = c .before .before .before .before .before .before .before .before .before .before .before .before .loop in
+    let h = c .before .before .before .before .before .before .before .before .before .before .before .loop-test .taken in
+    let is = place-is _ (l .p) (c .before .before .before .before .before .before .before .before .before .before .before .before .before .before .args .places .now) (R .parts .few-points) h in
+    let show = c .before .before .before .before .before .before .before .before .before .is-show in
+    let words = c .before .before .before .before .before .before .before .shown-words in
+    let decide = c .before .before .before .before .before .decide in
+    let right = accepts-right (l .p) (decide .result) (c .before .before .before .before .fault-at .result) (c .before .before .before .before .fault-at .ensures) (c .before .before .enum-told .given .1) in
+    shows-pass j (l .p) (l .inv j R)
+    (subst (ShowFound j (l .p)) right (shows-graph _ _ _ _ _ _ _ _ j R (l .p) _ h is (show .result) (show .ensures) (c .before .before .before .before .before .before .before .before .if1 .taken) (words .result) (words .ensures) (decide .result) (decide .ensures)))
+    (c .other-show .result)
+    (c .other-show .ensures .hold _ _ _ _ j R (right-words _ _ _ _ _ _ _ _ j R (l .p) _ h is (show .result) (show .ensures) (c .before .before .before .before .before .before .before .before .if1 .taken) (words .result) (words .ensures) (decide .result) (decide .ensures) right))
 
 add-p : tie.Need-add-p Inv-loop μ-loop
 add-p c = search needs
 
-loop-less : tie.Need-loop-less Inv-loop μ-loop
-loop-less c = search needs
+loop-less-2 : tie.Need-loop-less-2 Inv-loop μ-loop
+loop-less-2 c = search needs
 
-loop-again : tie.Need-loop-again Inv-loop μ-loop
-loop-again c j R =
-    shows-go j (c .before .before .before .before .before .before .loop .p) (c .before .before .before .before .before .before .loop .inv j R) (c .before .before .before .found-at .result)
-    (found (c .before .before .before) j R) (c .before .before .fault-at .result) (c .before .before .fault-at .ensures) (c .enum-told .given .1)
+loop-again-2 : tie.Need-loop-again-2 Inv-loop μ-loop
+loop-again-2 c j R =
+    let l = c .before .before .before .before .loop in
+    let h = c .before .before .before .loop-test .taken in
+    shows-go j (l .p) (l .inv j R) (shows-nothing _ _ _ _ _ _ _ _ j R (l .p) _ h (place-is _ _ (c .before .before .before .before .before .before .args .places .now) (R .parts .few-points) h) (c .before .is-show .result) (c .before .is-show .ensures) (c .if1 .left))
 
 returns-2 : tie.Need-returns-2 Inv-loop μ-loop
 returns-2 c j R covered =
@@ -75,12 +102,18 @@ first-fault-spec =
     loop-holds
     mul-place
     element-copy-out-place
-    found-at-requires
+    is-show-requires
+    shown-words-requires
+    decide-requires
     fault-at-requires
     enum-told
     enum-told-2
     returns
-    add-p
+    add-other-show
+    other-show-requires
     loop-less
     loop-again
+    add-p
+    loop-less-2
+    loop-again-2
     returns-2)

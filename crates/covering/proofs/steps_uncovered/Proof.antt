@@ -6,7 +6,8 @@ use native.Mathlib.Omega.{arith}
 use lib.ListN.{getD}
 use borrow.Author.Needs.{needs}
 use Rattle.jobs.specs.Job.{Job}
-use Rattle.covering.specs.Tables.{Tables, GapsTable}
+use Rattle.entries.specs.Gaps.{GapsTable}
+use Rattle.covering.specs.Tables.{Tables}
 use Rattle.covering.specs.Promises.{PointCovers}
 use Rattle.covering.proofs.Whole.{Below, steps-fail, steps-go, steps-end}
 use Rattle.covering.proofs.steps_uncovered.Statement.{statement}

@@ -21,7 +21,7 @@ only-requires : tie.Need-only-requires Inv-loop μ-loop
 only-requires c κs = search needs
 
 loop-holds : tie.Need-loop-holds Inv-loop μ-loop
-loop-holds c = record { forward = omega arith; earlier = []; goes = λ r A. A }
+loop-holds c = record { earlier = []; goes = λ r A. A }
 
 is-attribute-requires : tie.Need-is-attribute-requires Inv-loop μ-loop
 is-attribute-requires c κs = search needs
@@ -50,7 +50,6 @@ loop-again c =
     let l = c .before .before .before .before .before .loop in
     let name = c .before .before .byte-at in
     record {
-      forward = omega (arith, l .inv .forward);
       earlier = byte (args .s .now) (l .at + 1) ∷ l .inv .earlier;
       goes = λ r A. l .inv .goes r (adds-one (args .s .now) (args .clause) (args .words .now) (args .n) (l .at) (l .names) (l .set) (l .inv .earlier) (name .result)
           (c .before .with .result) (name .ensures) (c .before .with .ensures) (c .with-attribute .result) (c .with-attribute .ensures)
@@ -60,11 +59,9 @@ loop-again c =
 returns : tie.Need-returns Inv-loop μ-loop
 returns c =
     let args = c .before .before .before .before .before .args in
-    let l = c .before .before .loop in (
-      l .inv .forward,
-      adds-all (args .s .now) (args .clause) (args .words .now) (args .n) (args .start .at) (c .before .before .before .only .result) _ (c .before .before .before .only .ensures)
-          (l .inv .goes _ (adds-none (args .s .now) (args .clause) (args .words .now) (args .n) (l .at) (l .names) (l .set) (l .inv .earlier) (sym (c .before .is-attribute .ensures) ∙ c .if1 .left))),
-    )
+    let l = c .before .before .loop in
+    adds-all (args .s .now) (args .clause) (args .words .now) (args .n) (args .start .at) (c .before .before .before .only .result) _ (c .before .before .before .only .ensures)
+    (l .inv .goes _ (adds-none (args .s .now) (args .clause) (args .words .now) (args .n) (l .at) (l .names) (l .set) (l .inv .earlier) (sym (c .before .is-attribute .ensures) ∙ c .if1 .left)))
 
 pub attributes-of-spec : {M : Type 1} → statement M
 attributes-of-spec =

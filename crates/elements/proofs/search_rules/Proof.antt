@@ -7,10 +7,10 @@ use Rattle.elements.proofs.search_rules.Statement.{statement}
 use Rattle.elements.proofs.search_rules.Tie as tie
 
 abbrev Inv-loop : tie.InvT-loop
-Inv-loop s declared clauses standing words starts count reached yields lowest₀ e₀ lowest e = Ruled s declared clauses standing words starts count reached yields lowest₀ e lowest
+Inv-loop s declared clauses standing words gaps lone starts count reached lowest₀ e₀ lowest e = Ruled s declared clauses standing words gaps lone starts count reached lowest₀ e lowest
 
 abbrev μ-loop : tie.MeasureT-loop
-μ-loop s declared clauses standing words starts count reached yields lowest₀ e₀ lowest e = 64 - e
+μ-loop s declared clauses standing words gaps lone starts count reached lowest₀ e₀ lowest e = 64 - e
 
 next-element-requires : tie.Need-next-element-requires Inv-loop μ-loop
 next-element-requires c κs = search needs
@@ -18,7 +18,7 @@ next-element-requires c κs = search needs
 loop-holds : tie.Need-loop-holds Inv-loop μ-loop
 loop-holds c =
     let args = c .before .before .args in
-    ruled-none (args .s .now) (args .declared) (args .clauses .now) (args .standing .now) (args .words .now) (args .starts .now) (args .count) (args .reached) (args .yields)
+    ruled-none (args .s .now) (args .declared) (args .clauses .now) (args .standing .now) (args .words .now) (args .gaps .now) (args .lone .now) (args .starts .now) (args .count) (args .reached)
     (args .table) (c .next-element .result) (c .next-element .ensures)
 
 cast-i : tie.Need-cast-i Inv-loop μ-loop
@@ -42,6 +42,24 @@ mul-search-rule c = search needs
 element-copy-out-search-rule : tie.Need-element-copy-out-search-rule Inv-loop μ-loop
 element-copy-out-search-rule c = search needs
 
+add-search-rule : tie.Need-add-search-rule Inv-loop μ-loop
+add-search-rule c = search needs
+
+mul-search-rule-2 : tie.Need-mul-search-rule-2 Inv-loop μ-loop
+mul-search-rule-2 c = search needs
+
+element-copy-out-search-rule-2 : tie.Need-element-copy-out-search-rule-2 Inv-loop μ-loop
+element-copy-out-search-rule-2 c = search needs
+
+add-search-rule-2 : tie.Need-add-search-rule-2 Inv-loop μ-loop
+add-search-rule-2 c = search needs
+
+mul-search-rule-3 : tie.Need-mul-search-rule-3 Inv-loop μ-loop
+mul-search-rule-3 c = search needs
+
+element-copy-out-search-rule-3 : tie.Need-element-copy-out-search-rule-3 Inv-loop μ-loop
+element-copy-out-search-rule-3 c = search needs
+
 search-rule-requires : tie.Need-search-rule-requires Inv-loop μ-loop
 search-rule-requires c κs = search needs
 
@@ -52,23 +70,23 @@ next-element-requires-2 : tie.Need-next-element-requires-2 Inv-loop μ-loop
 next-element-requires-2 c κs = search needs
 
 loop-less : tie.Need-loop-less Inv-loop μ-loop
-loop-less c = omega (arith, c .next-element2 .ensures .after, c .before .before .before .before .before .before .loop .inv .most)
+loop-less c = omega (arith, c .next-element2 .ensures .after, c .before .before .before .before .before .before .before .before .loop .inv .most)
 
 loop-again : tie.Need-loop-again Inv-loop μ-loop
 loop-again c =
-    let args = c .before .before .before .before .before .before .before .before .before .args in
-    let l = c .before .before .before .before .before .before .loop in
-    let chosen = c .before .before .before .common in
+    let args = c .before .before .before .before .before .before .before .before .before .before .before .args in
+    let l = c .before .before .before .before .before .before .before .before .loop in
+    let chosen = c .before .before .before .before .before .common in
     let more = c .before .search-rule in
-    ruled-more (args .s .now) (args .declared) (args .clauses .now) (args .standing .now) (args .words .now) (args .starts .now) (args .count) (args .reached) (args .yields)
-    (args .table) (l .e) (l .lowest) (l .inv) (c .before .before .before .before .before .loop-test .taken) (chosen .result) (chosen .ensures) (more .result) (more .ensures)
+    ruled-more (args .s .now) (args .declared) (args .clauses .now) (args .standing .now) (args .words .now) (args .gaps .now) (args .lone .now) (args .starts .now) (args .count) (args .reached)
+    (args .table) (l .e) (l .lowest) (l .inv) (c .before .before .before .before .before .before .before .loop-test .taken) (chosen .result) (chosen .ensures) (more .result) (more .ensures)
     (c .next-element2 .result) (c .next-element2 .ensures)
 
 returns : tie.Need-returns Inv-loop μ-loop
 returns c =
     let args = c .before .before .before .before .args in
     let l = c .before .loop in
-    ruled-all (args .s .now) (args .declared) (args .clauses .now) (args .standing .now) (args .words .now) (args .starts .now) (args .count) (args .reached) (args .yields)
+    ruled-all (args .s .now) (args .declared) (args .clauses .now) (args .standing .now) (args .words .now) (args .gaps .now) (args .lone .now) (args .starts .now) (args .count) (args .reached)
     (args .table) (l .e) (l .lowest) (l .inv) (c .loop-test .left) (search needs)
 
 pub search-rules-spec : {M : Type 1} → statement M
@@ -86,6 +104,12 @@ search-rules-spec =
     cast-search-rule
     mul-search-rule
     element-copy-out-search-rule
+    add-search-rule
+    mul-search-rule-2
+    element-copy-out-search-rule-2
+    add-search-rule-2
+    mul-search-rule-3
+    element-copy-out-search-rule-3
     search-rule-requires
     add-next-element
     next-element-requires-2

@@ -1,5 +1,6 @@
 -- An element, the root, nothing after it; then the element's own judgement.
 use Rattle.judge.proofs.PageLaws.{no-element-first, other-root-first, root-judged}
+use Rattle.judging.proofs.Shapes.{nothing-lent}
 use borrow.Author.Needs.{needs}
 use Rattle.judge.proofs.judge_read.Statement.{statement}
 use Rattle.judge.proofs.judge_read.Tie as tie
@@ -25,7 +26,7 @@ returns-2 c =
     (c .not-root2 .ensures) (c .before .if2 .taken)
 
 judge-item-requires : tie.Need-judge-item-requires
-judge-item-requires c κs = search needs
+judge-item-requires c κs = nothing-lent _
 
 page-end-requires : tie.Need-page-end-requires
 page-end-requires c κs = search needs
@@ -38,8 +39,8 @@ first-refusal-requires c κs = search needs
 
 returns-3 : tie.Need-returns-3
 returns-3 c =
-    root-judged _ _ _ _ _ (c .before .before .before .before .before .before .before .before .before .before .before .before .before .before .before .byte-at .ensures) (c .before .before .before .before .before .before .before .before .before .before .before .before .before .before .if1 .left) _ (c .before .before .before .before .before .before .before .before .before .before .before .before .before .byte-at2 .ensures)
-    (c .before .before .before .before .judge-item .result) (λ D H. c .before .before .before .before .judge-item .ensures .1 .1 D (H .rule)) (c .before .before .before .before .before .before .before .before .before .before .before .if2 .left)
+    root-judged _ _ _ _ _ (c .before .before .before .before .before .before .before .before .before .before .before .before .before .before .before .before .before .before .byte-at .ensures) (c .before .before .before .before .before .before .before .before .before .before .before .before .before .before .before .before .before .if1 .left) _ (c .before .before .before .before .before .before .before .before .before .before .before .before .before .before .before .before .byte-at2 .ensures)
+    (c .before .before .before .before .judge-item .result) (λ D H. c .before .before .before .before .judge-item .ensures .1 .1 .1 D (H .rule)) (c .before .before .before .before .before .before .before .before .before .before .before .before .before .before .if2 .left)
     (rw (c .first-refusal .ensures, c .before .before .page-end .ensures, c .before .wrong-element .ensures))
 
 pub judge-read-spec : {M : Type 1} → statement M

@@ -6,15 +6,6 @@ use borrow.Author.Needs.{needs}
 use Rattle.judging.proofs.add_content.Statement.{statement}
 use Rattle.judging.proofs.add_content.Tie as tie
 
-mul-union : tie.Need-mul-union
-mul-union c = search needs
-
-element-copy-out-union : tie.Need-element-copy-out-union
-element-copy-out-union c = search needs
-
-union-requires : tie.Need-union-requires
-union-requires c κs = search needs
-
 mul-preceding : tie.Need-mul-preceding
 mul-preceding c = search needs
 
@@ -26,18 +17,9 @@ with-requires c κs = search needs
 
 returns : tie.Need-returns
 returns c = (
-  simp length-set (c .before .before .before .pre .0),
-  λ w C. one-content w _ _ C _ (omega arith) _ _ (c .with .ensures) (c .before .union .ensures),
+  simp length-set (c .before .pre .0),
+  λ w C. one-content w _ _ C _ (omega arith) _ (c .with .ensures),
 )
 
 pub add-content-spec : {M : Type 1} → statement M
-add-content-spec =
-    tie.close
-    (tie.spec
-    mul-union
-    element-copy-out-union
-    union-requires
-    mul-preceding
-    element-write-preceding
-    with-requires
-    returns)
+add-content-spec = tie.close (tie.spec mul-preceding element-write-preceding with-requires returns)

@@ -1,49 +1,59 @@
 -- After the clauses that were met, the answer for those left is the answer for all.
 use Prim.Native.Nat.{_-_}
-use mathlib.Core.Bool.{Bool, true, false}
 use native.Mathlib.Omega.{arith}
 use lib.ListN.{length}
-use Rattle.judging.specs.Promises.{tableAtoms, heldOf, AllHold}
-use Rattle.judging.proofs.Formulas.{none-left, past-left, first-fails, first-holds, held-true, held-false}
+use Rattle.judging.specs.Promises.{tableAtoms}
+use Rattle.judging.proofs.Formulas.{none-left}
+use Rattle.judging.proofs.Shapes.{table-shaped, Meeting, all-met, one-fails, one-more, end-settled}
 use Rattle.judging.proofs.all_hold.Statement.{statement}
 use Rattle.judging.proofs.all_hold.Tie as tie
 
 abbrev Inv-loop : tie.InvT-loop
-Inv-loop v from names strings contents before at₀ at = (b : Bool) → AllHold (tableAtoms names strings contents before) v at b → AllHold (tableAtoms names strings contents before) v from b
+Inv-loop v from to names strings inside preceding at₀ sure₀ at sure = Meeting (tableAtoms names strings inside preceding) names inside v from at sure
 
 abbrev μ-loop : tie.MeasureT-loop
-μ-loop v from names strings contents before at₀ at = length v - at
+μ-loop v from to names strings inside preceding at₀ sure₀ at sure = length v - at
 
 loop-holds : tie.Need-loop-holds Inv-loop μ-loop
-loop-holds c = λ b h. h
-
-shared-slice-read-if1 : tie.Need-shared-slice-read-if1 Inv-loop μ-loop
-shared-slice-read-if1 c = omega arith
+loop-holds c = record { left = λ b h. h; settles = λ B S h. h }
 
 returns : tie.Need-returns Inv-loop μ-loop
-returns c = c .before .before .before .loop .inv true (none-left _ _ _ (c .if1 .taken))
+returns c =
+    let a = c .before .before .before .before .args in
+    all-met (c .before .before .loop .inv) (table-shaped (a .names) (a .strings .now) (a .inside) (a .preceding .now)) (rw (c .if1 .taken) (c .before .before .before .before .pre))
 
-add-holds : tie.Need-add-holds Inv-loop μ-loop
-add-holds c = omega arith
-
-holds-requires : tie.Need-holds-requires Inv-loop μ-loop
-holds-requires c κs = tt
+shared-slice-read-if2 : tie.Need-shared-slice-read-if2 Inv-loop μ-loop
+shared-slice-read-if2 c = omega arith
 
 returns-2 : tie.Need-returns-2 Inv-loop μ-loop
 returns-2 c =
-    c .before .before .before .before .before .loop .inv false
-    (first-fails _ _ _ (heldOf (c .before .holds .result)) (c .before .before .if1 .left) (c .before .holds .ensures .1) (held-false (c .before .holds .result) (c .if2 .taken)))
+    let a = c .before .before .before .before .before .before .args in
+    all-met (c .before .before .before .before .loop .inv) (table-shaped (a .names) (a .strings .now) (a .inside) (a .preceding .now)) (record { met = λ B S. none-left B _ _ (c .if2 .taken) })
 
-loop-less : tie.Need-loop-less Inv-loop μ-loop
-loop-less c = omega (arith, c .before .holds .ensures .0 (omega (arith, c .if2 .left)), c .before .before .before .before .loop-test .taken)
+add-clause-holds : tie.Need-add-clause-holds Inv-loop μ-loop
+add-clause-holds c = omega arith
 
-loop-again : tie.Need-loop-again Inv-loop μ-loop
-loop-again c = λ b h.
-    c .before .before .before .before .before .loop .inv b
-    (first-holds _ _ _ (heldOf (c .before .holds .result)) (c .before .before .if1 .left) (c .before .holds .ensures .1) (held-true (c .before .holds .result) (omega (arith, c .if2 .left))) b h)
+clause-holds-requires : tie.Need-clause-holds-requires Inv-loop μ-loop
+clause-holds-requires c κs = tt
 
 returns-3 : tie.Need-returns-3 Inv-loop μ-loop
-returns-3 c = c .before .loop .inv true (past-left _ _ _ (c .loop-test .left))
+returns-3 c = (one-fails (c .before .before .before .before .before .before .before .loop .inv) _ (c .before .before .before .if2 .left) (c .before .clause-holds .ensures .1) (c .if3 .taken), λ h. absurd (omega (arith, h)))
+
+kept-requires : tie.Need-kept-requires Inv-loop μ-loop
+kept-requires c κs = tt
+
+loop-less : tie.Need-loop-less Inv-loop μ-loop
+loop-less c = omega (arith, c .before .before .clause-holds .ensures .0 (omega (arith, c .before .if3 .left)), c .before .before .before .before .before .before .before .loop-test .taken)
+
+loop-again : tie.Need-loop-again Inv-loop μ-loop
+loop-again c =
+    one-more (c .before .before .before .before .before .before .before .before .loop .inv) _ (c .before .before .before .before .if2 .left) (c .before .before .clause-holds .ensures .1) (omega (arith, c .before .if3 .left)) _
+    (c .kept .ensures)
+
+returns-4 : tie.Need-returns-4 Inv-loop μ-loop
+returns-4 c =
+    let a = c .before .before .before .args in
+    all-met (c .before .loop .inv) (table-shaped (a .names) (a .strings .now) (a .inside) (a .preceding .now)) (end-settled _ _ _ _ (c .loop-test .left))
 
 pub all-hold-spec : {M : Type 1} → statement M
 all-hold-spec =
@@ -52,11 +62,13 @@ all-hold-spec =
     Inv-loop
     μ-loop
     loop-holds
-    shared-slice-read-if1
     returns
-    add-holds
-    holds-requires
+    shared-slice-read-if2
     returns-2
+    add-clause-holds
+    clause-holds-requires
+    returns-3
+    kept-requires
     loop-less
     loop-again
-    returns-3)
+    returns-4)

@@ -2,8 +2,9 @@
 use mathlib.Core.Path.{sym, subst}
 use native.Mathlib.Omega.{arith}
 use Rattle.commands.specs.Commands.{operandBytes, operandsOf}
-use Rattle.judging.specs.Promises.{Holds}
-use Rattle.judging.proofs.Formulas.{cut-holds, truth-holds, attr-holds, content-holds, order-holds, value-holds, none-holds}
+use Rattle.judging.specs.Promises.{Decides}
+use Rattle.judging.proofs.Formulas.{cut-holds, truth-holds, none-holds}
+use Rattle.judging.proofs.Shapes.{every, attr-decides, content-decides, order-decides, value-decides}
 use borrow.Author.Needs.{needs}
 use Rattle.judging.proofs.atom.Statement.{statement}
 use Rattle.judging.proofs.atom.Tie as tie
@@ -24,7 +25,7 @@ returns : tie.Need-returns
 unfolding operandBytes operandsOf
 returns c =
     let code = c .before .match .keys2 in
-    (λ h. absurd (omega (arith, h)), cut-holds _ _ _ _ (rw code (omega (arith, c .if1 .taken))))
+    (λ h. absurd (omega (arith, h)), every λ B. cut-holds B _ _ _ (rw code (omega (arith, c .if1 .taken))))
 
 add-is-member : tie.Need-add-is-member
 add-is-member c = search needs
@@ -45,7 +46,7 @@ returns-2 : tie.Need-returns-2
 unfolding operandBytes operandsOf
 returns-2 c =
     let code = c .before .match .keys3 in
-    (λ h. absurd (omega (arith, h)), cut-holds _ _ _ _ (rw code (omega (arith, c .if2 .taken))))
+    (λ h. absurd (omega (arith, h)), every λ B. cut-holds B _ _ _ (rw code (omega (arith, c .if2 .taken))))
 
 add-is-member-2 : tie.Need-add-is-member-2
 add-is-member-2 c = search needs
@@ -66,7 +67,7 @@ returns-3 : tie.Need-returns-3
 unfolding operandBytes operandsOf
 returns-3 c =
     let code = c .before .match .keys4 in
-    (λ h. absurd (omega (arith, h)), cut-holds _ _ _ _ (rw code (omega (arith, c .if3 .taken))))
+    (λ h. absurd (omega (arith, h)), every λ B. cut-holds B _ _ _ (rw code (omega (arith, c .if3 .taken))))
 
 add-is-ordered : tie.Need-add-is-ordered
 add-is-ordered c = search needs
@@ -93,7 +94,7 @@ returns-4 : tie.Need-returns-4
 unfolding operandBytes operandsOf
 returns-4 c =
     let code = c .before .match .keys5 in
-    (λ h. absurd (omega (arith, h)), cut-holds _ _ _ _ (rw code (omega (arith, c .if4 .taken))))
+    (λ h. absurd (omega (arith, h)), every λ B. cut-holds B _ _ _ (rw code (omega (arith, c .if4 .taken))))
 
 add-inner-set : tie.Need-add-inner-set
 add-inner-set c = search needs
@@ -117,25 +118,33 @@ packed-requires-5 : tie.Need-packed-requires-5
 packed-requires-5 c κs = search needs
 
 returns-5 : tie.Need-returns-5
-returns-5 c = (λ h. omega (arith, c .packed .ensures .1), subst (Holds _ _ _) (sym (c .packed .ensures .0)) (truth-holds _ _ _ (c .before .match .keys1)))
+returns-5 c = (λ h. omega (arith, c .packed .ensures .1), subst (Decides _ _ _ _ _ _ _) (sym (c .packed .ensures .0)) (every λ B. truth-holds B _ _ (c .before .match .keys1)))
 
 returns-6 : tie.Need-returns-6
-returns-6 c = (λ h. omega (arith, c .packed2 .ensures .1), subst (Holds _ _ _) (sym (c .packed2 .ensures .0)) (attr-holds _ _ _ _ (c .before .before .before .before .match .keys2) (c .before .is-member .ensures)))
+returns-6 c =
+    let a = c .before .before .before .before .before .before .before .args in
+    (λ h. omega (arith, c .packed2 .ensures .1), subst (Decides _ _ _ _ _ _ _) (sym (c .packed2 .ensures .0)) (attr-decides (a .names) (a .strings .now) (a .inside) (a .preceding .now) _ _ _ (c .before .before .before .before .match .keys2) (c .before .is-member .ensures)))
 
 returns-7 : tie.Need-returns-7
-returns-7 c = (λ h. omega (arith, c .packed3 .ensures .1), subst (Holds _ _ _) (sym (c .packed3 .ensures .0)) (content-holds _ _ _ _ (c .before .before .before .before .match .keys3) (c .before .is-member2 .ensures)))
+returns-7 c =
+    let a = c .before .before .before .before .before .before .before .args in
+    (λ h. omega (arith, c .packed3 .ensures .1), subst (Decides _ _ _ _ _ _ _) (sym (c .packed3 .ensures .0)) (content-decides (a .names) (a .strings .now) (a .inside) (a .preceding .now) _ _ _ (c .before .before .before .before .match .keys3) (c .before .is-member2 .ensures)))
 
 returns-8 : tie.Need-returns-8
-returns-8 c = (λ h. omega (arith, c .packed4 .ensures .1), subst (Holds _ _ _) (sym (c .packed4 .ensures .0)) (order-holds _ _ _ _ (c .before .before .before .before .before .match .keys4) (c .before .is-ordered .ensures)))
+returns-8 c =
+    let a = c .before .before .before .before .before .before .before .before .before .args in
+    (λ h. omega (arith, c .packed4 .ensures .1), subst (Decides _ _ _ _ _ _ _) (sym (c .packed4 .ensures .0)) (order-decides (a .names) (a .strings .now) (a .inside) (a .preceding .now) _ _ _ (c .before .before .before .before .before .before .match .keys4) (c .before .is-ordered .ensures .0) (c .before .is-ordered .ensures .1)))
 
 returns-9 : tie.Need-returns-9
-returns-9 c = (λ h. omega (arith, c .packed5 .ensures .1), subst (Holds _ _ _) (sym (c .packed5 .ensures .0)) (value-holds _ _ _ _ (c .before .before .before .before .before .match .keys5) (rw (← c .before .before .before .inner-set .ensures) (c .before .is-valued .ensures))))
+returns-9 c =
+    let a = c .before .before .before .before .before .before .before .before .before .args in
+    (λ h. omega (arith, c .packed5 .ensures .1), subst (Decides _ _ _ _ _ _ _) (sym (c .packed5 .ensures .0)) (value-decides (a .names) (a .strings .now) (a .inside) (a .preceding .now) _ _ _ (c .before .before .before .before .before .before .match .keys5) (rw (← c .before .before .before .before .inner-set .ensures) (c .before .is-valued .ensures .0)) (c .before .is-valued .ensures .1)))
 
 returns-10 : tie.Need-returns-10
 returns-10 c =
     let n = c .match .rest in
     let m = c .before .before .before .pre .1 in
-    (λ h. absurd (omega (arith, h)), none-holds _ _ _ _ (m .0) (m .1) (m .2) (n .0 .0 .0 .0 .1) (n .0 .0 .0 .1) (n .0 .0 .1) (n .0 .1) (n .1))
+    (λ h. absurd (omega (arith, h)), every λ B. none-holds B _ _ _ (m .0) (m .1) (m .2) (n .0 .0 .0 .0 .1) (n .0 .0 .0 .1) (n .0 .0 .1) (n .0 .1) (n .1))
 
 pub atom-spec : {M : Type 1} → statement M
 atom-spec =

@@ -64,7 +64,7 @@ shared-slice-read-if2 c = search needs
 returns : tie.Need-returns Inv-loop μ-loop
 returns c =
     let l = c .before .before .before .before .before .before .loop in
-    (l .inv .forward, adds-all _ _ _ _ _ (l .inv .goes _ _ (other-command _ _ _ (l .inv .earlier) _ (c .before .before .if1 .left) (c .if2 .taken))))
+    (l .inv .forward, (adds-all _ _ _ _ _ (l .inv .goes _ _ (other-command _ _ _ (l .inv .earlier) _ (c .before .before .if1 .left) (c .if2 .taken))), l .inv .room))
 
 with-requires-2 : tie.Need-with-requires-2 Inv-loop μ-loop
 with-requires-2 c κs = omega arith
@@ -91,7 +91,7 @@ loop-again-2 c =
 returns-2 : tie.Need-returns-2 Inv-loop μ-loop
 returns-2 c =
     let l = c .before .loop in
-    (l .inv .forward, adds-all _ _ _ _ _ (l .inv .goes _ _ (past-end _ _ _ (l .inv .earlier) _ (c .loop-test .left))))
+    (l .inv .forward, (adds-all _ _ _ _ _ (l .inv .goes _ _ (past-end _ _ _ (l .inv .earlier) _ (c .loop-test .left))), l .inv .room))
 
 pub read-attributes-spec : {M : Type 1} → statement M
 read-attributes-spec =

@@ -1,42 +1,47 @@
--- The sets are those of a round, and the next those of the round after it, which are more or the same.
+-- The rows before the loop's are copied.
 use Prim.Native.Nat.{_-_}
+use mathlib.Core.Path.{refl}
+use mathlib.Core.Logic.{inl, inr}
+use Rattle.languages.proofs.RoundLaws.{CopiedTo, copied-none, copied-more, copied-all}
 use borrow.Author.Needs.{needs}
-use Rattle.languages.proofs.RoundLaws.{no-patterns, size, size-grows, SettlingTo, settling-begins, settling-goes, settled-exact}
 use Rattle.languages.proofs.settle.Statement.{statement}
 use Rattle.languages.proofs.settle.Tie as tie
 
 abbrev Inv-loop : tie.InvT-loop
-Inv-loop s r words starts count sets₀ next₀ changed₀ sets next changed = SettlingTo r s words starts count sets next changed
+Inv-loop s words gaps lone starts count rows sets₀ n₀ sets n = CopiedTo rows sets n
 
 abbrev μ-loop : tie.MeasureT-loop
-μ-loop s r words starts count sets₀ next₀ changed₀ sets next changed = 8192 - size sets
+μ-loop s words gaps lone starts count rows sets₀ n₀ sets n = 32 - n
 
-with-requires : tie.Need-with-requires Inv-loop μ-loop
-with-requires c κs = search needs
-
-round-requires : tie.Need-round-requires Inv-loop μ-loop
-round-requires c κs = search needs
-
-grown-requires : tie.Need-grown-requires Inv-loop μ-loop
-grown-requires c κs = search needs
+settled-rows-requires : tie.Need-settled-rows-requires Inv-loop μ-loop
+settled-rows-requires c κs = search needs
 
 loop-holds : tie.Need-loop-holds Inv-loop μ-loop
-loop-holds c = settling-begins _ _ _ _ _ _ (c .before .round .result) _ _ (no-patterns 32) (c .before .before .with .ensures 63) (c .before .round .ensures .0) (c .before .round .ensures .1) (c .grown .ensures)
-
-round-requires-2 : tie.Need-round-requires-2 Inv-loop μ-loop
-round-requires-2 c κs = search needs
-
-grown-requires-2 : tie.Need-grown-requires-2 Inv-loop μ-loop
-grown-requires-2 c κs = search needs
-
-loop-less : tie.Need-loop-less Inv-loop μ-loop
-loop-less c = size-grows _ _ _ (c .before .before .loop-test .taken) (c .before .before .before .loop .inv .grown)
-
-loop-again : tie.Need-loop-again Inv-loop μ-loop
-loop-again c = settling-goes _ _ _ _ _ _ _ (c .before .round2 .result) _ _ (c .before .before .loop-test .taken) (c .before .round2 .ensures .0) (c .before .round2 .ensures .1) (c .grown2 .ensures) (c .before .before .before .loop .inv)
+loop-holds c = copied-none _ _ refl
 
 returns : tie.Need-returns Inv-loop μ-loop
-returns c φs G M X shown counted ex = settled-exact _ _ _ _ _ _ _ _ (c .before .loop .inv) (c .loop-test .left) φs G M shown counted X ex
+returns c φs G M X shown gaps-are lone-are counted ex = copied-all _ _ _ _ (inl (c .if1 .taken)) (c .before .before .loop .inv) φs M X (shown .few) counted (c .before .before .before .settled-rows .ensures φs G M X shown gaps-are lone-are counted ex)
+
+row-at-requires : tie.Need-row-at-requires Inv-loop μ-loop
+row-at-requires c κs = search needs
+
+mul-sets : tie.Need-mul-sets Inv-loop μ-loop
+mul-sets c = search needs
+
+array-set-from-sets : tie.Need-array-set-from-sets Inv-loop μ-loop
+array-set-from-sets c = search needs
+
+add-n : tie.Need-add-n Inv-loop μ-loop
+add-n c = search needs
+
+loop-less : tie.Need-loop-less Inv-loop μ-loop
+loop-less c = search needs
+
+loop-again : tie.Need-loop-again Inv-loop μ-loop
+loop-again c = copied-more _ _ _ _ (c .before .before .before .loop-test .taken) (c .row-at .ensures) (c .before .before .before .before .loop .inv)
+
+returns-2 : tie.Need-returns-2 Inv-loop μ-loop
+returns-2 c φs G M X shown gaps-are lone-are counted ex = copied-all _ _ _ _ (inr (c .loop-test .left)) (c .before .loop .inv) φs M X (shown .few) counted (c .before .before .settled-rows .ensures φs G M X shown gaps-are lone-are counted ex)
 
 pub settle-spec : {M : Type 1} → statement M
 settle-spec =
@@ -44,12 +49,13 @@ settle-spec =
     (tie.spec
     Inv-loop
     μ-loop
-    with-requires
-    round-requires
-    grown-requires
+    settled-rows-requires
     loop-holds
-    round-requires-2
-    grown-requires-2
+    returns
+    row-at-requires
+    mul-sets
+    array-set-from-sets
+    add-n
     loop-less
     loop-again
-    returns)
+    returns-2)

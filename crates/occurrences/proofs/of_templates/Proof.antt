@@ -1,6 +1,5 @@
--- The templates passed are in the table.
+-- The table tells of the templates passed.
 use Prim.Native.Nat.{_-_}
-use mathlib.Core.Path.{refl}
 use native.Mathlib.Omega.{arith}
 use borrow.Author.Needs.{needs}
 use Rattle.occurrences.proofs.Tables.{Telling, telling-none, telling-more, telling-counted, telling-all}
@@ -13,15 +12,20 @@ Inv-loop s starts count table₀ n₀ table n = Telling s starts count n table
 abbrev μ-loop : tie.MeasureT-loop
 μ-loop s starts count table₀ n₀ table n = 32 - n
 
+no-elements-requires : tie.Need-no-elements-requires Inv-loop μ-loop
+no-elements-requires c κs = search needs
+
 loop-holds : tie.Need-loop-holds Inv-loop μ-loop
-loop-holds c = telling-none (c .before .args .s .now) (c .before .args .starts .now) (c .before .args .count) _ refl
+loop-holds c =
+    let args = c .before .before .args in
+    telling-none (args .s .now) (args .starts .now) (args .count) (c .no-elements .result) (c .no-elements .ensures)
 
 cast-t : tie.Need-cast-t Inv-loop μ-loop
 cast-t c = search needs
 
 returns : tie.Need-returns Inv-loop μ-loop
 returns c =
-    let args = c .before .before .before .before .args in
+    let args = c .before .before .before .before .before .args in
     let l = c .before .before .loop in
     telling-counted (args .s .now) (args .starts .now) (args .count) (l .n) (l .table) (l .inv) (c .if1 .taken)
 
@@ -32,10 +36,7 @@ element-copy-out-t13 : tie.Need-element-copy-out-t13 Inv-loop μ-loop
 element-copy-out-t13 c = search needs
 
 names-in-items-requires : tie.Need-names-in-items-requires Inv-loop μ-loop
-names-in-items-requires c κs = search needs
-
-with-template-requires : tie.Need-with-template-requires Inv-loop μ-loop
-with-template-requires c κs = omega arith
+names-in-items-requires c κs = (c .before .before .before .before .loop .inv .wide, omega arith)
 
 add-n : tie.Need-add-n Inv-loop μ-loop
 add-n c = search needs
@@ -45,15 +46,15 @@ loop-less c = omega arith
 
 loop-again : tie.Need-loop-again Inv-loop μ-loop
 loop-again c =
-    let args = c .before .before .before .before .before .before .before .args in
+    let args = c .before .before .before .before .before .before .before .before .args in
     let l = c .before .before .before .before .before .loop in
-    let named = c .before .names-in-items in
-    telling-more (args .s .now) (args .starts .now) (args .count) (l .n) (l .table) (l .inv) (c .before .before .before .if1 .left) (named .result) (named .ensures .1)
-    (c .with-template .result) (c .with-template .ensures)
+    let passed = c .names-in-items in
+    telling-more (args .s .now) (args .starts .now) (args .count) (l .n) (l .table) (l .inv) (c .before .before .before .if1 .left) (passed .result) _ (passed .ensures .1 .0)
+    (passed .ensures .1 .1)
 
 returns-2 : tie.Need-returns-2 Inv-loop μ-loop
 returns-2 c =
-    let args = c .before .before .before .args in
+    let args = c .before .before .before .before .args in
     let l = c .before .loop in
     telling-all (args .s .now) (args .starts .now) (args .count) (l .n) (l .table) (l .inv) (c .loop-test .left)
 
@@ -63,13 +64,13 @@ of-templates-spec =
     (tie.spec
     Inv-loop
     μ-loop
+    no-elements-requires
     loop-holds
     cast-t
     returns
     mul-t10
     element-copy-out-t13
     names-in-items-requires
-    with-template-requires
     add-n
     loop-less
     loop-again

@@ -14,9 +14,9 @@ use Rattle.commands.specs.declared.Part.{Part}
 use Rattle.commands.specs.Commands.{byte, command}
 use Rattle.commands.proofs.Laws.{moved}
 use Rattle.pages.specs.ItemReading.{endOf}
-use Rattle.pages.specs.Promises.{partOf, ItemsRead}
-use Rattle.pages.proofs.Laws.{Onward, element-range, ended-inside}
-use Rattle.pages.proofs.Agreement.{items-end, items-refused, items-next, items-past-text, item-refused, item-leaf, item-missing, item-deep, item-attributes-refused, item-element, element-permitted}
+use Rattle.pages.specs.Promises.{partOf, ItemsRead, ItemRead}
+use Rattle.pages.proofs.Laws.{Onward, element-range, element-end, ended-inside}
+use Rattle.pages.proofs.Agreement.{items-end, items-refused, items-next, item-refused, item-leaf, item-missing, item-deep, item-attributes-refused, item-element, element-permitted}
 use Rattle.pages.proofs.Trees.{attributes-onward, item-onward}
 use Rattle.pages.proofs.read_item.Reads as read-item
 use Rattle.pages.proofs.read_item.Kinds as read-item-kinds
@@ -26,7 +26,7 @@ use Rattle.pages.proofs.read_items.Kinds as read-items-kinds
 use Rattle.pages.proofs.+read_item+read_items.Lts-read_items as read-items-lts
 use Rattle.commands.proofs.Position.item_command.Reads as item-command-reads
 use Rattle.commands.proofs.byte_at.Reads as byte-at-reads
-use Rattle.pages.proofs.after_text.Reads as after-text-reads
+use Rattle.pages.proofs.after_leaves.Reads as after-leaves-reads
 use Rattle.pages.proofs.end_of.Reads as end-of-reads
 use Rattle.pages.proofs.item_context.Reads as item-context-reads
 use Rattle.pages.proofs.most_nested.Reads as most-nested-reads
@@ -71,6 +71,8 @@ item-claims t = (
   most-nested-reads.Learnt,
   read-attributes-reads.Asked,
   read-attributes-reads.Learnt,
+  after-leaves-reads.Asked,
+  after-leaves-reads.Learnt,
   read-items-below t,
   read-items.Post,
 )
@@ -79,8 +81,8 @@ abbrev items-claims : ℕ → read-items-lts.Claims
 items-claims t = (
   end-of-reads.Asked,
   end-of-reads.Learnt,
-  after-text-reads.Asked,
-  after-text-reads.Learnt,
+  after-leaves-reads.Asked,
+  after-leaves-reads.Learnt,
   byte-at-reads.Asked,
   byte-at-reads.Learnt,
   read-item-below t,
@@ -163,15 +165,37 @@ module _ (t : ℕ) where
   item-returns-5 c = item-attributes-refused _ (c .before .before .before .before .before .before .before .before .before .before .before .before .before .before .item-context .result) (c .before .before .before .before .before .before .before .before .before .before .before .before .before .before .item-context .ensures) _ _ _ _ _ _ (stands (c .before .before .before .before .before .before .before .before .before .before)) (c .before .before .before .before .before .before .before .before .before .if1 .left) (ruled (c .before .before .before .before .before .before) ∙ not-false _ (c .before .before .before .before .before .if2 .left))
       (rw (← c .before .before .before .before .most-nested .ensures) (c .before .before .before .if3 .left)) _ (c .before .before .read-attributes .ensures) _ _ (c .enum-told2 .given .1)
 
-  item-add-read-items : read-item-lts.Need-add-read-items (item-claims t) (read-item-at t) read-item.Post
-  item-add-read-items c = omega (arith, c .before .before .before .before .if3 .left, c .before .before .before .before .before .most-nested .ok)
+  -- What is read of its contents makes the element.
+  opened : (c : read-item-lts.After-known-told2 (item-claims t) (read-item-at t) read-item.Post) (r : Part)
+      → ItemsRead (c .before .before .before .before .before .before .before .before .before .before .before .before .before .before .before .before .before .args .kind) (member (c .before .before .before .before .before .before .before .before .before .before .before .before .before .before .before .before .before .args .declared)) (c .before .before .before .before .before .before .before .before .before .before .before .before .before .before .before .before .before .args .s .now) (c .before .before .before .before .before .before .before .before .before .before .before .before .before .before .before .before .before .args .depth + 1) (c .before .attributes .given .0 .0 .at) r
+      → ItemRead (c .before .before .before .before .before .before .before .before .before .before .before .before .before .before .before .before .before .args .kind) (member (c .before .before .before .before .before .before .before .before .before .before .before .before .before .before .before .before .before .args .declared)) (c .before .before .before .before .before .before .before .before .before .before .before .before .before .before .before .before .before .args .s .now) (c .before .before .before .before .before .before .before .before .before .before .before .before .before .before .before .before .before .args .depth) (c .before .before .before .before .before .before .before .before .before .before .before .before .before .before .before .before .before .args .here .at) r
+  opened c r h = item-element _ (c .before .before .before .before .before .before .before .before .before .before .before .before .before .before .before .item-context .result) (c .before .before .before .before .before .before .before .before .before .before .before .before .before .before .before .item-context .ensures) _ _ _ _ _ _ (stands (c .before .before .before .before .before .before .before .before .before .before .before)) (c .before .before .before .before .before .before .before .before .before .before .if1 .left) (ruled (c .before .before .before .before .before .before .before) ∙ not-false _ (c .before .before .before .before .before .before .if2 .left))
+      (rw (← c .before .before .before .before .before .most-nested .ensures) (c .before .before .before .before .if3 .left)) _ (c .before .before .before .read-attributes .ensures) _ r (c .before .attributes .given .1) h
 
-  item-read-items-requires : read-item-lts.Need-read-items-requires (item-claims t) (read-item-at t) read-item.Post
-  item-read-items-requires c κs = (omega (arith, inside c, reads-on (c .before .before .before .before .before .before .before .before .before .before .before)), tt)
+  -- The leaves in it are followed by its end.
+  closed : (c : read-item-lts.After-struct-known2 (item-claims t) (read-item-at t) read-item.Post) → byte (c .before .before .before .before .before .before .before .before .before .before .before .before .before .before .before .before .before .before .before .before .before .args .s .now) (c .before .before .before .after-leaves .result .at) ≡ endOf (c .before .before .before .before .before .before .before .before .before .before .before .before .before .before .before .before .before .before .before .before .before .args .depth + 1)
+  closed c = sym (c .before .before .byte-at2 .ensures) ∙ c .before .if4 .taken ∙ sym (element-end (c .before .before .before .before .before .before .before .before .before .before .before .before .before .before .before .before .before .before .before .before .before .args .depth))
+
+  item-after-leaves-requires : read-item-lts.Need-after-leaves-requires (item-claims t) (read-item-at t) read-item.Post
+  item-after-leaves-requires c κs = search needs
+
+  item-byte-at-requires-2 : read-item-lts.Need-byte-at-requires-2 (item-claims t) (read-item-at t) read-item.Post
+  item-byte-at-requires-2 c κs = search needs
+
+  item-add-t19 : read-item-lts.Need-add-t19 (item-claims t) (read-item-at t) read-item.Post
+  item-add-t19 c = omega (arith, ended-inside (c .before .before .before .before .before .before .before .before .before .before .before .before .before .before .before .before .before .before .before .before .before .args .s .now) (c .before .before .before .before .before .before .before .before .before .before .before .before .before .before .before .before .before .before .before .before .before .args .depth + 1) (c .before .before .before .after-leaves .result .at) (closed c), c .before .before .before .before .before .before .before .before .before .before .before .before .before .before .before .before .before .before .before .before .before .good)
 
   item-returns-6 : read-item-lts.Need-returns-6 (item-claims t) (read-item-at t) read-item.Post
-  item-returns-6 c = item-element _ (c .before .before .before .before .before .before .before .before .before .before .before .before .before .before .before .before .item-context .result) (c .before .before .before .before .before .before .before .before .before .before .before .before .before .before .before .before .item-context .ensures) _ _ _ _ _ _ (stands (c .before .before .before .before .before .before .before .before .before .before .before .before)) (c .before .before .before .before .before .before .before .before .before .before .before .if1 .left) (ruled (c .before .before .before .before .before .before .before .before) ∙ not-false _ (c .before .before .before .before .before .before .before .if2 .left))
-      (rw (← c .before .before .before .before .before .before .most-nested .ensures) (c .before .before .before .before .before .if3 .left)) _ (c .before .before .before .before .read-attributes .ensures) _ _ (c .before .before .attributes .given .1) (c .read-items .ensures)
+  item-returns-6 c = opened (c .before .before .before .before) _ (c .before .before .before .after-leaves .ensures .reads _ _ _ (items-end _ _ _ _ _ _ (closed c) refl))
+
+  item-add-read-items : read-item-lts.Need-add-read-items (item-claims t) (read-item-at t) read-item.Post
+  item-add-read-items c = omega (arith, c .before .before .before .before .before .before .before .if3 .left, c .before .before .before .before .before .before .before .before .most-nested .ok)
+
+  item-read-items-requires : read-item-lts.Need-read-items-requires (item-claims t) (read-item-at t) read-item.Post
+  item-read-items-requires c κs = (omega (arith, inside (c .before .before .before), reads-on (c .before .before .before .before .before .before .before .before .before .before .before .before .before .before), c .before .before .after-leaves .ensures .forward), tt)
+
+  item-returns-7 : read-item-lts.Need-returns-7 (item-claims t) (read-item-at t) read-item.Post
+  item-returns-7 c = opened (c .before .before .before .before) _ (c .before .before .before .after-leaves .ensures .reads _ _ _ (c .read-items .ensures))
 
 abbrev Inv-loop : read-items-lts.InvT-loop
 Inv-loop kind declared s depth end p₀ p =
@@ -194,13 +218,13 @@ module _ (t : ℕ) where
   from-start : (c : read-items-lts.At-loop (items-claims t) (read-items-at t) read-items.Post Inv-loop μ-loop) (r : Part)
       → ItemsRead (c .before .before .before .before .args .kind) (member (c .before .before .before .before .args .declared)) (c .before .before .before .before .args .s .now) (c .before .before .before .before .args .depth) (c .loop .p .at) r
       → ItemsRead (c .before .before .before .before .args .kind) (member (c .before .before .before .before .args .declared)) (c .before .before .before .before .args .s .now) (c .before .before .before .before .args .depth) (c .before .before .before .before .args .here .at) r
-  from-start c r h = items-past-text _ _ _ _ _ _ _ (c .before .after-text .ensures) (c .loop .inv .1 r h)
+  from-start c r h = c .before .after-leaves .ensures .reads _ _ r (c .loop .inv .1 r h)
 
   items-end-of-requires : read-items-lts.Need-end-of-requires (items-claims t) (read-items-at t) read-items.Post Inv-loop μ-loop
   items-end-of-requires c κs = search needs
 
-  items-after-text-requires : read-items-lts.Need-after-text-requires (items-claims t) (read-items-at t) read-items.Post Inv-loop μ-loop
-  items-after-text-requires c κs = search needs
+  items-after-leaves-requires : read-items-lts.Need-after-leaves-requires (items-claims t) (read-items-at t) read-items.Post Inv-loop μ-loop
+  items-after-leaves-requires c κs = search needs
 
   items-loop-holds : read-items-lts.Need-loop-holds (items-claims t) (read-items-at t) read-items.Post Inv-loop μ-loop
   items-loop-holds c = (omega arith, λ r h. h)
@@ -209,7 +233,7 @@ module _ (t : ℕ) where
   items-byte-at-requires c κs = search needs
 
   items-read-item-requires : read-items-lts.Need-read-item-requires (items-claims t) (read-items-at t) read-items.Post Inv-loop μ-loop
-  items-read-item-requires c κs = (omega (arith, c .before .before .loop .inv .0, c .before .before .before .after-text .ensures .forward, c .before .before .before .before .before .before .pre .0), tt)
+  items-read-item-requires c κs = (omega (arith, c .before .before .loop .inv .0, c .before .before .before .after-leaves .ensures .forward, c .before .before .before .before .before .before .pre .0), tt)
 
   items-enum-known-part : read-items-lts.Need-enum-known-part (items-claims t) (read-items-at t) read-items.Post Inv-loop μ-loop
   items-enum-known-part c = search needs
@@ -220,18 +244,18 @@ module _ (t : ℕ) where
   items-returns : read-items-lts.Need-returns (items-claims t) (read-items-at t) read-items.Post Inv-loop μ-loop
   items-returns c = from-start (c .before .before .before .before .before) _ (items-refused _ _ _ _ _ (goes-on (c .before .before .before)) _ (c .before .before .read-item .ensures) _ _ (c .enum-told .given .1))
 
-  items-after-text-requires-2 : read-items-lts.Need-after-text-requires-2 (items-claims t) (read-items-at t) read-items.Post Inv-loop μ-loop
-  items-after-text-requires-2 c κs = search needs
+  items-after-leaves-requires-2 : read-items-lts.Need-after-leaves-requires-2 (items-claims t) (read-items-at t) read-items.Post Inv-loop μ-loop
+  items-after-leaves-requires-2 c κs = search needs
 
   items-loop-less : read-items-lts.Need-loop-less (items-claims t) (read-items-at t) read-items.Post Inv-loop μ-loop
-  items-loop-less c = omega (arith, onward (c .before), c .after-text2 .ensures .forward)
+  items-loop-less c = omega (arith, onward (c .before), c .after-leaves2 .ensures .forward)
 
   items-loop-again : read-items-lts.Need-loop-again (items-claims t) (read-items-at t) read-items.Post Inv-loop μ-loop
   items-loop-again c =
       let inv = c .before .before .before .before .before .before .before .loop .inv in
-      let past = c .after-text2 .ensures in (
+      let past = c .after-leaves2 .ensures in (
         omega (arith, onward (c .before), inv .0, past .forward),
-        λ r h. inv .1 r (items-next _ _ _ _ _ (goes-on (c .before .before .before .before .before)) _ (c .before .before .before .before .read-item .ensures) _ r (c .before .before .part .given .1) (items-past-text _ _ _ _ _ _ _ past h)),
+        λ r h. inv .1 r (items-next _ _ _ _ _ (goes-on (c .before .before .before .before .before)) _ (c .before .before .before .before .read-item .ensures) _ r (c .before .before .part .given .1) (past .reads _ _ r h)),
       )
 
   items-add-t12 : read-items-lts.Need-add-t12 (items-claims t) (read-items-at t) read-items.Post Inv-loop μ-loop
@@ -261,19 +285,23 @@ pub +read-item+read-items-spec : {M : Type 1} → statement M
     (item-enum-known-attributes t)
     (item-enum-told-2 t)
     (item-returns-5 t)
+    (item-after-leaves-requires t)
+    (item-byte-at-requires-2 t)
+    (item-add-t19 t)
+    (item-returns-6 t)
     (item-add-read-items t)
     (item-read-items-requires t)
-    (item-returns-6 t))
+    (item-returns-7 t))
     (λ t. read-items-lts.spec (items-claims t) (read-items-at t) read-items.Post Inv-loop μ-loop
     (items-end-of-requires t)
-    (items-after-text-requires t)
+    (items-after-leaves-requires t)
     (items-loop-holds t)
     (items-byte-at-requires t)
     (items-read-item-requires t)
     (items-enum-known-part t)
     (items-enum-told t)
     (items-returns t)
-    (items-after-text-requires-2 t)
+    (items-after-leaves-requires-2 t)
     (items-loop-less t)
     (items-loop-again t)
     (items-add-t12 t)

@@ -20,12 +20,15 @@ element-copy-out-lowest-root c = search needs
 lowest-root-requires : tie.Need-lowest-root-requires
 lowest-root-requires c κs = search needs
 
-sub-t14 : tie.Need-sub-t14
-sub-t14 c = search needs
+sub-t18 : tie.Need-sub-t18
+sub-t18 c = search needs
 
 returns-2 : tie.Need-returns-2
 returns-2 c j p A =
-    root-found _ _ _ _ _ _ j p A (λ i. c .before .before .before .before .before .before .shared-slice-known .given i .fits) (c .before .before .before .before .root-reading .result) (c .before .before .before .before .root-reading .ensures) (c .before .before .before .settle .result) (c .before .before .before .settle .ensures)
+    let bytes = c .before .before .before .before .before .before .before .before .before .before .shared-slice-known .given in
+    let reading = c .before .before .before .before .before .before .root-reading in
+    let kinds = c .before .before .before .settle in
+    root-found _ _ _ _ _ _ j p A (λ i. bytes i .fits) (reading .result) (reading .ensures) (kinds .result) (kinds .ensures)
     (c .before .lowest-root .result) (c .before .lowest-root .ensures) (c .if2 .taken)
 
 wrong-elements-requires : tie.Need-wrong-elements-requires
@@ -36,8 +39,13 @@ lowest-wrong-requires c κs = search needs
 
 returns-3 : tie.Need-returns-3
 returns-3 c j p A =
-    element-found _ _ _ _ _ _ j p A (λ i. c .before .before .before .before .before .before .before .before .shared-slice-known .given i .fits) (c .before .before .before .before .before .before .root-reading .result) (c .before .before .before .before .before .before .root-reading .ensures) (c .before .before .before .before .before .settle .result) (c .before .before .before .before .before .settle .ensures)
-    (c .before .before .before .lowest-root .result) (c .before .before .before .lowest-root .ensures) (c .before .before .if2 .left) (c .before .wrong-elements .result) (c .before .wrong-elements .ensures) (c .lowest-wrong .result) (c .lowest-wrong .ensures)
+    let bytes = c .before .before .before .before .before .before .before .before .before .before .before .before .shared-slice-known .given in
+    let reading = c .before .before .before .before .before .before .before .before .root-reading in
+    let kinds = c .before .before .before .before .before .settle in
+    let root = c .before .before .before .lowest-root in
+    let wrong = c .before .wrong-elements in
+    element-found _ _ _ _ _ _ j p A (λ i. bytes i .fits) (reading .result) (reading .ensures) (kinds .result) (kinds .ensures)
+    (root .result) (root .ensures) (c .before .before .if2 .left) (wrong .result) (wrong .ensures) (c .lowest-wrong .result) (c .lowest-wrong .ensures)
 
 pub decide-spec : {M : Type 1} → statement M
 decide-spec =
@@ -48,7 +56,7 @@ decide-spec =
     settle-requires
     element-copy-out-lowest-root
     lowest-root-requires
-    sub-t14
+    sub-t18
     returns-2
     wrong-elements-requires
     lowest-wrong-requires

@@ -1,5 +1,4 @@
--- Each table is its own function's.
-use native.Mathlib.Omega.{arith}
+-- Each other table is its own function's.
 use borrow.Author.Needs.{needs}
 use Rattle.shows.proofs.tables_of.Statement.{statement}
 use Rattle.shows.proofs.tables_of.Tie as tie
@@ -7,18 +6,19 @@ use Rattle.shows.proofs.tables_of.Tie as tie
 outlines-of-requires : tie.Need-outlines-of-requires
 outlines-of-requires c κs = search needs
 
-gaps-of-requires : tie.Need-gaps-of-requires
-gaps-of-requires c κs = search needs
+lone-elements-requires : tie.Need-lone-elements-requires
+lone-elements-requires c κs = search needs
 
 of-templates-requires : tie.Need-of-templates-requires
 of-templates-requires c κs = search needs
 
 returns : tie.Need-returns
-returns c φs stand counts few = record {
-  gaps = λ t l. c .before .gaps-of .ensures φs stand counts t (omega arith) (omega arith);
+returns c φs table stand counts few = record {
+  gaps = table;
+  lone = c .before .lone-elements .ensures φs stand counts;
   outlines = c .before .before .before .before .outlines-of .ensures φs stand counts;
   occurrences = c .of-templates .ensures φs stand counts few;
 }
 
 pub tables-of-spec : {M : Type 1} → statement M
-tables-of-spec = tie.close (tie.spec outlines-of-requires gaps-of-requires of-templates-requires returns)
+tables-of-spec = tie.close (tie.spec outlines-of-requires lone-elements-requires of-templates-requires returns)

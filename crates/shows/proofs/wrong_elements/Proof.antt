@@ -21,8 +21,14 @@ search-rules-requires c κs = search needs
 
 returns : tie.Need-returns
 returns c j p A T exact sets =
-    elements-are _ _ _ _ _ _ j p A (λ i. c .before .before .before .before .before .before .before .before .before .before .before .before .before .before .before .before .before .before .before .before .shared-slice-known .given i .fits) T exact (c .before .before .before .before .before .before .before .before .before .before .before .before .before .before .before .before .before .before .before .before .before .args .kinds) sets (c .before .before .before .before .before .before .before .before .before .before .before .before .yielding .result) (c .before .before .before .before .before .before .before .before .before .before .before .before .yielding .ensures) (c .before .before .before .before .before .before .before .before .before .before .reached .result) (c .before .before .before .before .before .before .before .before .before .before .reached .ensures)
-    (c .before .before .before .before .before .before .before .contents-of .result) (c .before .before .before .before .before .before .before .contents-of .ensures) (c .before .before .before .plainly-wrong .result) (c .before .before .before .plainly-wrong .ensures) (c .search-rules .result) (c .search-rules .ensures)
+    let bytes = c .before .before .before .before .before .before .before .before .before .before .before .before .before .before .before .before .before .before .before .before .before .before .before .shared-slice-known .given in
+    let args = c .before .before .before .before .before .before .before .before .before .before .before .before .before .before .before .before .before .before .before .before .before .before .before .before .args in
+    let yields = c .before .before .before .before .before .before .before .before .before .before .before .before .before .before .yielding in
+    let reached = c .before .before .before .before .before .before .before .before .before .before .before .before .reached in
+    let within = c .before .before .before .before .before .before .before .before .before .contents-of in
+    let plain = c .before .before .before .before .before .plainly-wrong in
+    elements-are _ _ _ _ _ _ j p A (λ i. bytes i .fits) T exact (args .kinds) sets (yields .result) (yields .ensures) (reached .result) (reached .ensures)
+    (within .result) (within .ensures) (plain .result) (plain .ensures) (c .search-rules .result) (c .search-rules .ensures)
 
 pub wrong-elements-spec : {M : Type 1} → statement M
 wrong-elements-spec =

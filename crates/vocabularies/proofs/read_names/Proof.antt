@@ -8,10 +8,10 @@ use Rattle.vocabularies.proofs.read_names.Statement.{statement}
 use Rattle.vocabularies.proofs.read_names.Tie as tie
 
 abbrev Inv-loop : tie.InvT-loop
-Inv-loop s context place₀ least₀ set₀ place least set = NamesContinue s context (place₀ .at) least (place .at) set
+Inv-loop s context code most place₀ least₀ set₀ place least set = NamesContinue s context (place₀ .at) least (place .at) set
 
 abbrev μ-loop : tie.MeasureT-loop
-μ-loop s context place₀ least₀ set₀ place least set = length s - place .at
+μ-loop s context code most place₀ least₀ set₀ place least set = length s - place .at
 
 loop-holds : tie.Need-loop-holds Inv-loop μ-loop
 loop-holds c = names-start _ _ _
@@ -25,8 +25,8 @@ is-allowed-requires c κs = search needs
 returns : tie.Need-returns Inv-loop μ-loop
 returns c = search names-end
 
-command-requires : tie.Need-command-requires Inv-loop μ-loop
-command-requires c κs = search needs
+name-command-requires : tie.Need-name-command-requires Inv-loop μ-loop
+name-command-requires c κs = search needs
 
 enum-known-d : tie.Need-enum-known-d Inv-loop μ-loop
 enum-known-d c = search needs
@@ -71,7 +71,7 @@ read-names-spec =
     byte-at-requires
     is-allowed-requires
     returns
-    command-requires
+    name-command-requires
     enum-known-d
     enum-told
     part-of-requires

@@ -2,12 +2,13 @@
 use borrow.Author.Needs.{needs}
 use mathlib.Core.Path.{refl}
 use mathlib.Core.Logic.{inl, inr}
+use Rattle.vocabularies.proofs.NameLists.{attribute-single, content-single}
 use Rattle.vocabularies.proofs.Rules.{rule-attributes, rule-contents, rule-whole}
 use Rattle.vocabularies.proofs.read_rule.Statement.{statement}
 use Rattle.vocabularies.proofs.read_rule.Tie as tie
 
 read-names-requires : tie.Need-read-names-requires
-read-names-requires c κs = inl refl
+read-names-requires c κs = (inl refl, attribute-single)
 
 enum-known-part : tie.Need-enum-known-part
 enum-known-part c = search needs
@@ -19,7 +20,7 @@ returns : tie.Need-returns
 returns c = search rule-attributes
 
 read-names-requires-2 : tie.Need-read-names-requires-2
-read-names-requires-2 c κs = inr refl
+read-names-requires-2 c κs = (inr refl, content-single)
 
 enum-known-part-2 : tie.Need-enum-known-part-2
 enum-known-part-2 c = search needs
