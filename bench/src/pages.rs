@@ -3,7 +3,8 @@
 pub type Pair = (Vec<u8>, Vec<u8>);
 type Maker = fn(usize) -> Pair;
 
-pub const GROWING: [(&str, Maker); 3] = [("wide", wide), ("nested", nested), ("many clauses", clauses)];
+pub const GROWING: [(&str, Maker); 4] =
+    [("wide", wide), ("nested", nested), ("many clauses", clauses), ("many clauses, shapes in turn", shapes)];
 
 const MOST: usize = 65_535;
 
@@ -75,6 +76,19 @@ fn clauses(quarters: usize) -> Pair {
     let mut page = vec![0x23, 1];
     for i in 0..500 * quarters {
         page.extend(child(i));
+    }
+    page.extend([0x26, 0x27]);
+    (rules(1000), page)
+}
+
+/// The same, every other one without text, so that no two that stand side by side have the same contents.
+fn shapes(quarters: usize) -> Pair {
+    let mut page = vec![0x23, 1];
+    for i in 0..500 * quarters {
+        let text: &[u8] = if i % 2 == 0 { &[0x21] } else { &[] };
+        page.extend([0x23, 2, 0x24, 3, 1 + (i % 7) as u8]);
+        page.extend(text);
+        page.extend([0x26, 0x21]);
     }
     page.extend([0x26, 0x27]);
     (rules(1000), page)

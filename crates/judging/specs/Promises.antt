@@ -70,8 +70,8 @@ AllHold A v at b = (f end : ℕ) (ψs : List Formula) → clauses f v at ≡ who
 pub record Settled (v : List ℕ) (named inside to : ℕ) : Type 0 where
   pub met : (B : Atoms) → Shaped named inside B → AllHold B v to true
 
--- The table of shapes: the attributes of each element at its number, the contents 64 places further, and the offset another 64 further,
--- 0 if it is not known.
+-- The table of shapes: at each of 64 places the attributes of elements, their contents 64 places further, and the offset from which on they
+-- meet all clauses another 64 further, 0 if it is not known.
 pub record Remembered (v shapes : List ℕ) : Type 0 where
   pub long : length shapes ≡ 192
   pub settled : (e : ℕ) → e < 64 → 0 < getD shapes (e + 128) 0

@@ -278,13 +278,23 @@ fn all_hold(
     Met { value: true, sure }
 }
 
-// The offset from which on an element e with these attributes and contents is known to meet all clauses, whatever its strings and its
-// order are.
-fn sure_from(v: &[u8], shapes: &[u64; 192], e: u8, names: u64, inside: u64) -> usize
-    requires { ⌜ (e < 64) × Remembered (now v) (now shapes) ⌝ }
+// The place in the table of shapes of an element e with these attributes and contents. Any would do; shapes that are met often should
+// not share one.
+fn shape_place(e: u8, names: u64, inside: u64) -> u8
+    ensures { λ r. ⌜ r < 64 ⌝ }
+{
+    let both = names ^ inside ^ (inside >> 32);
+    let folded = both ^ (both >> 16);
+    ((folded ^ (folded >> 6) ^ (folded >> 12) ^ e as u64) % 64) as u8
+}
+
+// The offset from which on an element with these attributes and contents is known to meet all clauses, whatever its strings and its order
+// are, by what stands at a place of the table.
+fn sure_from(v: &[u8], shapes: &[u64; 192], place: u8, names: u64, inside: u64) -> usize
+    requires { ⌜ (place < 64) × Remembered (now v) (now shapes) ⌝ }
     ensures { λ r. ⌜ Settled (now (v .entry)) names inside r ⌝ }
 {
-    let k = e as usize;
+    let k = place as usize;
     if shapes[k] != names {
         return v.len();
     }
@@ -297,12 +307,12 @@ fn sure_from(v: &[u8], shapes: &[u64; 192], e: u8, names: u64, inside: u64) -> u
     shapes[k + 128] as usize
 }
 
-// That offset is kept for the elements e that come later; 0 if there is none.
-fn remember(v: &[u8], shapes: &mut [u64; 192], e: u8, names: u64, inside: u64, sure: usize)
-    requires { ⌜ (e < 64) × Remembered (now v) (now shapes) × (0 < sure → Settled (now v) names inside sure) ⌝ }
+// That offset is kept at the place, for elements that come later; 0 if there is none.
+fn remember(v: &[u8], shapes: &mut [u64; 192], place: u8, names: u64, inside: u64, sure: usize)
+    requires { ⌜ (place < 64) × Remembered (now v) (now shapes) × (0 < sure → Settled (now v) names inside sure) ⌝ }
     ensures { λ _. ⌜ Remembered (now (v .entry)) (now (shapes .exit)) ⌝ }
 {
-    let k = e as usize;
+    let k = place as usize;
     shapes[k] = names;
     shapes[k + 64] = inside;
     shapes[k + 128] = sure as u64;
@@ -332,9 +342,10 @@ fn is_right(
     if !sets::is_within(inside, contents[k]) {
         return false;
     }
-    let to = sure_from(v, shapes, e, names, inside);
+    let place = shape_place(e, names, inside);
+    let to = sure_from(v, shapes, place, names, inside);
     let met = all_hold(v, clauses[k], to, names, strings, inside, preceding);
-    remember(v, shapes, e, names, inside, met.sure);
+    remember(v, shapes, place, names, inside, met.sure);
     met.value
 }
 
@@ -528,8 +539,8 @@ fn judge_leaf(
 }
 
 // The item here, under the rules whose tables are given. An element is judged before those inside it. Three tables are lent from one
-// element to the next: `strings` and `texts` serve while one is judged; `shapes` has for each element the attributes and contents of the
-// last one, and from where on such a one meets all clauses.
+// element to the next: `strings` and `texts` serve while one is judged; `shapes` has attributes and contents of some that were judged, and
+// from where on such elements meet all clauses.
 pub fn judge_item(
     v: &[u8],
     attributes: &[u64; 64],
@@ -570,6 +581,7 @@ pub fn judge_item(
         texts,
         shapes,
     );
+    // Those inside have used the table of strings.
     let named = read_attributes(p, Position { at: at + 2 }, strings);
     let right = is_right(
         v,

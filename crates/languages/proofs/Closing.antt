@@ -171,9 +171,12 @@ pub first-small : (k first : ℕ) → k < 16 → first ≡ firstWord k → first
 first-small k first h e = rw e (first-range k h .1)
 
 module _ (words : List ℕ) (k first : ℕ) (closed after : List ℕ) (few : k < 16) (is-first : first ≡ firstWord k)
-    (zeroed : Zeroed (getD words (1 + k) 0) first closed after) (so-far : ClosedTo words k closed) where
+    (zeroed : Zeroed (getD closed (1 + k) 0) first closed after) (so-far : ClosedTo words k closed) where
+  -- The words of the origins have stayed.
   zeroed-here : Zeroed (getD words (1 + k) 0) (firstWord k) closed after
-  zeroed-here = subst (λ (f : ℕ). Zeroed (getD words (1 + k) 0) f closed after) is-first zeroed
+  zeroed-here =
+      subst (λ (f : ℕ). Zeroed (getD words (1 + k) 0) f closed after) is-first
+      (subst (λ (origins : ℕ). Zeroed origins first closed after) (so-far .low (1 + k) (omega arith)) zeroed)
 
   -- The words of another gap stay.
   elsewhere : (j n : ℕ) → j < 16 → n < 32 → (j ≡ k → ⊥) → getD after (firstWord j + n * 8) 0 ≡ getD closed (firstWord j + n * 8) 0

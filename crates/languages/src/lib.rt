@@ -62,16 +62,16 @@ fn add_zero(words: &mut [u64; 544], templates: u64, first: usize)
 }
 
 // The closed graph of a show: each origin of a gap also gets an edge to template 0, each origin of an attribute gap also string 0.
-pub fn close(words: [u64; 544]) -> [u64; 544]
-    ensures { λ r. ⌜ ((R : Summary) → Keeps words R → Keeps r (closedSummary R)) ⌝ }
+pub fn close(words: &mut [u64; 544])
+    requires { ⌜ length (now words) ≡ 544 ⌝ }
+    ensures { λ _. ⌜ ((R : Summary) → Keeps (now (words .entry)) R → Keeps (now (words .exit)) (closedSummary R)) ⌝ }
 {
-    let mut closed = words;
     let mut k = 0;
     while k < 16 {
-        add_zero(&mut closed, words[1 + k], first_word(k));
+        let origins = words[1 + k];
+        add_zero(words, origins, first_word(k));
         k += 1;
     }
-    closed
 }
 
 fn four_at(table: &[u64], i: usize) -> [u64; 4]

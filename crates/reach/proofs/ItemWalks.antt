@@ -1,5 +1,5 @@
 -- One item of a template: text, a gap, or an element with what was told of its contents.
-use Prim.Native.Nat.{ℕ, zero, suc, _+_, _%_, _≤_}
+use Prim.Native.Nat.{ℕ, zero, suc, _+_, _*_, _%_, _^_, _≤_}
 use native.Mathlib.Omega.{arith}
 use mathlib.Core.Path.{_≡_, refl, sym, ap₂, subst, _∙_}
 use mathlib.Core.List.{List, []}
@@ -13,7 +13,7 @@ use Rattle.sets.specs.Sets.{member}
 use Rattle.commands.specs.declared.Context.the-variants.{TemplateItems}
 use Rattle.commands.specs.declared.Decoded.the-variants.{Moved}
 use Rattle.commands.specs.declared.Position.{Position}
-use Rattle.commands.specs.Commands.{byte, operandBytes, allInRange, allowed, command}
+use Rattle.commands.specs.Commands.{byte, operandBytes, allInRange, command}
 use Rattle.commands.specs.Reading.{whole}
 use Rattle.commands.proofs.Laws.{MovedOver, moved}
 use Rattle.vocabularies.specs.Vocabulary.{Rule, ruleOf, isSome}
@@ -44,15 +44,6 @@ module _ (s allowed-in held-in brings : List ℕ) where
     stood : (next : Position) → command TemplateItems s at ≡ Moved (byte s at) next → MovedOver TemplateItems s at (byte s at) next
     stood next e = moved TemplateItems s at (byte s at) next e
 
-    -- Past the end no item stands.
-    pub past-item : (r : Walked) → length s ≤ at → Walks at r
-    unfolding items
-    past-item r past ruled zero depth end i e = never-unfinished e
-    past-item r past ruled (suc f) depth end i e = elim (item-whole f Template ruled s depth at i end e) [
-      | inl q ↦ let m = stood (q .next) (q .stands) in absurd (omega arith)
-      | inr q ↦ let m = stood (q .next) (q .stands) in absurd (omega arith)
-    ]
-
     pub text-item : byte s at ≡ 0x21 → Walks at (record { inside = 1; gaps = 0; next = record { at = at + 1 }; wrong = 0 })
     unfolding items operandBytes lowestMark
     text-item code ruled zero depth end i e = never-unfinished e
@@ -65,11 +56,10 @@ module _ (s allowed-in held-in brings : List ℕ) where
       | inr q ↦ absurd (let k = q .opens in omega arith)
     ]
 
-    pub gap-item : (b w : ℕ) → byte s at ≡ 0x22 → b ≡ byte s (at + 1) → ((k : ℕ) → member w k ≡ (eqb k (b % 8) || member 0 k))
-        → Walks at (record { inside = 0; gaps = w; next = record { at = at + 2 }; wrong = 0 })
+    pub gap-item : (b : ℕ) → byte s at ≡ 0x22 → b ≡ byte s (at + 1) → Walks at (record { inside = 0; gaps = 1 * 2 ^ (b % 8); next = record { at = at + 2 }; wrong = 0 })
     unfolding items operandBytes allInRange lowestMark
-    gap-item b w code is-b is-w ruled zero depth end i e = never-unfinished e
-    gap-item b w code is-b is-w ruled (suc f) depth end i e = elim (item-whole f Template ruled s depth at i end e) [
+    gap-item b code is-b ruled zero depth end i e = never-unfinished e
+    gap-item b code is-b ruled (suc f) depth end i e = elim (item-whole f Template ruled s depth at i end e) [
       | inl q ↦
           let m = stood (q .next) (q .stands) in
           let small : byte s (at + 1) ≤ 7 = leb-true (byte s (at + 1)) 7 (and-left (leb (byte s (at + 1)) 7) _ (rw code at (m .ranges))) in
@@ -78,21 +68,13 @@ module _ (s allowed-in held-in brings : List ℕ) where
           let after : at + 2 ≡ end = sym (q .after ∙ m .after ∙ rw code (omega arith)) in
           rw is-gap (record {
             ends = after;
-            outline = outline-gap (byte s (at + 1)) w (omega arith) (rw name at is-w);
+            outline = rw name (outline-gap (byte s (at + 1)) (omega arith));
             finds = λ φs G C n D rules brought ruled-are. refl;
           })
       | inr q ↦ absurd (let k = q .opens in omega arith)
     ]
 
-    -- What is neither text nor a gap is an element.
-    no-leaf : (code : ℕ) → allowed TemplateItems code ≡ true → (code ≡ 0x21 → ⊥) → (code ≡ 0x22 → ⊥) → (code ≡ 0x23 → ⊥) → ⊥
-    unfolding allowed
-    no-leaf code e a b c =
-        let l : 0x21 ≤ code = leb-true 0x21 code (and-left (leb 0x21 code) (leb code 0x23) e) in
-        let h : code ≤ 0x23 = leb-true code 0x23 (and-right (leb 0x21 code) (leb code 0x23) e) in
-        omega arith
-
-    module _ (b : ℕ) (is-b : b ≡ byte s (at + 1)) (no-text : byte s at ≡ 0x21 → ⊥) (no-gap : byte s at ≡ 0x22 → ⊥)
+    module _ (b : ℕ) (is-b : b ≡ byte s (at + 1)) (code : byte s at ≡ 0x23)
         (named : Named) (N : NamesAt s (at + 2) named) (list : Walked) (L : WalksItems s allowed-in held-in brings (named .next .at) list)
         (inside outside wrong w : ℕ) (long : length brings ≡ 8) (U : United (list .inside) (list .gaps) brings inside)
         (O : TellsOutside at (named .names) (getD allowed-in (b % 64) 0) inside (getD held-in (b % 64) 0) outside)
@@ -129,6 +111,6 @@ module _ (s allowed-in held-in brings : List ℕ) where
       unfolding items
       element-item ruled zero depth end i e = never-unfinished e
       element-item ruled (suc f) depth end i e = elim (item-whole f Template ruled s depth at i end e) [
-        | inl q ↦ absurd (no-leaf (byte s at) (stood (q .next) (q .stands) .permitted) no-text no-gap (q .no-element))
+        | inl q ↦ absurd (q .no-element code)
         | inr q ↦ element-read ruled f depth end i q
       ]

@@ -1,17 +1,19 @@
 -- A list of items, one after the other.
-use Prim.Native.Nat.{ℕ, zero, suc, _+_, _≤_, _<_}
+use Prim.Native.Nat.{ℕ, zero, suc, _+_, _*_, _%_, _^_, _≤_, _<_}
 use native.Mathlib.Omega.{arith}
 use mathlib.Core.Path.{_≡_, refl, sym, ap, subst, _∙_}
 use mathlib.Core.List.{List}
-use mathlib.Core.Bool.{Bool, true, false, cond, _&&_, _||_, or-false, or-assoc}
+use mathlib.Core.Bool.{Bool, true, false, cond, _&&_, _||_, or-false, or-comm, or-assoc}
 use mathlib.Core.Logic.{inl, inr}
 use lib.ListN.{length}
 use lib.Dec.{eqb, ltb, leb}
 use borrow.Author.Tests.{leb-true}
 use Rattle.sets.specs.Sets.{member}
-use Rattle.sets.proofs.Laws.{member-zero}
+use Rattle.sets.proofs.Laws.{member-zero, member-single}
 use Rattle.commands.specs.declared.Context.the-variants.{TemplateItems}
-use Rattle.commands.specs.Commands.{byte, allowed}
+use Rattle.commands.specs.declared.Decoded.the-variants.{Moved}
+use Rattle.commands.specs.declared.Position.{Position}
+use Rattle.commands.specs.Commands.{byte, allowed, command}
 use Rattle.commands.specs.Reading.{whole}
 use Rattle.commands.proofs.Laws.{byte-past, moved}
 use Rattle.vocabularies.specs.Vocabulary.{Vocabulary, declared, isIn}
@@ -25,7 +27,7 @@ use Rattle.judging.specs.Promises.{wrongOf}
 use Rattle.summaries.specs.Summaries.{Summary}
 use Rattle.patterns.specs.Rounds.{Sets}
 use Rattle.patterns.specs.Shows.{lower, lowestMark}
-use Rattle.patterns.proofs.Tests.{and-right}
+use Rattle.patterns.proofs.Tests.{and-left, and-right}
 use Rattle.entries.specs.Gaps.{hasGap}
 use Rattle.reach.specs.declared.Walked.{Walked}
 use Rattle.reach.specs.Outlines.{gapAmong}
@@ -33,6 +35,7 @@ use Rattle.reach.specs.PlainlyWrong.{plainlyWrong}
 use Rattle.reach.specs.Walking.{RulesKept, Brings, WalksItem, WalksItems}
 use Rattle.reach.proofs.Marks.{lower-none, lower-first-of, mark-first}
 use Rattle.reach.proofs.Outlining.{in-first, gap-first}
+use Rattle.reach.proofs.ItemWalks.{text-item, gap-item}
 
 -- Where a list ends, and where an item stands.
 end-high : (depth : ℕ) → 0x26 ≤ endOf depth
@@ -49,17 +52,30 @@ has-more a b g both is = ap (λ (t : Bool). ltb g 8 && t) (is g) ∙ spread (ltb
     spread true u v = refl
     spread false u v = refl
 
+-- A set with no member more, and with one.
+or-zero : (set k : ℕ) → member set k ≡ (member set k || member 0 k)
+or-zero set k = sym (rw (member-zero k) (or-false (member set k)))
+
+or-single : (set i : ℕ) (t : Bool) (k : ℕ) → t ≡ (eqb k i || member set k) → t ≡ (member set k || member (1 * 2 ^ i) k)
+or-single set i t k e = e ∙ or-comm (eqb k i) (member set k) ∙ ap (λ (u : Bool). member set k || u) (sym (member-single i k))
+
 module _ (s allowed-in held-in brings : List ℕ) where
-  item-low : (ruled : ℕ → Bool) (f depth at : ℕ) (i : Item) (end : ℕ) → item f Template ruled s depth at ≡ whole i end → (at < length s) × (byte s at < 0x26)
+  item-begins : (ruled : ℕ → Bool) (f depth at : ℕ) (i : Item) (end : ℕ) → item f Template ruled s depth at ≡ whole i end
+      → (at < length s) × (0x21 ≤ byte s at) × (byte s at ≤ 0x23)
   unfolding items allowed
-  item-low ruled zero depth at i end e = never-unfinished e
-  item-low ruled (suc f) depth at i end e = elim (item-whole f Template ruled s depth at i end e) [
-    | inl q ↦ let m = moved TemplateItems s at (byte s at) (q .next) (q .stands) in (omega arith, low (m .permitted))
-    | inr q ↦ let m = moved TemplateItems s at (byte s at) (q .next) (q .stands) in (omega arith, low (m .permitted))
+  item-begins ruled zero depth at i end e = never-unfinished e
+  item-begins ruled (suc f) depth at i end e = elim (item-whole f Template ruled s depth at i end e) [
+    | inl q ↦ begins (q .next) (q .stands)
+    | inr q ↦ begins (q .next) (q .stands)
   ]
     where
-      low : (leb 0x21 (byte s at) && leb (byte s at) 0x23) ≡ true → byte s at < 0x26
-      low p = let h : byte s at ≤ 0x23 = leb-true (byte s at) 0x23 (and-right (leb 0x21 (byte s at)) (leb (byte s at) 0x23) p) in omega arith
+      begins : (next : Position) → command TemplateItems s at ≡ Moved (byte s at) next → (at < length s) × (0x21 ≤ byte s at) × (byte s at ≤ 0x23)
+      begins next stands =
+          let m = moved TemplateItems s at (byte s at) next stands in (
+            omega arith,
+            leb-true 0x21 (byte s at) (and-left (leb 0x21 (byte s at)) (leb (byte s at) 0x23) (m .permitted)),
+            leb-true (byte s at) 0x23 (and-right (leb 0x21 (byte s at)) (leb (byte s at) 0x23) (m .permitted)),
+          )
 
   -- What the items from an offset on add to what was walked over before.
   pub record Added (ruled : ℕ → Bool) (inside gaps wrong : ℕ) (φ : Items) (end : ℕ) (r : Walked) : Type 0 where
@@ -91,17 +107,19 @@ module _ (s allowed-in held-in brings : List ℕ) where
       no-more false u = refl
 
   module _ (inside gaps wrong at : ℕ) where
-    pub list-ends : 0x26 ≤ byte s at → Adds inside gaps wrong at (record { inside = inside; gaps = gaps; next = record { at = at + 1 }; wrong = wrong })
+    -- What begins no item ends the list.
+    pub list-ends : (byte s at ≡ 0x21 → ⊥) → (byte s at ≡ 0x22 → ⊥) → (byte s at ≡ 0x23 → ⊥)
+        → Adds inside gaps wrong at (record { inside = inside; gaps = gaps; next = record { at = at + 1 }; wrong = wrong })
     unfolding items word isIn gapAmong lowestMark
-    list-ends high ruled zero depth end φ e = never-unfinished e
-    list-ends high ruled (suc f) depth end φ e = elim (items-whole f Template ruled s depth at φ end e) [
+    list-ends no-text no-gap no-element ruled zero depth end φ e = never-unfinished e
+    list-ends no-text no-gap no-element ruled (suc f) depth end φ e = elim (items-whole f Template ruled s depth at φ end e) [
       | inl q ↦ rw (q .no-more) (record {
         ends = sym (q .after);
         contents = λ c. sym (or-false (member inside c));
         gaps-in = λ g. sym (or-false (hasGap gaps g));
         finds = λ φs G C n D rules brought ruled-are. sym (lower-none (wrongOf wrong));
       })
-      | inr q ↦ absurd (let low = item-low ruled f depth at (q .first) (q .next) (q .reads-first) in omega arith)
+      | inr q ↦ absurd (let b = item-begins ruled f depth at (q .first) (q .next) (q .reads-first) in omega arith)
     ]
 
     pub list-past : (r : Walked) → length s ≤ at → Adds inside gaps wrong at r
@@ -109,11 +127,11 @@ module _ (s allowed-in held-in brings : List ℕ) where
     list-past r past ruled zero depth end φ e = never-unfinished e
     list-past r past ruled (suc f) depth end φ e = elim (items-whole f Template ruled s depth at φ end e) [
       | inl q ↦ absurd (let z : byte s at ≡ 0 = byte-past s at past in let k = q .ended in let h = end-high depth in omega arith)
-      | inr q ↦ absurd (let low = item-low ruled f depth at (q .first) (q .next) (q .reads-first) in omega arith)
+      | inr q ↦ absurd (let b = item-begins ruled f depth at (q .first) (q .next) (q .reads-first) in omega arith)
     ]
 
     -- An item, and then the others.
-    module _ (i : Walked) (inside′ gaps′ wrong′ : ℕ) (low : byte s at < 0x26) (I : WalksItem s allowed-in held-in brings at i)
+    module _ (i : Walked) (inside′ gaps′ wrong′ : ℕ) (low : byte s at ≤ 0x23) (I : WalksItem s allowed-in held-in brings at i)
         (is-inside : (k : ℕ) → member inside′ k ≡ (member inside k || member (i .inside) k)) (is-gaps : (k : ℕ) → member gaps′ k ≡ (member gaps k || member (i .gaps) k))
         (is-wrong : wrongOf wrong′ ≡ lower (wrongOf wrong) (wrongOf (i .wrong))) where
       pub list-more : (r : Walked) → Adds inside′ gaps′ wrong′ (i .next .at) r → Adds inside gaps wrong at r
@@ -135,6 +153,18 @@ module _ (s allowed-in held-in brings : List ℕ) where
                   ∙ ap (lower (wrongOf wrong)) (sym (mark-first p (q .first) (q .rest)));
             })
       ]
+
+    pub list-text : byte s at ≡ 0x21 → (inside′ : ℕ) → ((k : ℕ) → member inside′ k ≡ (eqb k 0 || member inside k))
+        → (r : Walked) → Adds inside′ gaps wrong (at + 1) r → Adds inside gaps wrong at r
+    list-text code inside′ is-inside =
+        list-more (record { inside = 1; gaps = 0; next = record { at = at + 1 }; wrong = 0 }) inside′ gaps wrong (omega arith) (text-item s allowed-in held-in brings at code)
+        (λ k. or-single inside 0 (member inside′ k) k (is-inside k)) (or-zero gaps) (sym (lower-none (wrongOf wrong)))
+
+    pub list-gap : byte s at ≡ 0x22 → (b gaps′ : ℕ) → b ≡ byte s (at + 1) → ((k : ℕ) → member gaps′ k ≡ (eqb k (b % 8) || member gaps k))
+        → (r : Walked) → Adds inside gaps′ wrong (at + 2) r → Adds inside gaps wrong at r
+    list-gap code b gaps′ is-b is-gaps =
+        list-more (record { inside = 0; gaps = 1 * 2 ^ (b % 8); next = record { at = at + 2 }; wrong = 0 }) inside gaps′ wrong (omega arith) (gap-item s allowed-in held-in brings at b code is-b)
+        (or-zero inside) (λ k. or-single gaps (b % 8) (member gaps′ k) k (is-gaps k)) (sym (lower-none (wrongOf wrong)))
 
   -- Where walking has come: what the items from here on add is what all of them add to nothing.
   pub record Going (first at inside gaps wrong : ℕ) : Type 0 where

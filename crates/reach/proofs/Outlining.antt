@@ -1,5 +1,5 @@
 -- Outlines of items, and the contents that can stand among them.
-use Prim.Native.Nat.{ℕ, _≤_, _<_}
+use Prim.Native.Nat.{ℕ, _*_, _^_, _≤_, _<_}
 use native.Mathlib.Omega.{arith}
 use mathlib.Core.Path.{_≡_, refl, sym, ap, subst, _∙_}
 use mathlib.Core.List.{List}
@@ -43,11 +43,11 @@ gap-is k g h = same-test (eqb k g) (ltb g 8 && eqb g k)
     (λ e. let q : k ≡ g = eqb-true k g e in and-both (lt-ltb g 8 (omega arith)) (subst (λ (n : ℕ). eqb n k ≡ true) q (eqb-same k)))
     (λ e. let q : g ≡ k = eqb-true g k (and-right (ltb g 8) (eqb g k) e) in subst (λ (n : ℕ). eqb k n ≡ true) (sym q) (eqb-same k))
 
-pub outline-gap : (k w : ℕ) → k < 8 → ((i : ℕ) → member w i ≡ (eqb i k || member 0 i)) → Outline (one (gap k)) 0 w
+pub outline-gap : (k : ℕ) → k < 8 → Outline (one (gap k)) 0 (1 * 2 ^ k)
 unfolding word wordItem isIn gapAmong
-outline-gap k w h is = record {
+outline-gap k h = record {
   contents = λ c. member-zero c;
-  gaps = λ g. or-false (eqb k g) ∙ gap-is k g h ∙ ap (λ (b : Bool). ltb g 8 && b) (sym (alone w k is g ∙ or-false (eqb g k)));
+  gaps = λ g. or-false (eqb k g) ∙ gap-is k g h ∙ ap (λ (b : Bool). ltb g 8 && b) (sym (member-single k g));
 }
 
 pub outline-element : (e mark w : ℕ) (δ : List Attribute) (φ : Items) → ((i : ℕ) → member w i ≡ (eqb i e || member 0 i)) → Outline (one (element e mark δ φ)) w 0

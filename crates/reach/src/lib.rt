@@ -7,7 +7,7 @@ ghost use Prim.Native.Nat.{ℕ, _^_, _≤_, _<_};
 ghost use lib.Dec.{eqb};
 ghost use lib.ListN.{length};
 ghost use Rattle.sets.specs.Sets.{member};
-ghost use Rattle.commands.specs.Commands.{allowed};
+ghost use Rattle.commands.specs.Commands.{byte, allowed};
 ghost use Rattle.pages.specs.Items.{Items};
 ghost use Rattle.summaries.specs.Summaries.{Summary};
 ghost use Rattle.judging.specs.Promises.{wrongOf};
@@ -142,19 +142,6 @@ pub struct Walked {
     pub wrong: usize,
 }
 
-impl Walked {
-    fn leaf(inside: u64, gaps: u64, at: usize) -> Self
-        ensures { λ r. ⌜ r ≡ record { inside = inside; gaps = gaps; next = record { at = at }; wrong = 0 } ⌝ }
-    {
-        Walked {
-            inside,
-            gaps,
-            next: Position { at },
-            wrong: 0,
-        }
-    }
-}
-
 fn is_attribute(code: u8) -> bool
     ensures { λ r. ⌜ r ≡ allowed Context.TemplateAttributes code ⌝ }
 {
@@ -198,30 +185,20 @@ fn outside_at(at: usize, names: u64, attributes: u64, inside: u64, contents: u64
     0
 }
 
-// The item here, under the rules whose tables are given; `brings` has the contents that each gap can bring.
-fn walk_item(
+// The element here, under the rules whose tables are given; `brings` has the contents that each gap can bring.
+fn walk_element(
     s: &[u8],
     attributes: &[u64; 64],
     contents: &[u64; 64],
     brings: &[u64; 8],
     here: Position,
 ) -> Walked
-    ensures forward { λ r. ⌜ (here .at < length (now (s .entry)) → here .at < r .next .at) ⌝ }
+    requires { ⌜ (here .at < length (now s)) × (byte (now s) (here .at) ≡ 0x23) ⌝ }
+    ensures forward { λ r. ⌜ here .at < r .next .at ⌝ }
     ensures walked { λ r. ⌜ WalksItem (now (s .entry)) (now (attributes .entry)) (now (contents .entry)) (now (brings .entry)) (here .at) r ⌝ }
 {
     let at = here.at;
-    if s.len() <= at {
-        return Walked::leaf(0, 0, at);
-    }
-    let code = s[at];
-    if code == 0x21 {
-        return Walked::leaf(1, 0, at + 1);
-    }
-    let operand = commands::byte_at(s, at + 1);
-    if code == 0x22 {
-        return Walked::leaf(0, sets::with(0, operand % 8), at + 2);
-    }
-    let e = operand % 64;
+    let e = commands::byte_at(s, at + 1) % 64;
     let k = e as usize;
     let named = names_at(s, Position { at: at + 2 });
     let start = named.next;
@@ -237,7 +214,7 @@ fn walk_item(
     }
 }
 
-// The items from here on, up to `26` or `27`.
+// The items from here on, up to and with what ends them.
 fn walk_items(
     s: &[u8],
     attributes: &[u64; 64],
@@ -253,20 +230,32 @@ fn walk_items(
     let mut gaps: u64 = 0;
     let mut wrong: usize = 0;
     while at < s.len() {
-        if 0x26 <= s[at] {
-            return Walked {
-                inside,
-                gaps,
-                next: Position { at: at + 1 },
-                wrong,
-            };
+        match s[at] {
+            0x21 => {
+                inside = sets::with(inside, 0);
+                at += 1;
+            }
+            0x22 => {
+                gaps = sets::with(gaps, commands::byte_at(s, at + 1) % 8);
+                at += 2;
+            }
+            0x23 => {
+                let element = walk_element(s, attributes, contents, brings, Position { at });
+                inside = sets::union(inside, element.inside);
+                gaps = sets::union(gaps, element.gaps);
+                wrong = lower(wrong, element.wrong);
+                let next = element.next;
+                at = next.at;
+            }
+            _ => {
+                return Walked {
+                    inside,
+                    gaps,
+                    next: Position { at: at + 1 },
+                    wrong,
+                };
+            }
         }
-        let item = walk_item(s, attributes, contents, brings, Position { at });
-        inside = sets::union(inside, item.inside);
-        gaps = sets::union(gaps, item.gaps);
-        wrong = lower(wrong, item.wrong);
-        let next = item.next;
-        at = next.at;
     }
     Walked {
         inside,

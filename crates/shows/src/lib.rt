@@ -38,7 +38,9 @@ pub fn shown_words(s: &[u8], heads: &[usize; 256], place: usize, p: usize) -> [u
 {
     let here = Position { at: place };
     let x = here.operand(s, 1) as usize;
-    languages::close(entries::load(s, covering::template_head(heads, p, x)))
+    let mut words = entries::load(s, covering::template_head(heads, p, x));
+    languages::close(&mut words);
+    words
 }
 
 // What is worked out of the templates, whose gaps are given, once for all shows.

@@ -34,6 +34,9 @@ returns-2 c =
     let u = c .before .is-within2 in
     (contents-fail _ _ _ _ _ _ _ _ _ _ (w .ensures) (not-false (w .result) (c .before .before .before .if1 .left)) (u .ensures) (not-true (u .result) (c .if2 .taken)), c .before .before .before .before .before .before .before .pre .1)
 
+shape-place-requires : tie.Need-shape-place-requires
+shape-place-requires c κs = search needs
+
 sure-from-requires : tie.Need-sure-from-requires
 sure-from-requires c κs = search needs
 
@@ -47,13 +50,13 @@ all-hold-requires : tie.Need-all-hold-requires
 all-hold-requires c κs = search needs
 
 remember-requires : tie.Need-remember-requires
-remember-requires c κs = (c .before .before .before .before .before .before .before .before .before .before .before .before .pre .0, c .before .before .before .before .before .before .before .before .before .before .before .before .pre .1, c .before .all-hold .ensures .1)
+remember-requires c κs = (c .before .before .before .before .before .shape-place .ensures, c .before .before .before .before .before .before .before .before .before .before .before .before .before .pre .1, c .before .all-hold .ensures .1)
 
 returns-3 : tie.Need-returns-3
 returns-3 c =
-    let w = c .before .before .before .before .before .before .before .before .before .before .is-within in
-    let u = c .before .before .before .before .before .before .before .is-within2 in (
-      clauses-decide _ _ _ _ _ _ _ _ _ _ _ (w .ensures) (not-false (w .result) (c .before .before .before .before .before .before .before .before .before .if1 .left)) (u .ensures) (not-false (u .result) (c .before .before .before .before .before .before .if2 .left))
+    let w = c .before .before .before .before .before .before .before .before .before .before .before .is-within in
+    let u = c .before .before .before .before .before .before .before .before .is-within2 in (
+      clauses-decide _ _ _ _ _ _ _ _ _ _ _ (w .ensures) (not-false (w .result) (c .before .before .before .before .before .before .before .before .before .before .if1 .left)) (u .ensures) (not-false (u .result) (c .before .before .before .before .before .before .before .if2 .left))
           (c .before .before .all-hold .ensures .0),
       c .remember .ensures,
     )
@@ -70,6 +73,7 @@ is-right-spec =
     element-copy-out-is-within-2
     is-within-requires-2
     returns-2
+    shape-place-requires
     sure-from-requires
     mul-all-hold
     element-copy-out-all-hold

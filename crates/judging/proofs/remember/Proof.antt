@@ -31,7 +31,7 @@ element-write-shapes-3 c = search needs
 returns : tie.Need-returns
 returns c =
     let a = c .args in
-    remembered-more (a .v .now) (a .names) (a .inside) (a .shapes .now) (a .e) (a .sure) (c .pre .1) (c .pre .0) (c .pre .2)
+    remembered-more (a .v .now) (a .names) (a .inside) (a .shapes .now) (a .place) (a .sure) (c .pre .1) (c .pre .0) (c .pre .2)
 
 pub remember-spec : {M : Type 1} → statement M
 remember-spec =

@@ -56,7 +56,7 @@ element-copy-out-result c = search needs
 returns-4 : tie.Need-returns-4
 returns-4 c =
     let a = c .before .before .before .before .before .before .before .args in
-    known-settled (a .v .now) (a .names) (a .inside) (a .shapes .now) (a .e) (c .before .before .before .before .before .before .before .pre .1) (c .before .before .before .before .before .before .before .pre .0) (c .before .before .before .before .before .if1 .left) (c .before .before .before .if2 .left) (c .before .if3 .left)
+    known-settled (a .v .now) (a .names) (a .inside) (a .shapes .now) (a .place) (c .before .before .before .before .before .before .before .pre .1) (c .before .before .before .before .before .before .before .pre .0) (c .before .before .before .before .before .if1 .left) (c .before .before .before .if2 .left) (c .before .if3 .left)
 
 pub sure-from-spec : {M : Type 1} → statement M
 sure-from-spec =
