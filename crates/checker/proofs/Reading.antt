@@ -42,20 +42,20 @@ module _ (s : List ℕ) (j : Job) (end : ℕ) (reads : job s ≡ whole j end) wh
   covered r h e = subst (Covers j) e h
 
   -- The gaps of its templates.
-  pub gaps-table : (read : JobRead) → JobKept s j read → (gaps : List ℕ)
+  pub gaps-table : (heads : List ℕ) (read : JobRead) → JobKept s heads j read → (gaps : List ℕ)
       → ((φs : List Items) → StartsAt s φs (read .templates .starts) → read .templates .count ≡ length φs → (t : ℕ) → t ≤ read .templates .count → t < 32 → GapsAre (getD gaps t 0) (templateAt φs t))
       → GapsTable gaps (j .templates)
-  gaps-table read K gaps told t l =
-      let T = tables-of s j end read reads K in
+  gaps-table heads read K gaps told t l =
+      let T = tables-of s heads j end read reads K in
       let few = T .few-templates in
       let is = T .count-is in
       told (j .templates) (T .start) is t (omega (arith, l, is)) (omega (arith, l, is, few))
 
   -- What is known of its parts.
-  pub read-at : (read : JobRead) → JobKept s j read → (gaps : List ℕ) → GapsTable gaps (j .templates) → (templates : TemplateTables) → TabledBy s gaps (read .templates .starts) (read .templates .count) templates
-      → ReadAt s (read .tables) templates (read .templates .count) (read .templates .starts) (read .program .count) (read .program .places) (read .proposal .heads) j
-  read-at read K gaps table templates tabled =
-      let T = tables-of s j end read reads K in
+  pub read-at : (heads : List ℕ) (read : JobRead) → JobKept s heads j read → (gaps : List ℕ) → GapsTable gaps (j .templates) → (templates : TemplateTables) → TabledBy s gaps (read .templates .starts) (read .templates .count) templates
+      → ReadAt s (read .tables) templates (read .templates .count) (read .templates .starts) (read .program .count) (read .program .places) heads j
+  read-at heads read K gaps table templates tabled =
+      let T = tables-of s heads j end read reads K in
       record {
         end = end;
         reads = reads;
@@ -67,13 +67,13 @@ module _ (s : List ℕ) (j : Job) (end : ℕ) (reads : job s ≡ whole j end) wh
       }
 
 -- 1 to 8.
-pub refused : (s : List ℕ) (r : JobRead) → JobReads s r → (f : Form) (at : ℕ) → r .part ≡ Refused f at → (v : Verdict)
+pub refused : (s heads : List ℕ) (r : JobRead) → JobReads s heads r → (f : Form) (at : ℕ) → r .part ≡ Refused f at → (v : Verdict)
     → v ≡ Verdicts.Refused (Refusals.Form f (record { at = at; slice = 0 })) → JobVerdict s v
-refused s r h f at e v is = rw is (unreadable (agrees-refuses (λ j end. JobKept s j r) (job s) (r .part) f at e h))
+refused s heads r h f at e v is = rw is (unreadable (agrees-refuses (λ j end. JobKept s heads j r) (job s) (r .part) f at e h))
 
 -- A job that was read whole has the verdict that is found for it.
-pub read-whole : (s : List ℕ) (r : JobRead) → JobReads s r → (p : Position) → r .part ≡ Whole p → (v : Verdict)
-    → ((j : Job) (end : ℕ) → job s ≡ whole j end → JobKept s j r → JobVerdict s v) → JobVerdict s v
-read-whole s r h p e v found =
-    let w = agrees-whole (λ j end. JobKept s j r) (job s) (r .part) p e h in
+pub read-whole : (s heads : List ℕ) (r : JobRead) → JobReads s heads r → (p : Position) → r .part ≡ Whole p → (v : Verdict)
+    → ((j : Job) (end : ℕ) → job s ≡ whole j end → JobKept s heads j r → JobVerdict s v) → JobVerdict s v
+read-whole s heads r h p e v found =
+    let w = agrees-whole (λ j end. JobKept s heads j r) (job s) (r .part) p e h in
     found (w .tree) (w .end) (w .reads) (w .holds)

@@ -1,6 +1,5 @@
 // The check of a job (document 01, "Verdicts", Check a job): its reading, its covering, and each show in turn.
 ghost use mathlib.Core.Path.{_≡_};
-ghost use mathlib.Core.List.{List};
 ghost use mathlib.Core.Bool.{true};
 ghost use Prim.Native.Nat.{ℕ};
 ghost use Rattle.commands.specs.Reading.{whole};
@@ -78,7 +77,8 @@ fn other_show(
     while q < points {
         let at = places[q % 32];
         if shows::is_show(s, at) {
-            let others = shows::shown_words(s, heads, at, q);
+            let mut others = [0u64; 544];
+            shows::shown_words(s, heads, at, q, &mut others);
             if !same_words(words, &others) {
                 return q;
             }
@@ -105,7 +105,8 @@ fn first_fault(
     while p < points {
         let place = places[p % 32];
         if shows::is_show(s, place) {
-            let words = shows::shown_words(s, heads, place, p);
+            let mut words = [0u64; 544];
+            shows::shown_words(s, heads, place, p, &mut words);
             let found = shows::decide(s, rules, templates, count, starts, &words);
             let verdict = fault_at(p, found);
             let Verdict::Accepted = verdict else {
@@ -120,16 +121,15 @@ fn first_fault(
 }
 
 // The verdict of a job that was read: 9 and 10, then the shows.
-fn check_read(s: &[u8], read: JobRead) -> Verdict
-    ensures { λ r. ⌜ ((j : Job) (end : ℕ) → job (now (s .entry)) ≡ whole j end → JobKept (now (s .entry)) j read → JobVerdict (now (s .entry)) r) ⌝ }
+fn check_read(s: &[u8], heads: &[usize; 256], read: JobRead) -> Verdict
+    ensures { λ r. ⌜ ((j : Job) (end : ℕ) → job (now (s .entry)) ≡ whole j end → JobKept (now (s .entry)) (now (heads .entry)) j read → JobVerdict (now (s .entry)) r) ⌝ }
 {
     let count = read.templates.count;
     let starts = read.templates.starts;
     let points = read.program.count;
     let places = read.program.places;
-    let heads = read.proposal.heads;
     let gaps = entries::gaps_of(s, &starts, count);
-    let covering = covering::first_uncovered(s, &gaps, points, &places, read.program.named, &heads);
+    let covering = covering::first_uncovered(s, &gaps, points, &places, read.program.named, heads);
     match covering {
         Covering::Uncovered(cover) => Verdict::Refused(Refusal::Cover(cover)),
         Covering::Covered => {
@@ -142,7 +142,7 @@ fn check_read(s: &[u8], read: JobRead) -> Verdict
                 &starts,
                 points,
                 &places,
-                &heads,
+                heads,
             )
         }
     }
@@ -155,10 +155,11 @@ pub fn check(job: &[u8]) -> Verdict
     ensures untouched { λ _. ⌜ now (job .exit) ≡ now (job .entry) ⌝ }
     ensures shows_only_right_pages { λ r. ⌜ Guarantee (now (job .entry)) r ⌝ }
 {
-    let read = jobs::read_job(job);
+    let mut heads = [0usize; 256];
+    let read = jobs::read_job(job, &mut heads);
     let part = read.part;
     match part {
-        Part::Whole(_) => check_read(job, read),
+        Part::Whole(_) => check_read(job, &heads, read),
         Part::Refused(form, at) => unreadable(form, at),
     }
 }

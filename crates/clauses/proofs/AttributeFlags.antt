@@ -1,8 +1,8 @@
 -- The flags that one attribute gives: only to the facts about its name.
-use Prim.Native.Nat.{ℕ, zero, suc, _+_, _-_, _*_, _^_, _<_, _≤_}
+use Prim.Native.Nat.{ℕ, suc, _+_, _-_, _*_, _^_, _<_, _≤_}
 use mathlib.Core.Path.{_≡_, refl, sym, ap, _∙_}
 use mathlib.Core.List.{List, [], _∷_}
-use mathlib.Core.Bool.{Bool, true, false, cond, not, _&&_, _||_, and-true, or-false}
+use mathlib.Core.Bool.{Bool, true, false, cond, not, _&&_, and-true, or-false}
 use native.Mathlib.Omega.{arith}
 use lib.ListN.{length, getD, drop}
 use lib.Seq.{drop-cons, drop-length}
@@ -18,7 +18,7 @@ use Rattle.judging.specs.Judgement.{precedes, holdsValue}
 use Rattle.patterns.specs.Patterns.{flagged, numbered, patternOf}
 use Rattle.readings.specs.Promises.{OfFacts}
 use Rattle.readings.proofs.Placing.{few-count}
-use Rattle.clauses.specs.Promises.{alone, Flags, IsPattern, agree, NarrowsAt}
+use Rattle.clauses.specs.Promises.{alone, Flags, IsPattern, NarrowsAt}
 
 -- The fact is about the attribute, or is not.
 not-valued : (a s : ℕ) (f : Fact) (kind first second : ℕ) → Written f kind first second → (kind ≡ 2 → ⊥) → flagged (alone a s) [] f ≡ false

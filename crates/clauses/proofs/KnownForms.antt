@@ -1,7 +1,7 @@
 -- The assignments under which a formula is known to have one truth value, form by form.
 use Prim.Native.Nat.{ℕ, zero, suc, _+_, _*_, _/_, _%_, _^_, _<_, _≤_}
 use mathlib.Core.Path.{_≡_, refl, sym, ap, subst, _∙_}
-use mathlib.Core.List.{List, [], _∷_}
+use mathlib.Core.List.{List}
 use mathlib.Core.Bool.{Bool, true, false, cond, not, _&&_, _||_, false≢true}
 use native.Mathlib.Omega.{arith}
 use lib.ListN.{length, getD, set, length-set}
@@ -27,8 +27,7 @@ use Rattle.pattern_sets.specs.PatternSets.{holds}
 use Rattle.pattern_sets.specs.Images.{AllFlagged}
 use Rattle.pattern_sets.proofs.Tables.{all-members}
 use Rattle.clauses.specs.declared.Known.{Known}
-use Rattle.clauses.specs.declared.Holding.{Holding}
-use Rattle.clauses.specs.Leaves.{NamesBetween, AtomsBetween, leafTruth, LeafIs, SameLeaf, Assigned, PutsLeaf, PlacesLeaf, LeafSet, Grows, SureTruth, KnowsLeaf, KnowsValue, NamedSet, Judged, Knows, meets, AlwaysHolds}
+use Rattle.clauses.specs.Leaves.{NamesBetween, AtomsBetween, leafTruth, SameLeaf, Assigned, PutsLeaf, PlacesLeaf, LeafSet, Grows, SureTruth, KnowsLeaf, KnowsValue, NamedSet, Knows, meets, AlwaysHolds}
 
 -- ---- truth values
 

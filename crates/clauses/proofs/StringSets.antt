@@ -1,8 +1,8 @@
 -- Stepping through strings: strings alike have one pattern, and all patterns are met.
-use Prim.Native.Nat.{ℕ, zero, suc, _+_, _^_, _<_, _≤_}
+use Prim.Native.Nat.{ℕ, suc, _+_, _^_, _<_, _≤_}
 use mathlib.Core.Path.{_≡_, refl, sym, ap, subst, _∙_}
 use mathlib.Core.List.{List, [], _∷_}
-use mathlib.Core.Bool.{Bool, true, false, not, _&&_, _||_, false≢true, true≢false}
+use mathlib.Core.Bool.{Bool, true, false, not, _&&_, _||_, false≢true}
 use mathlib.Core.Logic.{_⊎_, inl, inr, ⊎-elim}
 use native.Mathlib.Decide.{ℕ-discrete}
 use native.Mathlib.Omega.{arith}
@@ -17,16 +17,16 @@ use Rattle.vocabularies.specs.Facts.{Fact, present}
 use Rattle.vocabularies.specs.Promises.{Represents}
 use Rattle.patterns.specs.Patterns.{flagged, numbered, patternOf}
 use Rattle.patterns.specs.Morphisms.{factMorphism}
-use Rattle.patterns.specs.Rounds.{only, anyBelow, anyNamed}
+use Rattle.patterns.specs.Rounds.{only, anyNamed}
 use Rattle.patterns.specs.Elements.{attributePattern}
-use Rattle.patterns.proofs.Tests.{or-left, or-right, or-cases, and-both, and-left, and-right, either, same-test, failed, any-below, below-any}
+use Rattle.patterns.proofs.Tests.{or-left, or-right, or-cases, and-both, and-left, and-right, same-test, failed, any-below, below-any}
 use Rattle.patterns.proofs.Clauses.{pattern-below}
 use Rattle.pattern_sets.specs.PatternSets.{holds, FirstMember}
 use Rattle.pattern_sets.proofs.Tables.{all-members}
 use Rattle.readings.specs.Readings.{Is}
 use Rattle.readings.specs.Promises.{OfFacts}
 use Rattle.readings.proofs.Placing.{few-count}
-use Rattle.clauses.specs.Promises.{alone, agree, NarrowsAt, Alike, WithPatterns, AddsPatterns, ValuePatterns}
+use Rattle.clauses.specs.Promises.{alone, agree, NarrowsAt, Alike, WithPatterns}
 
 -- ---- strings alike
 

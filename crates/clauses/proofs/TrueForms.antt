@@ -9,22 +9,19 @@ use lib.Dec.{T, ltb}
 use lib.Pow.{pow-pos, pow-mono}
 use borrow.Author.Tests.{ltb-true, ltb-false}
 use Rattle.sets.specs.Sets.{member}
-use Rattle.commands.specs.declared.Position.{Position}
 use Rattle.commands.specs.Commands.{byte, setAt}
 use Rattle.vocabularies.specs.Vocabulary.{isIn}
 use Rattle.vocabularies.specs.declared.Facts.{Facts}
 use Rattle.vocabularies.specs.Facts.{Fact, present, ordered, valued}
-use Rattle.vocabularies.specs.Promises.{Written}
 use Rattle.judging.specs.Judgement.{truthOf}
-use Rattle.judging.specs.Promises.{Holds}
 use Rattle.judging.proofs.Formulas.{conj-holds, disj-holds, neg-holds, truth-holds, attr-holds, content-holds, order-holds, value-holds, past-holds, none-holds}
 use Rattle.patterns.specs.Patterns.{flagIn, atomsBy}
 use Rattle.patterns.specs.Rounds.{anyBelow}
 use Rattle.patterns.proofs.Tests.{and-left, failed, any-below, below-any}
 use Rattle.pattern_sets.specs.PatternSets.{holds, IsEmpty}
 use Rattle.pattern_sets.specs.Images.{AllFlagged}
-use Rattle.pattern_sets.proofs.Tables.{allBelow, below, passed}
-use Rattle.readings.specs.Promises.{OfFacts, Places}
+use Rattle.pattern_sets.proofs.Tables.{below, passed}
+use Rattle.readings.specs.Promises.{Places}
 use Rattle.readings.proofs.FactPlaces.{flag-placed}
 use Rattle.clauses.specs.declared.Truths.{Truths}
 use Rattle.clauses.specs.Promises.{FlaggedBy, IsUnbroken, IsValued, TruePatterns, ClauseFails}

@@ -9,6 +9,7 @@ ghost use Rattle.pattern_sets.specs.PatternSets.{holds, FirstMember};
 ghost use Rattle.clauses.specs.Promises.{Flags, IsPattern, NarrowsAt, Alike, AddsPatterns, ValuePatterns, FlaggedBy, IsUnbroken, IsValued, TruePatterns, ClauseFails};
 ghost use Rattle.clauses.specs.Leaves.{meets, PutsLeaf, PlacesLeaf, LeafSet, KnowsLeaf, KnowsValue, NamedSet, Knows, AlwaysHolds};
 use commands::Position;
+use judging::is_member;
 use vocabularies::Facts;
 use vocabularies::ORDERED;
 use vocabularies::PRESENT;
@@ -16,16 +17,6 @@ use vocabularies::VALUED;
 
 // The string that stands for all outside the named ones.
 const OUTSIDE: u8 = 64;
-
-// No number above 63 is a member.
-fn is_member(set: u64, i: u8) -> bool
-    ensures { λ r. ⌜ r ≡ member set i ⌝ }
-{
-    if 64 <= i {
-        return false;
-    }
-    sets::has(set, i)
-}
 
 // The flag that attribute a with string s alone gives the fact at a place.
 fn flag_at(facts: Facts, i: usize, a: u8, s: u8) -> bool

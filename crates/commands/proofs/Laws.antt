@@ -137,12 +137,6 @@ module _ {A : Type 0} where
       → (code : ℕ) × (next : Position) × (command x s at ≡ Moved code next) × (k code (next .at) ≡ whole b end)
   onCommand-whole x s at k b end e = onDecoded-whole (command x s at) k b end e
 
-  pub when-true : (t : Bool) (yes′ no′ : Unit {0} → Read A) → t ≡ true → when t yes′ no′ ≡ yes′ tt
-  when-true t yes′ no′ e = rw e
-
-  pub when-false : (t : Bool) (yes′ no′ : Unit {0} → Read A) → t ≡ false → when t yes′ no′ ≡ no′ tt
-  when-false t yes′ no′ e = rw e
-
   -- A choice whose second side is a refusal.
   pub when-whole : (t : Bool) (yes′ : Unit {0} → Read A) (f : Form) (at : ℕ) (b : A) (end : ℕ) → when t yes′ (λ _. refused f at) ≡ whole b end
       → (t ≡ true) × (yes′ tt ≡ whole b end)

@@ -1,17 +1,15 @@
 -- What reading a job keeps of it is what the check of its covering asks for.
-use Prim.Native.Nat.{ℕ, zero, suc, _+_, _*_, _-_, _≤_, _<_}
+use Prim.Native.Nat.{ℕ, zero, suc, _+_, _-_, _≤_, _<_}
 use mathlib.Core.Path.{_≡_, refl, sym, ap, _∙_, subst}
 use mathlib.Core.Logic.{_⊎_, inl, inr}
 use mathlib.Core.List.{List, [], _∷_}
-use mathlib.Core.Bool.{Bool, true, false, cond, _||_, false≢true}
-use native.Mathlib.Nat.{le-of-suc-le-suc}
+use mathlib.Core.Bool.{Bool, true, false, cond}
 use native.Mathlib.Omega.{arith}
 use lib.ListN.{length, getD}
 use lib.Dec.{eqb, leb, ltb}
 use borrow.Author.Tests.{eqb-true, eqb-false, lt-ltb, le-ltb, ltb-true, ltb-false}
 use Rattle.verdicts.specs.declared.Form.the-variants.{TooLong, NotAllowed}
 use Rattle.sets.specs.Sets.{member}
-use Rattle.commands.specs.declared.Context.{Context}
 use Rattle.commands.specs.declared.Context.the-variants.{Rules, TemplateFacts, StringFacts}
 use Rattle.commands.specs.Commands.{byte, allowed}
 use Rattle.commands.specs.Reading.{Read, whole, refused, andThen, when, enough}
@@ -25,7 +23,7 @@ use Rattle.pages.proofs.Whole.{never-unfinished, templates-whole}
 use Rattle.programs.specs.Program.{Statement, strings, templateAt, named}
 use Rattle.programs.specs.Program as Program
 use Rattle.programs.specs.ProgramReading.{program}
-use Rattle.programs.specs.Promises.{Names, Tabled}
+use Rattle.programs.specs.Promises.{Names}
 use Rattle.summaries.specs.Proposal.{Head}
 use Rattle.summaries.specs.ProposalReading.{variableOf, factContext, proposal}
 use Rattle.summaries.specs.Summaries.{under}
@@ -34,7 +32,7 @@ use Rattle.jobs.specs.declared.JobRead.{JobRead}
 use Rattle.jobs.specs.Job.{Job, job}
 use Rattle.jobs.specs.Promises.{JobKept}
 use Rattle.entries.specs.Listed.{Listed}
-use Rattle.entries.specs.Gaps.{ItemsStand, StartsAt}
+use Rattle.entries.specs.Gaps.{StartsAt}
 use Rattle.entries.proofs.Tests.{or-cases}
 use Rattle.entries.proofs.Reading.{facts-listed}
 use Rattle.covering.specs.Tables.{EntriesAt, NamesAre, Tables}
@@ -165,9 +163,9 @@ names-are j names N v l = go (ltb v 4) refl
         rw q at (N .holds (strings (v - 4)) (omega arith))
 
 -- What `first_uncovered` asks for, of a job that was read.
-pub tables-of : (s : List ℕ) (j : Job) (end : ℕ) (r : JobRead) → job s ≡ whole j end → JobKept s j r
-    → Tables j s (r .templates .count) (r .templates .starts) (r .program .count) (r .program .places) (r .program .named) (r .proposal .heads)
-tables-of s j end r e K =
+pub tables-of : (s heads : List ℕ) (j : Job) (end : ℕ) (r : JobRead) → job s ≡ whole j end → JobKept s heads j r
+    → Tables j s (r .templates .count) (r .templates .starts) (r .program .count) (r .program .places) (r .program .named) heads
+tables-of s heads j end r e K =
     let W = read-whole s j end e in
     let L = K .templates in
     let P = K .program in

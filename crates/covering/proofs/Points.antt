@@ -1,23 +1,22 @@
 -- The steps of a point: none at `38`, else one to each of two next points.
 use Prim.Native.Nat.{ℕ, _+_, _≤_, _<_}
-use mathlib.Core.Path.{_≡_, refl, sym, ap, _∙_}
+use mathlib.Core.Path.{_≡_, refl, sym, _∙_}
 use mathlib.Core.List.{List}
 use mathlib.Core.Bool.{Bool, true, false, cond, _&&_, false≢true}
 use native.Mathlib.Omega.{arith}
-use lib.ListN.{length, getD}
+use lib.ListN.{getD}
 use lib.Dec.{ltb}
 use borrow.Author.Tests.{ltb-true}
 use Rattle.commands.specs.Commands.{byte}
-use Rattle.programs.specs.Program.{Act, Statement, step, stop, statementAt}
-use Rattle.programs.specs.ProgramReading.{statementOf, statementRead, pointsThere}
+use Rattle.programs.specs.Program.{Act, step, stop, statementAt}
 use Rattle.summaries.specs.ProposalReading.{variableOf}
 use Rattle.summaries.specs.Covering.{StepCovered}
 use Rattle.jobs.specs.Job.{Job}
-use Rattle.jobs.specs.JobVerdict.{StatementHolds, StepHolds, nextOf}
+use Rattle.jobs.specs.JobVerdict.{StepHolds, nextOf}
 use Rattle.entries.proofs.Tests.{and-left, and-right}
-use Rattle.covering.specs.declared.Covering.the-variants.{Covered, Uncovered}
+use Rattle.covering.specs.declared.Covering.the-variants.{Covered}
 use Rattle.entries.specs.Gaps.{GapsTable}
-use Rattle.covering.specs.Tables.{EntriesAt, StatementStands, Tables, PointAt, StepAt}
+use Rattle.covering.specs.Tables.{StatementStands, Tables, PointAt, StepAt}
 use Rattle.covering.specs.Promises.{Lowest, PointUncovered, PointCovers, NextsAt}
 
 module _ (j : Job) (s : List ℕ) (count : ℕ) (starts : List ℕ) (points : ℕ) (places : List ℕ) (names : ℕ) (heads : List ℕ)

@@ -1,22 +1,17 @@
 -- Statements by their commands: what their transfer functions give a variable, from the operands.
-use Prim.Native.Nat.{ℕ, _+_, _*_, _-_, _%_, _≤_, _<_}
-use mathlib.Core.Path.{_≡_, refl, sym, ap, _∙_}
+use Prim.Native.Nat.{ℕ, _+_, _≤_, _<_}
+use mathlib.Core.Path.{_≡_, refl}
 use mathlib.Core.List.{List}
-use mathlib.Core.Bool.{Bool, true, false, cond, _&&_, _||_, false≢true}
+use mathlib.Core.Bool.{Bool, true, false, cond, _&&_}
 use native.Mathlib.Omega.{arith}
-use lib.ListN.{length, getD}
-use lib.Dec.{eqb, leb, ltb}
-use borrow.Author.Tests.{eq-eqb, ne-eqb, eqb-true, eqb-false, leb-true, ltb-true}
+use lib.Dec.{eqb, leb}
+use borrow.Author.Tests.{eq-eqb, ne-eqb, eqb-true, leb-true, ltb-true}
 use Rattle.commands.specs.Commands.{byte, operandsOf, allInRange}
 use Rattle.pages.specs.Items.{Items}
-use Rattle.programs.specs.Program.{Act, copyTemplate, setTemplate, copyString, setString, anyString, plug, plugString, show, Statement, step, stop, templates, strings, templateAt}
-use Rattle.programs.specs.ProgramReading.{statementOf, statementRead, actTemplatesThere}
-use Rattle.programs.specs.Runs.{update}
-use Rattle.summaries.specs.Proposal.{Head}
-use Rattle.summaries.specs.Summaries.{Summary, Strings, Environment, fragment, plugSummary, plugStringSummary, transferTemplate, transferString, saysClaim, saysString, held, under, entries}
-use Rattle.jobs.specs.Job.{Job}
+use Rattle.programs.specs.Program.{Act, copyTemplate, setTemplate, copyString, setString, anyString, plug, plugString, show, Statement, step, stop, templateAt}
+use Rattle.programs.specs.ProgramReading.{statementOf, actTemplatesThere}
+use Rattle.summaries.specs.Summaries.{Environment, fragment, plugSummary, plugStringSummary, transferTemplate, transferString}
 use Rattle.entries.proofs.Tests.{and-left, and-right}
-use Rattle.covering.specs.Tables.{EntriesAt, StatementStands, PointAt}
 use Rattle.covering.specs.Promises.{NextsAt}
 
 chosen : (P : Statement → Type 0) (t : Bool) (x y : Statement) → (t ≡ true → P x) → (t ≡ false → P y) → P (cond t x y)

@@ -1,33 +1,32 @@
 -- What the code compares at a point is what the statement's transfer function gives the variable.
 use Prim.Native.Nat.{ℕ, _+_, _*_, _-_, _%_, _≤_, _<_}
-use mathlib.Core.Path.{_≡_, refl, sym, ap, _∙_}
+use mathlib.Core.Path.{_≡_, refl, sym, _∙_}
 use mathlib.Core.List.{List}
-use mathlib.Core.Bool.{Bool, true, false, cond, not, _||_, or-false, false≢true}
+use mathlib.Core.Bool.{Bool, true, false, not, _||_, or-false, false≢true}
 use native.Mathlib.Omega.{arith}
 use lib.ListN.{length, getD}
-use lib.Dec.{eqb, ltb}
-use borrow.Author.Tests.{eq-eqb, eqb-true, lt-ltb, le-ltb, not-true, not-false}
+use lib.Dec.{eqb}
+use borrow.Author.Tests.{lt-ltb, le-ltb, not-true, not-false}
 use Rattle.sets.specs.Sets.{member}
 use Rattle.sets.proofs.Laws.{member-zero}
 use Rattle.commands.specs.declared.Context.the-variants.{TemplateFacts, StringFacts}
 use Rattle.commands.specs.Commands.{byte, operandsOf, allInRange}
 use Rattle.pages.specs.Items.{Items}
-use Rattle.programs.specs.Program.{Act, Statement, step, stop, Variable, templates, strings, templateAt, named}
-use Rattle.programs.specs.ProgramReading.{statementOf, statementRead}
+use Rattle.programs.specs.Program.{Act, step, templates, strings, templateAt, named}
+use Rattle.programs.specs.ProgramReading.{statementOf}
 use Rattle.summaries.specs.Proposal.{Head, Fact}
 use Rattle.summaries.specs.ProposalReading.{variableOf}
 use Rattle.summaries.specs.Summaries.{Summary, Environment, Within, fragment, plugSummary, plugStringSummary, transfer, transferTemplate, transferString, saysClaim, saysString, held, under, entries}
 use Rattle.summaries.specs.Summaries as Summaries
-use Rattle.summaries.specs.Covering.{WithinAt, StepCovered}
+use Rattle.summaries.specs.Covering.{WithinAt}
 use Rattle.jobs.specs.Job.{Job}
 use Rattle.entries.specs.declared.Strings.{Strings}
 use Rattle.entries.specs.Listed.{Listed}
 use Rattle.entries.specs.Passing.{isOf, Decides}
-use Rattle.entries.specs.Gaps.{GapsAre, GapsTable}
-use Rattle.entries.proofs.Tests.{alike, decides-map}
-use Rattle.covering.specs.Tables.{EntriesAt, StatementStands, PointAt}
-use Rattle.covering.specs.Promises.{Lowest}
-use Rattle.covering.proofs.Statements.{template-left, templates-left, string-left, strings-left, template-copied, template-set, template-plugged, template-filled, string-copied, string-set, string-any, set-there, copy-range, string-copy-range, string-range, PlugRange, plug-range, fill-range}
+use Rattle.entries.specs.Gaps.{GapsAre}
+use Rattle.entries.proofs.Tests.{decides-map}
+use Rattle.covering.specs.Tables.{EntriesAt, PointAt}
+use Rattle.covering.proofs.Statements.{template-left, templates-left, string-left, strings-left, template-copied, template-set, template-plugged, template-filled, string-copied, string-set, string-any, set-there, copy-range, string-copy-range, string-range, plug-range, fill-range}
 
 -- The entry of a variable at a point, by the offset that the code takes from the table.
 module _ (s heads : List ℕ) (hs : List Head) (p : ℕ) (low : p < 32) (entry : EntriesAt s heads hs p) where

@@ -1,8 +1,8 @@
 -- The start, and all points together.
-use Prim.Native.Nat.{ℕ, zero, suc, _+_, _*_, _-_, _%_, _≤_, _<_}
-use mathlib.Core.Path.{_≡_, refl, sym, ap, _∙_}
+use Prim.Native.Nat.{ℕ, zero, suc, _+_, _*_, _-_, _≤_, _<_}
+use mathlib.Core.Path.{_≡_, refl, sym, _∙_}
 use mathlib.Core.List.{List, [], _∷_}
-use mathlib.Core.Bool.{Bool, true, false, cond, not, _&&_, _||_, and-false, false≢true}
+use mathlib.Core.Bool.{Bool, true, false, and-false, false≢true}
 use native.Mathlib.Nat.{le-of-suc-le-suc}
 use native.Mathlib.Omega.{arith}
 use lib.ListN.{length, getD}
@@ -15,20 +15,20 @@ use Rattle.commands.specs.declared.Context.the-variants.{TemplateFacts, StringF
 use Rattle.pages.specs.Items.{gapIn, attributeGapIn}
 use Rattle.pages.specs.Items as Items
 use Rattle.programs.specs.Program.{Statement, stop, templates, strings, statementAt}
-use Rattle.summaries.specs.Proposal.{Claim, root, edge, string, gapFrom, attributeGapFrom, Head, Fact}
+use Rattle.summaries.specs.Proposal.{root, edge, string, gapFrom, attributeGapFrom, Head, Fact}
 use Rattle.summaries.specs.ProposalReading.{variableOf}
 use Rattle.summaries.specs.Summaries.{Summary, Within, fragment, saysClaim, saysString, held, under, entries}
 use Rattle.summaries.specs.Covering.{WithinAt, startEnvironment}
 use Rattle.jobs.specs.Job.{Job}
-use Rattle.jobs.specs.JobVerdict.{StartHolds, StepHolds, StepsBefore, AllCovered}
+use Rattle.jobs.specs.JobVerdict.{StartHolds, StepHolds}
 use Rattle.entries.specs.declared.Strings.{Strings}
 use Rattle.entries.specs.Listed.{Listed}
 use Rattle.entries.specs.Passing.{isOf, Decides}
-use Rattle.entries.proofs.Tests.{and-right, decides}
+use Rattle.entries.proofs.Tests.{decides}
 use Rattle.covering.specs.declared.Covering.{Covering}
 use Rattle.covering.specs.declared.Covering.the-variants.{Covered, Uncovered}
 use Rattle.covering.specs.Tables.{EntriesAt}
-use Rattle.covering.specs.Promises.{Lowest, StartUncovered, StepUncovered, Covers, PointUncovered, PointCovers, StepFails, StepsCover}
+use Rattle.covering.specs.Promises.{Lowest, StartUncovered, Covers, PointCovers, StepsCover}
 use Rattle.covering.proofs.Steps.{template-listed, string-listed}
 
 -- The empty template 0 lies within an entry that has root 0, string 0 within one that has it.

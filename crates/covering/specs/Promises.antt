@@ -4,7 +4,7 @@ use mathlib.Core.Path.{_≡_}
 use mathlib.Core.Bool.{Bool, true, false}
 use Rattle.verdicts.specs.declared.Cover.{Cover}
 use Rattle.verdicts.specs.declared.Cover.the-variants.{Start, Step}
-use Rattle.programs.specs.Program.{Statement, step, stop, statementAt, Act}
+use Rattle.programs.specs.Program.{step, stop, statementAt, Act}
 use Rattle.programs.specs.ProgramReading.{statementOf}
 use Rattle.jobs.specs.Job.{Job}
 use Rattle.jobs.specs.JobVerdict.{StartHolds, StepHolds, StepsBefore, AllCovered, nextOf}

@@ -3,13 +3,13 @@
 use Prim.Native.Nat.{ℕ, _+_, _*_, _≤_, _<_}
 use mathlib.Core.Path.{_≡_}
 use mathlib.Core.List.{List}
-use mathlib.Core.Bool.{Bool, true, false}
+use mathlib.Core.Bool.{true}
 use lib.ListN.{length, getD}
 use Rattle.sets.specs.Sets.{member}
 use Rattle.commands.specs.declared.Context.the-variants.{TemplateFacts, StringFacts}
 use Rattle.commands.specs.Commands.{byte, operandsOf, allInRange}
-use Rattle.programs.specs.Program.{Act, Statement, step, Variable, templates, strings, statementAt, templateAt, named}
-use Rattle.programs.specs.ProgramReading.{statementRead, templatesThere, actTemplatesThere, pointsThere}
+use Rattle.programs.specs.Program.{Act, Statement, step, templates, strings, statementAt, named}
+use Rattle.programs.specs.ProgramReading.{statementRead, templatesThere, pointsThere}
 use Rattle.summaries.specs.Proposal.{Head}
 use Rattle.summaries.specs.ProposalReading.{variableOf}
 use Rattle.summaries.specs.Summaries.{under}

@@ -1,8 +1,8 @@
 // Covering (document 01, "Covering, and the language of a show"): the start (9) and every step (10).
 ghost use mathlib.Core.Path.{_≡_};
 ghost use mathlib.Core.List.{List};
-ghost use Prim.Native.Nat.{ℕ, _+_, _*_, _≤_, _<_};
-ghost use lib.ListN.{length, getD};
+ghost use Prim.Native.Nat.{ℕ, _+_, _*_, _<_};
+ghost use lib.ListN.{getD};
 ghost use Rattle.commands.specs.Commands.{byte};
 ghost use Rattle.programs.specs.Program.{Act};
 ghost use Rattle.summaries.specs.Proposal.{Fact, Head};
@@ -13,7 +13,7 @@ ghost use Rattle.jobs.specs.Job.{Job};
 ghost use Rattle.jobs.specs.JobVerdict.{StartHolds};
 ghost use Rattle.entries.specs.Gaps.{GapsTable};
 ghost use Rattle.entries.specs.Listed.{Listed};
-ghost use Rattle.entries.specs.Passing.{isOf, Decides};
+ghost use Rattle.entries.specs.Passing.{Decides};
 ghost use Rattle.covering.specs.Tables.{EntriesAt, NamesAre, Tables, PointAt, StepAt};
 ghost use Rattle.covering.specs.Promises.{Lowest, Covers, PointCovers, StepsCover, NextsAt};
 use commands::Context;

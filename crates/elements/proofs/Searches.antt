@@ -2,7 +2,7 @@
 use Prim.Native.Nat.{ℕ, zero, suc, _+_, _%_, _<_, _≤_}
 use mathlib.Core.Path.{_≡_, refl, sym, ap, subst, _∙_}
 use mathlib.Core.List.{List, [], _∷_}
-use mathlib.Core.Bool.{Bool, true, false, not, _&&_, false≢true}
+use mathlib.Core.Bool.{Bool, true, false, not, _&&_, _||_, or-false, false≢true}
 use mathlib.Core.Option.{Option, none}
 use mathlib.Core.Logic.{_↔_, inl, inr}
 use native.Mathlib.Omega.{arith}
@@ -10,6 +10,7 @@ use lib.ListN.{length}
 use lib.Dec.{eqb}
 use borrow.Author.Tests.{eq-eqb, ne-eqb, eqb-true}
 use Rattle.sets.specs.Sets.{member}
+use Rattle.sets.proofs.Laws.{member-zero, member-single}
 use Rattle.commands.specs.Commands.{byte, operandBytes, operandsOf}
 use Rattle.commands.specs.Reading.{whole}
 use Rattle.commands.proofs.Laws.{byte-past}
@@ -20,6 +21,7 @@ use Rattle.pages.specs.Items.{Attribute, Item, text, gap, element, Items, more}
 use Rattle.pages.specs.ItemReading.{items}
 use Rattle.pages.specs.RightPages.{names, word}
 use Rattle.pages.proofs.Whole.{never-unfinished, items-whole}
+use Rattle.judging.specs.declared.Named.{Named}
 use Rattle.judging.specs.Promises.{wrongOf}
 use Rattle.judging.proofs.ItemLaws.{found-at}
 use Rattle.summaries.specs.Summaries.{Summary}
@@ -33,27 +35,28 @@ use Rattle.patterns.proofs.Clauses.{numbered-same}
 use Rattle.patterns.proofs.Lawful.{clause-lawful}
 use Rattle.patterns.proofs.Exact.{contents-exact, takes-exact}
 use Rattle.patterns.proofs.Products.{clause-monoid, product-assoc, product-unit-left}
-use Rattle.pattern_sets.specs.PatternSets.{holds, IsEmpty, Same}
+use Rattle.pattern_sets.specs.PatternSets.{holds, IsEmpty}
+use Rattle.pattern_sets.proofs.Laws.{only-pattern}
 use Rattle.readings.specs.Readings.{Is, of-facts}
-use Rattle.readings.specs.Promises.{Multiplies}
 use Rattle.clauses.specs.declared.Tested.{Tested}
 use Rattle.clauses.specs.Promises.{ClauseFails}
 use Rattle.clauses.proofs.TrueForms.{tells-failure}
 use Rattle.languages.specs.declared.Line.{Line}
 use Rattle.languages.specs.Tables.{of-clause}
-use Rattle.languages.specs.Promises.{LineIs, LineBegins, LineWithContent, LineWithGap}
+use Rattle.languages.specs.Promises.{Follows, LineIs, LineBegins, LineWithContent, LineWithGap}
 use Rattle.languages.proofs.Uses.{is-as, product-as}
-use Rattle.languages.proofs.ItemLaws.{unit-set, leaf-read, element-read, gap-range}
+use Rattle.languages.proofs.ItemLaws.{leaf-read, element-read, gap-range}
+use Rattle.languages.proofs.LineLaws.{follows-unit}
+use Rattle.reach.specs.Walking.{NamesAt}
 use Rattle.occurrences.specs.Occurrences.{EndsAttributes}
 use Rattle.occurrences.proofs.TemplateItems.{parts, continues, first-code}
 use Rattle.elements.specs.declared.Clause.{Clause}
-use Rattle.elements.specs.declared.Attributed.{Attributed}
 use Rattle.elements.specs.declared.Found.{Found}
-use Rattle.elements.specs.declared.Searched.{Searched}
-use Rattle.elements.specs.Attributes.{OnlyValued, patternsBy, Attributes}
-use Rattle.elements.specs.Search.{Testing, ElementPatterns, FailsUnder, failsAt, ElementFails, TellsWanted, OfSearch, SearchesItems, SearchesItem}
+use Rattle.elements.specs.Attributes.{OnlyValued, patternsBy, AttributePatterns}
+use Rattle.elements.specs.Search.{Testing, ElementPatterns, FailsUnder, failsAt, ElementFails, Searching, OfSearch, SearchesItems, SearchesItem}
 use Rattle.elements.proofs.Lowers.{lower-none, lower-assoc}
 use Rattle.elements.proofs.PatternSets.{product-nothing}
+use Rattle.elements.proofs.AttributeLists.{attributes-untold}
 
 -- ---- an element
 
@@ -93,25 +96,32 @@ module _ (s : List ℕ) (c : Clause) (words : List ℕ) (φs : List Items) (G : 
           let (page, d) = takes-exact φs G (T .bounded) (patternsBy ψ) (clause-lawful ψ) X (T .exact) n φ .0 full in
           exact (patternsBy ψ .of []) .1 (page, d, of-word (word page))
 
-module _ (c : Clause) (outer inner : List ℕ) where
-  pub plain-patterns : c .plain ≡ true → ElementPatterns c outer inner outer
-  plain-patterns plain s ψ C A B is-outer nothing is-inner = product-nothing (patternsBy ψ) (clause-monoid ψ) outer A B (nothing plain) is-outer
+-- The set of the empty word's pattern.
+unit : List ℕ
+unit = 1 ∷ 0 ∷ 0 ∷ 0 ∷ []
 
-  same-unit : (unit : List ℕ) (t : Bool) → t ≡ true → Same outer unit t → ((y : ℕ) → holds unit y ≡ eqb y 0) → (y : ℕ) → holds outer y ≡ eqb y 0
-  same-unit unit true e same one y = same y ∙ one y
-  same-unit unit false e same one y = absurd (false≢true e)
+unit-holds : (y : ℕ) → holds unit y ≡ eqb y 0
+unfolding unit
+unit-holds = only-pattern 0 1 (λ k. member-single 0 k ∙ sym (ap (λ (b : Bool). eqb k 0 || b) (member-zero k) ∙ or-false (eqb k 0))) 0 (omega arith) refl
 
-  -- Attributes that have the pattern of nothing alone.
-  pub inner-patterns : c .plain ≡ false → (unit : List ℕ) → ((y : ℕ) → holds unit y ≡ eqb y 0) → (t : Bool) → t ≡ true → Same outer unit t
-      → ElementPatterns c outer inner inner
-  inner-patterns about unit one t e same s ψ C A B is-outer nothing is-inner =
-      let M = patternsBy ψ in
-      let unit-is = unit-set (of-facts (C .reads)) (of-clause ψ) outer (same-unit unit t e same one) in
-      is-as inner B (product M A B) (is-inner about) (λ x h.
-      sym (product-as M A (only (M .of [])) B B (λ y l. sym (is-outer .inside y l) ∙ unit-is .inside y l) (λ y l. refl) x ∙ product-unit-left M (clause-monoid ψ) B x h))
+-- The patterns of its attributes with those of its contents after them.
+module _ (s : List ℕ) (at : ℕ) (c : Clause) (words : List ℕ) (n : ℕ) (inner : List ℕ) where
+  pub plain-patterns : c .plain ≡ true → (outer : List ℕ) → AttributePatterns s at c words n outer → ElementPatterns s at c words n inner outer
+  plain-patterns plain outer attributed φs G ψ X T f end δ φ reads takes full is-inner =
+      product-nothing (patternsBy ψ) (clause-monoid ψ) outer (attributePatterns G (factsOf ψ) n δ) (patterns φs G (patternsBy ψ) X n φ)
+      (λ x h. plain-contents s c words φs G ψ X T plain n φ full x) (attributed ψ G (T .clause) (T .keeps) f end δ reads takes)
 
-  pub both-patterns : c .plain ≡ false → (r : List ℕ) → Multiplies (c .reading) outer inner r → ElementPatterns c outer inner r
-  both-patterns about r joined s ψ C A B is-outer nothing is-inner = joined (patternsBy ψ) (of-facts (C .reads)) A B is-outer (is-inner about)
+  pub both-patterns : c .plain ≡ false → (outer : List ℕ) → AttributePatterns s at c words n outer → (r : List ℕ) → Follows (c .reading) outer inner r
+      → ElementPatterns s at c words n inner r
+  both-patterns about outer attributed r joined φs G ψ X T f end δ φ reads takes full is-inner =
+      joined (patternsBy ψ) (of-facts (T .clause .reads)) (of-clause ψ) (attributePatterns G (factsOf ψ) n δ) (patterns φs G (patternsBy ψ) X n φ)
+      (attributed ψ G (T .clause) (T .keeps) f end δ reads takes) (is-inner about)
+
+  -- No fact is about attributes.
+  pub inner-patterns : c .plain ≡ false → c .valued ≡ 0 → ElementPatterns s at c words n inner inner
+  inner-patterns about untold =
+      both-patterns about unit (attributes-untold s c words n untold unit unit-holds at) inner
+      (follows-unit (c .reading) unit inner unit true (λ x. refl) unit-holds refl)
 
 -- The formula, evaluated now or before.
 module _ (s : List ℕ) (c : Clause) (named : ℕ) (patterns : List ℕ) where
@@ -126,61 +136,32 @@ module _ (s : List ℕ) (c : Clause) (named : ℕ) (patterns : List ℕ) where
       (factsOf ψ) (C .reads .represents) (C .reads .few) ns (subst (λ (m : ℕ). (a : ℕ) → member m a ≡ isIn a ns) same is) E held
       (C .fuel) (C .depth) (C .end) ψ (C .stands) .1
 
--- The patterns of its attributes with those of its contents after them, and the clause at each.
-module _ (s : List ℕ) (at : ℕ) (c : Clause) (words : List ℕ) (n : ℕ) where
-  pub clause-tested : (attributed : Attributed) → Attributes s at c words n attributed → (inner : List ℕ)
-      → (set : List ℕ) → ElementPatterns c (attributed .set) inner set → (fails : Bool) → FailsUnder s c (attributed .names) set fails
-      → ElementFails s at c words n inner fails
+-- The clause at each of the patterns.
+module _ (s : List ℕ) (at : ℕ) (c : Clause) (words : List ℕ) (n : ℕ) (inner : List ℕ) where
+  pub clause-tested : (set : List ℕ) → ElementPatterns s at c words n inner set → (named : ℕ) (fails : Bool) → FailsUnder s c named set fails
+      → ElementFails s at c words n named inner fails
   unfolding clauseFails
-  clause-tested attributed outer inner set joined fails tested φs G ψ X T f end δ φ reads takes full is-inner =
-      let C = T .clause in
-      let a = outer ψ G C (T .keeps) f end δ reads takes in
-      let m = joined s ψ C (attributePatterns G (factsOf ψ) n δ) (patterns φs G (patternsBy ψ) X n φ) (a .patterns)
-      (λ plain x h. plain-contents s c words φs G ψ X T plain n φ full x) is-inner in
-      tested ψ C (names δ) (a .has) (elementPatterns φs G (factsOf ψ) X n δ φ) m
+  clause-tested set joined named fails tested φs G ψ X T f end δ φ reads takes full is-inner has =
+      tested ψ (T .clause) (names δ) has (elementPatterns φs G (factsOf ψ) X n δ φ) (joined φs G ψ X T f end δ φ reads takes full is-inner)
 
--- The element at an offset, and what is inside it.
-module _ (s : List ℕ) (at : ℕ) (c : Clause) (words takes : List ℕ) (n : ℕ) (code : byte s at ≡ 0x23) (after : ℕ) (ends : EndsAttributes s (at + 2) after)
-    (b : ℕ) (is-name : b ≡ byte s (at + 1)) (wanted : Bool) (is-wanted : TellsWanted c b wanted)
-    (list : Searched) (within : SearchesItems s after c words takes n wanted list) where
-  -- What an element takes.
-  taken : (φs : List Items) (G : Summary) (ψ : Formula) (X : Sets) (i : Item) (e : ℕ) (δ : List Attribute) (φ : Items) → i ≡ element e at δ φ
-      → itemTakes φs G (patternsBy ψ) X n i ≡ true → (attributesTake G n δ && allTake φs G (patternsBy ψ) X n φ) ≡ true
-  unfolding allTake
-  taken φs G ψ X i e δ φ is full = subst (λ (j : Item). itemTakes φs G (patternsBy ψ) X n j ≡ true) is full
-
-  -- An element of another name.
-  pub other-element : (b ≡ c .element → ⊥) → SearchesItem s at c words takes n (record { wrong = list .wrong; next = list .next })
-  unfolding lowestMark
-  other-element other φs G ψ X S ruled f depth end i e full =
-      let P = parts s at code after ends ruled f depth end i e in
-      let t = taken φs G ψ X i (byte s (at + 1)) (P .δ) (P .φ) (P .is) full in
-      let l = within φs G ψ X S ruled (P .fuel) (depth + 1) end (P .φ) (P .reads-φ) (and-right (attributesTake G n (P .δ)) (allTake φs G (patternsBy ψ) X n (P .φ)) t) in
-      let d : eqb (byte s (at + 1)) (c .element) ≡ false = ne-eqb (byte s (at + 1)) (c .element) (λ q. other (is-name ∙ q)) in
-      rw (P .is) (record { ends = l .ends; finds = l .finds ∙ rw d })
-
-  -- An element of the clause's name.
-  pub this-element : b ≡ c .element → (fails : Bool) → ElementFails s (at + 2) c words n (list .set) fails
-      → (wrong : ℕ) → wrongOf wrong ≡ lower (onlyIf fails at) (wrongOf (list .wrong))
-      → SearchesItem s at c words takes n (record { wrong = wrong; next = list .next })
-  unfolding lowestMark
-  this-element same fails tested wrong is-wrong φs G ψ X S ruled f depth end i e full =
-      let P = parts s at code after ends ruled f depth end i e in
-      let t = taken φs G ψ X i (byte s (at + 1)) (P .δ) (P .φ) (P .is) full in
-      let inside = and-right (attributesTake G n (P .δ)) (allTake φs G (patternsBy ψ) X n (P .φ)) t in
-      let l = within φs G ψ X S ruled (P .fuel) (depth + 1) end (P .φ) (P .reads-φ) inside in
-      let w : c .plain ≡ false → wanted ≡ true = λ about. is-wanted ∙ rw (eq-eqb b (c .element) same, about) in
-      let f : fails ≡ clauseFails φs G ψ X n (P .δ) (P .φ) = tested φs G ψ X (S .testing) (P .fuel) after (P .δ) (P .φ) (P .reads-δ)
-      (and-left (attributesTake G n (P .δ)) (allTake φs G (patternsBy ψ) X n (P .φ)) t) inside (λ about. l .is (w about) about) in
-      let d : eqb (byte s (at + 1)) (c .element) ≡ true = eq-eqb (byte s (at + 1)) (c .element) (sym is-name ∙ same) in
-      rw (P .is) (record { ends = l .ends; finds = is-wrong ∙ rw (d, ← f, l .finds) })
+-- What an element takes.
+pub taken : (s : List ℕ) (at : ℕ) (φs : List Items) (G : Summary) (ψ : Formula) (X : Sets) (n : ℕ) (i : Item) (e : ℕ) (δ : List Attribute) (φ : Items) → i ≡ element e at δ φ
+    → itemTakes φs G (patternsBy ψ) X n i ≡ true → (attributesTake G n δ && allTake φs G (patternsBy ψ) X n φ) ≡ true
+unfolding allTake
+taken s at φs G ψ X n i e δ φ is full = subst (λ (j : Item). itemTakes φs G (patternsBy ψ) X n j ≡ true) is full
 
 -- ---- a list of items
+
+-- What is known at the end of a list: the lowest wrong element, the patterns, and the offset after it.
+pub record Searched : Type 0 where
+  pub wrong : ℕ
+  pub set : List ℕ
+  pub next : ℕ
 
 module _ (s : List ℕ) (c : Clause) (words takes : List ℕ) (n : ℕ) where
   -- What the items from an offset on add to what was found before, and to the patterns of the list so far.
   pub record Added (φs : List Items) (G : Summary) (ψ : Formula) (X : Sets) (found : Option ℕ) (line : Line) (φ : Items) (end : ℕ) (r : Searched) : Type 0 where
-    pub ends : r .next .at ≡ end
+    pub ends : r .next ≡ end
     pub finds : wrongOf (r .wrong) ≡ lower found (lowestMark (failsAt φs G ψ X n (c .element)) φ)
     pub is : c .plain ≡ false → (A : Set) → LineIs (patternsBy ψ) takes line A
         → Is (patternsBy ψ) (r .set) (product (patternsBy ψ) A (patterns φs G (patternsBy ψ) X n φ))
@@ -189,19 +170,16 @@ module _ (s : List ℕ) (c : Clause) (words takes : List ℕ) (n : ℕ) where
   Adds found line at r = OfSearch s c words takes n (λ φs G ψ X. (ruled : ℕ → Bool) (f depth end : ℕ) (φ : Items)
       → items f Template ruled s depth at ≡ whole φ end → allTake φs G (patternsBy ψ) X n φ ≡ true → Added φs G ψ X found line φ end r)
 
-  pub adds-all : (at : ℕ) (wanted : Bool) (line : Line) → (wanted ≡ true → LineBegins (c .contents) line) → (r : Searched) → Adds none line at r
-      → SearchesItems s at c words takes n wanted r
-  adds-all at wanted line begins r A φs G ψ X S ruled f depth end φ e full =
-      let a = A φs G ψ X S ruled f depth end φ e full in
+  -- What is added to nothing: the patterns of the list.
+  list-patterns : (at : ℕ) (line : Line) → (c .plain ≡ false → LineBegins (c .contents) line) → (r : Searched)
+      → (φs : List Items) (G : Summary) (ψ : Formula) (X : Sets) → Searching s c words takes n φs G ψ X → (φ : Items) (end : ℕ) → Added φs G ψ X none line φ end r
+      → c .plain ≡ false → Is (patternsBy ψ) (r .set) (patterns φs G (patternsBy ψ) X n φ)
+  list-patterns at line begins r φs G ψ X S φ end a about =
       let C = S .testing .clause in
       let M = patternsBy ψ in
-      record {
-        ends = a .ends;
-        finds = a .finds;
-        is = λ w about. is-as (r .set) (product M (only (M .of [])) (patterns φs G M X n φ)) (patterns φs G M X n φ)
-            (a .is about (only (M .of [])) (begins w (c .reading) (C .about) M (of-facts (C .reads)) (of-clause ψ) takes))
-            (product-unit-left M (clause-monoid ψ) (patterns φs G M X n φ));
-      }
+      is-as (r .set) (product M (only (M .of [])) (patterns φs G M X n φ)) (patterns φs G M X n φ)
+      (a .is about (only (M .of [])) (begins about (c .reading) (C .about) M (of-facts (C .reads)) (of-clause ψ) takes))
+      (product-unit-left M (clause-monoid ψ) (patterns φs G M X n φ))
 
   -- The first item, and the others after it.
   module _ (φs : List Items) (G : Summary) (ψ : Formula) (X : Sets) (φ : Items) (i : Item) (rest : Items) (is : φ ≡ more i rest)
@@ -210,10 +188,10 @@ module _ (s : List ℕ) (c : Clause) (words takes : List ℕ) (n : ℕ) where
     unfolding allTake
     both-full = subst (λ (χ : Items). allTake φs G (patternsBy ψ) X n χ ≡ true) is full
 
-    first-full : itemTakes φs G (patternsBy ψ) X n i ≡ true
+    pub first-full : itemTakes φs G (patternsBy ψ) X n i ≡ true
     first-full = and-left (itemTakes φs G (patternsBy ψ) X n i) (allTake φs G (patternsBy ψ) X n rest) both-full
 
-    rest-full : allTake φs G (patternsBy ψ) X n rest ≡ true
+    pub rest-full : allTake φs G (patternsBy ψ) X n rest ≡ true
     rest-full = and-right (itemTakes φs G (patternsBy ψ) X n i) (allTake φs G (patternsBy ψ) X n rest) both-full
 
     -- What the first one adds, whose patterns are I.
@@ -295,7 +273,7 @@ module _ (s : List ℕ) (c : Clause) (words takes : List ℕ) (n : ℕ) where
 
   -- What begins no item ends the list.
   pub list-ends : (at wrong : ℕ) (line : Line) → (byte s at ≡ 0x21 → ⊥) → (byte s at ≡ 0x22 → ⊥) → (byte s at ≡ 0x23 → ⊥)
-      → Adds (wrongOf wrong) line at (record { wrong = wrong; set = line .set; next = record { at = at + 1 } })
+      → Adds (wrongOf wrong) line at (record { wrong = wrong; set = line .set; next = at + 1 })
   unfolding items lowestMark patterns
   list-ends at wrong line n₁ n₂ n₃ φs G ψ X S ruled zero depth end φ e full = never-unfinished e
   list-ends at wrong line n₁ n₂ n₃ φs G ψ X S ruled (suc f) depth end φ e full = elim (items-whole f Template ruled s depth at φ end e) [
@@ -320,3 +298,45 @@ module _ (s : List ℕ) (c : Clause) (words takes : List ℕ) (n : ℕ) where
   pub record Going (at₀ : ℕ) (line₀ : Line) (at wrong : ℕ) (line : Line) : Type 0 where
     pub forward : at₀ ≤ at
     pub goes : (r : Searched) → Adds (wrongOf wrong) line at r → Adds none line₀ at₀ r
+
+  -- The element at an offset, which has another name, from the search through its contents.
+  pub other-element : (at : ℕ) → byte s at ≡ 0x23 → (byte s (at + 1) ≡ c .element → ⊥) → (after : ℕ) → EndsAttributes s (at + 2) after
+      → (r : Found) → SearchesItems s after c words takes n r → SearchesItem s at c words takes n r
+  unfolding lowestMark
+  other-element at code other after ends r within φs G ψ X S ruled f depth end i e full =
+      let P = parts s at code after ends ruled f depth end i e in
+      let t = taken s at φs G ψ X n i (byte s (at + 1)) (P .δ) (P .φ) (P .is) full in
+      let l = within φs G ψ X S ruled (P .fuel) (depth + 1) end (P .φ) (P .reads-φ) (and-right (attributesTake G n (P .δ)) (allTake φs G (patternsBy ψ) X n (P .φ)) t) in
+      let d : eqb (byte s (at + 1)) (c .element) ≡ false = ne-eqb (byte s (at + 1)) (c .element) other in
+      rw (P .is) (record { ends = l .ends; finds = l .finds ∙ rw d })
+
+  -- The element at an offset, which has the clause's name, from the search through its contents.
+  module _ (at : ℕ) (code : byte s at ≡ 0x23) (named : Named) (is-named : NamesAt s (at + 2) named) where
+    ends-named : EndsAttributes s (at + 2) (named .next .at)
+    ends-named before f end δ e = is-named f end before δ e .0
+
+    pub this-element : byte s (at + 1) ≡ c .element → (line : Line) → (c .plain ≡ false → LineBegins (c .contents) line)
+        → (list : Searched) → Adds none line (named .next .at) list → (fails : Bool) → ElementFails s (at + 2) c words n (named .names) (list .set) fails
+        → (wrong : ℕ) → wrongOf wrong ≡ lower (onlyIf fails at) (wrongOf (list .wrong))
+        → SearchesItem s at c words takes n (record { wrong = wrong; next = record { at = list .next } })
+    unfolding lowestMark
+    this-element same line begins list within fails tested wrong is-wrong φs G ψ X S ruled f depth end i e full =
+        let P = parts s at code (named .next .at) ends-named ruled f depth end i e in
+        let t = taken s at φs G ψ X n i (byte s (at + 1)) (P .δ) (P .φ) (P .is) full in
+        let inside = and-right (attributesTake G n (P .δ)) (allTake φs G (patternsBy ψ) X n (P .φ)) t in
+        let l = within φs G ψ X S ruled (P .fuel) (depth + 1) end (P .φ) (P .reads-φ) inside in
+        let f : fails ≡ clauseFails φs G ψ X n (P .δ) (P .φ) = tested φs G ψ X (S .testing) (P .fuel) (named .next .at) (P .δ) (P .φ) (P .reads-δ)
+        (and-left (attributesTake G n (P .δ)) (allTake φs G (patternsBy ψ) X n (P .φ)) t) inside
+        (list-patterns (named .next .at) line begins list φs G ψ X S (P .φ) end l)
+        (is-named (P .fuel) (named .next .at) [] (P .δ) (P .reads-δ) .1) in
+        let d : eqb (byte s (at + 1)) (c .element) ≡ true = eq-eqb (byte s (at + 1)) (c .element) same in
+        rw (P .is) (record { ends = l .ends; finds = is-wrong ∙ rw (d, ← f, l .finds) })
+
+    -- No element stands whose contents do not end.
+    pub no-element : (line : Line) → ((list : Searched) → Adds none line (named .next .at) list) → (r : Found) → SearchesItem s at c words takes n r
+    no-element line within r φs G ψ X S ruled f depth end i e full =
+        let P = parts s at code (named .next .at) ends-named ruled f depth end i e in
+        let t = taken s at φs G ψ X n i (byte s (at + 1)) (P .δ) (P .φ) (P .is) full in
+        let inside = and-right (attributesTake G n (P .δ)) (allTake φs G (patternsBy ψ) X n (P .φ)) t in
+        let ends : (k : ℕ) → k ≡ end = λ k. within (record { wrong = 0; set = []; next = k }) φs G ψ X S ruled (P .fuel) (depth + 1) end (P .φ) (P .reads-φ) inside .ends in
+        absurd (omega (arith, ends 0, ends 1))

@@ -34,6 +34,7 @@ use Rattle.patterns.proofs.Lawful.{clause-lawful}
 use Rattle.patterns.proofs.Exact.{takes-exact}
 use Rattle.patterns.proofs.Bits.{facts-distinct}
 use Rattle.pattern_sets.specs.PatternSets.{FirstMember}
+use Rattle.readings.specs.declared.Reading.{Reading}
 use Rattle.readings.specs.Readings.{of-facts}
 use Rattle.clauses.specs.Promises.{TruePatterns}
 use Rattle.clauses.specs.Leaves.{NamesBetween, AtomsBetween}
@@ -42,7 +43,7 @@ use Rattle.entries.specs.Words.{Keeps}
 use Rattle.entries.specs.Gaps.{GapsTable, LoneTable}
 use Rattle.languages.specs.Tables.{of-clause, RowsAre, GapSetsAre, Shown}
 use Rattle.elements.specs.declared.Clause.{Clause}
-use Rattle.elements.specs.declared.Searched.{Searched}
+use Rattle.elements.specs.declared.Found.{Found}
 use Rattle.elements.specs.Attributes.{ClauseAt, patternsBy}
 use Rattle.elements.specs.Search.{Testing, failsAt, SearchesItems}
 use Rattle.elements.specs.Rules.{ClauseOf, Standing, RowsFor, TakesFor, SearchesTemplate, AllYield, Test, Lowered, SearchesTemplates, Bears, SearchesClause}
@@ -51,7 +52,7 @@ use Rattle.occurrences.proofs.Names.{all-into}
 use Rattle.elements.proofs.LoweredTables.{other-name, lowered-unmet}
 
 pub template-searched : (s : List ℕ) (from : ℕ) (c : Clause) (words : List ℕ) (rows : List ℕ) (n : ℕ) (takes : List ℕ) → TakesFor c words rows n takes
-    → (found : Searched) → SearchesItems s from c words takes n false found → SearchesTemplate s from c words rows n (found .wrong)
+    → (found : Found) → SearchesItems s from c words takes n found → SearchesTemplate s from c words rows n (found .wrong)
 template-searched s from c words rows n takes gaps found searched φs G ψ X few T are φ stand full =
     searched φs G ψ X (record { testing = T; gaps = gaps φs G (patternsBy ψ) X few (T .bounded) (T .keeps) are })
     (stand .ruled) (stand .fuel) 0 (stand .end) φ (stand .reads) full .finds
@@ -76,11 +77,11 @@ shown φs G ψ S C =
       stand = S .stand;
     }
 
-pub rows-settled : (s : List ℕ) (c : Clause) (words gaps lone starts : List ℕ) (count : ℕ) (rows : List ℕ)
-    → ((φs : List Items) (G : Summary) (M : Morphism) (X : Sets) → Shown (c .reading) s words starts φs G M → GapsTable gaps φs → LoneTable lone φs
+pub rows-settled : (s : List ℕ) (c : Clause) (words gaps lone starts : List ℕ) (count : ℕ) (r : Reading) → r ≡ c .reading → (rows : List ℕ)
+    → ((φs : List Items) (G : Summary) (M : Morphism) (X : Sets) → Shown r s words starts φs G M → GapsTable gaps φs → LoneTable lone φs
     → count ≡ length φs → Exact φs G M X → RowsAre φs M X rows) → RowsFor s c words gaps lone starts count rows
-rows-settled s c words gaps lone starts count rows settled φs G ψ X S C exact about =
-    settled φs G (patternsBy ψ) X (shown φs G ψ S C) (S .gaps-are) (S .lone-are) (S .graph .counts) exact
+rows-settled s c words gaps lone starts count r same rows settled φs G ψ X S C exact about =
+    settled φs G (patternsBy ψ) X (subst (λ (q : Reading). Shown q s words starts φs G (patternsBy ψ)) (sym same) (shown φs G ψ S C)) (S .gaps-are) (S .lone-are) (S .graph .counts) exact
 
 first-template : (φs : List Items) → templateAt φs 0 ≡ Items.none
 unfolding templateAt
@@ -208,12 +209,14 @@ module _ (always ever : ℕ) (φs : List Items) (G : Summary) (ψ : Formula) (X 
 -- ---- one clause, by its facts
 
 module _ (s : List ℕ) (e at : ℕ) (t : Facts) (words gaps lone starts : List ℕ) (count chosen : ℕ) (table : List ℕ) where
-  pub clause-searched : (c : Clause) → ClauseOf s t e at c → (r : List ℕ) → SearchesTemplates s c words gaps lone starts count chosen table r
+  -- What is lent is the clause.
+  pub clause-searched : (c lent : Clause) → ClauseOf s t e at c → (c .reading .rooted ≡ false → lent ≡ c) → (r : List ℕ)
+      → SearchesTemplates s lent words gaps lone starts count chosen table r
       → SearchesClause s e at t words gaps lone starts count chosen table r
-  clause-searched c C r searched φs G ψ X S Y F exact =
-      subst (λ (k : ℕ). Lowered φs chosen (λ n. failsAt φs G ψ X n k) table r) (C .of-element)
-      (searched φs G ψ X S Y (record {
-        reads = C .reads (factsOf ψ) (F .represents) (F .few) (facts-distinct ψ);
+  clause-searched c lent C same r searched φs G ψ X S Y F exact =
+      let reads = C .reads (factsOf ψ) (F .represents) (F .few) (facts-distinct ψ) in
+      let kept : ClauseAt s ψ c = record {
+        reads = reads;
         about = C .about;
         tells = C .tells (factsOf ψ) (F .represents) (F .few);
         is-plain = C .is-plain (factsOf ψ) (F .represents) (F .few);
@@ -222,4 +225,6 @@ module _ (s : List ℕ) (e at : ℕ) (t : Facts) (words gaps lone starts : List 
         end = F .end;
         stands = subst (λ (k : ℕ). formula (F .fuel) s (F .depth) k ≡ whole ψ (F .end)) (sym (C .stands-at)) (F .stands);
         true-at = subst (λ (k : ℕ). TruePatterns (c .reading .facts) (c .names) s k (c .truths)) (sym (C .stands-at)) (C .true-at);
-      }) exact)
+      } in
+      subst (λ (k : ℕ). Lowered φs chosen (λ n. failsAt φs G ψ X n k) table r) (C .of-element)
+      (subst (λ (d : Clause). SearchesTemplates s d words gaps lone starts count chosen table r) (same (reads .not-rooted)) searched φs G ψ X S Y kept exact)

@@ -9,14 +9,13 @@ use Rattle.commands.specs.declared.Context.the-variants.{TemplateAttributes}
 use Rattle.commands.specs.Commands.{byte, operandsOf, allInRange, allowed}
 use Rattle.commands.specs.Reading.{whole}
 use Rattle.vocabularies.specs.declared.Facts.{Facts}
-use Rattle.vocabularies.specs.Vocabulary.{Formula, isIn}
+use Rattle.vocabularies.specs.Vocabulary.{Formula}
 use Rattle.vocabularies.specs.VocabularyReading.{formula}
 use Rattle.vocabularies.specs.Facts.{Fact, present, ordered, valued, isAmong, factsOf}
 use Rattle.vocabularies.specs.Promises.{Stored}
 use Rattle.pages.specs.declared.Kind.the-variants.{Template}
 use Rattle.pages.specs.Items.{Value, Attribute}
 use Rattle.pages.specs.ItemReading.{valueAt, attributes}
-use Rattle.pages.specs.RightPages.{names}
 use Rattle.summaries.specs.Summaries.{Summary}
 use Rattle.patterns.specs.Morphisms.{Morphism, factMorphism}
 use Rattle.patterns.specs.Rounds.{Set, product, valueTakes, attributesTake}
@@ -26,7 +25,6 @@ use Rattle.readings.specs.Promises.{OfFacts, TellsContents}
 use Rattle.clauses.specs.Promises.{TruePatterns}
 use Rattle.entries.specs.Words.{Keeps}
 use Rattle.elements.specs.declared.Clause.{Clause}
-use Rattle.elements.specs.declared.Attributed.{Attributed}
 
 -- The set has every attribute that a fact of the list is about.
 abbrev pub Tells : ℕ → List Fact → Type 0
@@ -91,12 +89,7 @@ TakesAttribute s at c words n set r = OfClause s c words (λ ψ G. AttributeAt s
     → (A : Set) → Is (patternsBy ψ) set A
     → Is (patternsBy ψ) r (product (patternsBy ψ) A (valuePatterns G (factsOf ψ) n (nameHere s at) (valueHere s at))))
 
--- The attributes δ of template n: their names, and the patterns that they can have.
-pub record AttributesAre (ψ : Formula) (G : Summary) (n : ℕ) (δ : List Attribute) (r : Attributed) : Type 0 where
-  pub has : (a : ℕ) → member (r .names) a ≡ isIn a (names δ)
-  pub patterns : Is (patternsBy ψ) (r .set) (attributePatterns G (factsOf ψ) n δ)
-
--- The attributes that stand at an offset, each of which has a string to take.
-abbrev pub Attributes : List ℕ → ℕ → Clause → List ℕ → ℕ → Attributed → Type 0
-Attributes s at c words n r = OfClause s c words (λ ψ G. (f end : ℕ) (δ : List Attribute) → attributes f Template s [] at ≡ whole δ end
-    → attributesTake G n δ ≡ true → AttributesAre ψ G n δ r)
+-- The patterns of the attributes that stand at an offset, each of which has a string to take.
+abbrev pub AttributePatterns : List ℕ → ℕ → Clause → List ℕ → ℕ → List ℕ → Type 0
+AttributePatterns s at c words n r = OfClause s c words (λ ψ G. (f end : ℕ) (δ : List Attribute) → attributes f Template s [] at ≡ whole δ end
+    → attributesTake G n δ ≡ true → Is (patternsBy ψ) r (attributePatterns G (factsOf ψ) n δ))

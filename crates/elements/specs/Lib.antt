@@ -1,3 +1,4 @@
+pub mod ClauseWords
 pub mod Attributes
 pub mod Search
 pub mod Rules

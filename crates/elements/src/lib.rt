@@ -1,20 +1,25 @@
 // Elements of templates that are wrong by a clause of their rule (document 01, verdict 12), clause by clause.
 ghost use mathlib.Core.Path.{_≡_};
-ghost use mathlib.Core.Bool.{true};
-ghost use Prim.Native.Nat.{_^_, _≤_, _<_};
+ghost use mathlib.Core.Bool.{false};
+ghost use Prim.Native.Nat.{_+_, _^_, _≤_, _<_};
 ghost use lib.ListN.{length};
 ghost use Rattle.commands.specs.Commands.{byte};
 ghost use Rattle.judging.specs.Promises.{wrongOf};
 ghost use Rattle.patterns.specs.Shows.{lower, onlyIf};
-ghost use Rattle.readings.specs.Promises.{OfFacts};
-ghost use Rattle.languages.specs.Promises.{LineBegins};
-ghost use Rattle.elements.specs.Attributes.{Tells, TellsAlso, TellsPlain, HasPatterns, TakesAttribute, Attributes};
+ghost use Rattle.readings.specs.Promises.{OfFacts, ReadsOne};
+ghost use Rattle.languages.specs.Promises.{Follows, LineBegins, LineWithContent, LineWithGap};
+ghost use Rattle.elements.specs.ClauseWords.{bytesIn, isPlain, clauseIn};
+ghost use Rattle.elements.specs.Attributes.{Tells, TellsAlso, TellsPlain, HasPatterns, TakesAttribute, AttributePatterns};
 ghost use Rattle.elements.specs.Rules.{ClauseOf, RowsFor, TakesFor, SearchesTemplate, SearchesTemplates, SearchesClause, SearchesRule, SearchesRules};
-ghost use Rattle.elements.specs.Search.{ElementPatterns, FailsUnder, ElementFails, TellsWanted, SearchesItem, SearchesItems};
+ghost use Rattle.elements.specs.Search.{ElementPatterns, FailsUnder, ElementFails, SearchesItem, SearchesItems};
 use clauses::Truths;
 use commands::Position;
+use languages::ALL_GAPS;
 use languages::Line;
+use languages::TEXT;
+use readings::EMPTY;
 use readings::Reading;
+use readings::wide;
 use vocabularies::Facts;
 use vocabularies::VALUED;
 
@@ -31,24 +36,42 @@ struct Clause {
     truths: Truths,
 }
 
-// The attributes of an element: their names, and the patterns that they can have.
-struct Attributed {
-    names: u64,
-    set: [u64; 4],
-}
-
-// The lowest wrong element of an element, as its offset and 1, or 0 if none is wrong, and the position after it.
+// The lowest wrong element of an element or of items, as its offset and 1, or 0 if none is wrong, and the position after them.
 struct Found {
     wrong: usize,
     next: Position,
 }
 
-// The same of a list of items, and the patterns of the list, where they are wanted.
-struct Searched {
-    wrong: usize,
-    set: [u64; 4],
-    next: Position,
-}
+// A clause is lent to the search as words. First stand its element, the contents and gaps that can change a list, the attributes that
+// facts are about, and the names with the four words of patterns under which the formula is true for them.
+const ELEMENT: usize = 0;
+
+const CONTENTS: usize = 1;
+
+const GAPS: usize = 2;
+
+const ATTRIBUTES: usize = 3;
+
+const NAMES: usize = 4;
+
+const TRUTHS: usize = 5;
+
+// Then stand the end of the formula, its offset, and the reading of its facts, of which the second operands are eight words.
+const FORMULA: usize = 10;
+
+const ROOT: usize = 11;
+
+const COUNT: usize = 12;
+
+const KINDS: usize = 13;
+
+const FIRSTS: usize = 14;
+
+const BEFORES: usize = 15;
+
+const AFTERS: usize = 16;
+
+const SECONDS: usize = 17;
 
 // A set of attributes, with the one that the fact at a place is about.
 fn with_valued(facts: Facts, i: usize, set: u64) -> u64
@@ -96,6 +119,185 @@ fn is_plain(facts: Facts) -> bool
     true
 }
 
+// The word of eight bytes, the first one lowest, and its bytes.
+fn word_of(bytes: [u8; 8]) -> u64
+    ensures { λ r. ⌜ bytesIn 8 r ≡ bytes ⌝ }
+{
+    let high = wide(bytes[4])
+        + 256 * (wide(bytes[5]) + 256 * (wide(bytes[6]) + 256 * wide(bytes[7])));
+    wide(bytes[0])
+        + 256 * (wide(bytes[1]) + 256 * (wide(bytes[2]) + 256 * (wide(bytes[3]) + 256 * high)))
+}
+
+fn bytes_in(word: u64) -> [u8; 8]
+    ensures { λ r. ⌜ r ≡ bytesIn 8 word ⌝ }
+{
+    [
+        (word % 256) as u8,
+        (word / 256 % 256) as u8,
+        (word / 256 / 256 % 256) as u8,
+        (word / 256 / 256 / 256 % 256) as u8,
+        (word / 256 / 256 / 256 / 256 % 256) as u8,
+        (word / 256 / 256 / 256 / 256 / 256 % 256) as u8,
+        (word / 256 / 256 / 256 / 256 / 256 / 256 % 256) as u8,
+        (word / 256 / 256 / 256 / 256 / 256 / 256 / 256 % 256) as u8,
+    ]
+}
+
+// The gaps that can change a list: all, or none where no fact is about contents.
+fn gaps_if(plain: bool) -> u64
+    ensures { λ r. ⌜ isPlain r ≡ plain ⌝ }
+{
+    if plain {
+        return 0;
+    }
+    ALL_GAPS
+}
+
+// The words of a clause. Its reading is one of facts.
+fn words_of(clause: Clause) -> [u64; 25]
+    ensures { λ r. ⌜ (clause .reading .rooted ≡ false → clauseIn r ≡ clause) ⌝ }
+{
+    let truths = clause.truths;
+    let set = truths.set;
+    let next = truths.next;
+    let reading = clause.reading;
+    let befores = reading.befores;
+    let afters = reading.afters;
+    let facts = reading.facts;
+    let kinds = facts.kinds;
+    let firsts = facts.firsts;
+    let seconds = facts.seconds;
+    [
+        wide(clause.element),
+        clause.contents,
+        gaps_if(clause.plain),
+        clause.valued,
+        clause.names,
+        set[0],
+        set[1],
+        set[2],
+        set[3],
+        next.at as u64,
+        clause.formula as u64,
+        wide(reading.root),
+        facts.count as u64,
+        word_of(kinds),
+        word_of(firsts),
+        word_of(befores),
+        word_of(afters),
+        seconds[0],
+        seconds[1],
+        seconds[2],
+        seconds[3],
+        seconds[4],
+        seconds[5],
+        seconds[6],
+        seconds[7],
+    ]
+}
+
+fn facts_in(clause: &[u64; 25]) -> Facts
+    ensures { λ r. ⌜ r ≡ clauseIn (now (clause .entry)) .reading .facts ⌝ }
+{
+    Facts {
+        kinds: bytes_in(clause[KINDS]),
+        firsts: bytes_in(clause[FIRSTS]),
+        seconds: [
+            clause[SECONDS],
+            clause[SECONDS + 1],
+            clause[SECONDS + 2],
+            clause[SECONDS + 3],
+            clause[SECONDS + 4],
+            clause[SECONDS + 5],
+            clause[SECONDS + 6],
+            clause[SECONDS + 7],
+        ],
+        count: clause[COUNT] as usize,
+    }
+}
+
+fn reading_in(clause: &[u64; 25]) -> Reading
+    ensures { λ r. ⌜ r ≡ clauseIn (now (clause .entry)) .reading ⌝ }
+{
+    Reading {
+        rooted: false,
+        root: (clause[ROOT] % 256) as u8,
+        facts: facts_in(clause),
+        befores: bytes_in(clause[BEFORES]),
+        afters: bytes_in(clause[AFTERS]),
+    }
+}
+
+// The pattern of a word of one content.
+fn single(clause: &[u64; 25], c: u8) -> u8
+    ensures { λ p. ⌜ ReadsOne (clauseIn (now (clause .entry)) .reading) c p ⌝ }
+{
+    readings::content_pattern(
+        bytes_in(clause[KINDS]),
+        bytes_in(clause[FIRSTS]),
+        clause[COUNT] as usize,
+        c,
+    )
+}
+
+// The patterns of words of the one set with words of the other after them. The empty word before others changes nothing.
+fn followed(clause: &[u64; 25], a: [u64; 4], b: [u64; 4]) -> [u64; 4]
+    ensures { λ words. ⌜ Follows (clauseIn (now (clause .entry)) .reading) a b words ⌝ }
+{
+    if pattern_sets::same(a, pattern_sets::only(EMPTY)) {
+        return b;
+    }
+    readings::product(reading_in(clause), a, b)
+}
+
+// A list of no items. Where no fact is about contents, nothing changes it.
+fn no_items(clause: &[u64; 25]) -> Line
+    ensures { λ line. ⌜ (clauseIn (now (clause .entry)) .plain ≡ false → LineBegins (clauseIn (now (clause .entry)) .contents) line) ⌝ }
+{
+    Line {
+        set: pattern_sets::only(EMPTY),
+        contents: clause[CONTENTS],
+        gaps: clause[GAPS],
+    }
+}
+
+// A list with one content more.
+fn with_content(clause: &[u64; 25], line: Line, c: u8) -> Line
+    requires { ⌜ c < 64 ⌝ }
+    ensures { λ more. ⌜ LineWithContent (clauseIn (now (clause .entry)) .reading) (clauseIn (now (clause .entry)) .contents) line c more ⌝ }
+{
+    let set = line.set;
+    let more = followed(clause, set, pattern_sets::only(single(clause, c)));
+    languages::content_added(clause[CONTENTS], line, c, more)
+}
+
+// The same of an element in it, which is most often the first content that can change the list.
+fn with_child(clause: &[u64; 25], line: Line, e: u8) -> Line
+    requires { ⌜ e < 64 ⌝ }
+    ensures { λ more. ⌜ LineWithContent (clauseIn (now (clause .entry)) .reading) (clauseIn (now (clause .entry)) .contents) line e more ⌝ }
+{
+    let set = line.set;
+    if pattern_sets::same(set, pattern_sets::only(EMPTY)) {
+        return Line {
+            set: pattern_sets::only(single(clause, e)),
+            contents: clause[CONTENTS],
+            gaps: ALL_GAPS,
+        };
+    }
+    with_content(clause, line, e)
+}
+
+// A list with what gap g takes, one more.
+fn with_gap(clause: &[u64; 25], line: Line, takes: &[u64; 32], g: u8) -> Line
+    requires { ⌜ g < 8 ⌝ }
+    ensures { λ more. ⌜ LineWithGap (clauseIn (now (clause .entry)) .reading) (clauseIn (now (clause .entry)) .contents) (now (takes .entry)) line g more ⌝ }
+{
+    let set = line.set;
+    let more = followed(clause, set, languages::taken(takes, g));
+    languages::gap_added(clause[CONTENTS], line, g, more)
+}
+
 // The patterns of the attribute at an offset.
 fn value_set(s: &[u8], at: usize, facts: Facts, words: &[u64; 544], n: usize) -> [u64; 4]
     requires { ⌜ n < 32 ⌝ }
@@ -116,93 +318,100 @@ fn value_set(s: &[u8], at: usize, facts: Facts, words: &[u64; 544], n: usize) ->
 fn with_attribute(
     s: &[u8],
     at: usize,
-    clause: Clause,
+    clause: &[u64; 25],
     words: &[u64; 544],
     n: usize,
     set: [u64; 4],
 ) -> [u64; 4]
     requires { ⌜ n < 32 ⌝ }
-    ensures { λ r. ⌜ TakesAttribute (now (s .entry)) at clause (now (words .entry)) n set r ⌝ }
+    ensures { λ r. ⌜ TakesAttribute (now (s .entry)) at (clauseIn (now (clause .entry))) (now (words .entry)) n set r ⌝ }
 {
     let here = Position { at };
     let a = here.operand(s, 1);
-    if !sets::has(clause.valued, a % 64) {
+    if !sets::has(clause[ATTRIBUTES], a % 64) {
         return set;
     }
-    let reading = clause.reading;
-    let facts = reading.facts;
-    readings::product(reading, set, value_set(s, at, facts, words, n))
+    let own = value_set(s, at, facts_in(clause), words, n);
+    readings::product(reading_in(clause), set, own)
 }
 
-// The attributes straight after `23 e` of an element of template n.
-fn attributes_of(
+// The patterns of the attributes straight after `23 e` of an element of template n.
+fn attribute_patterns(
     s: &[u8],
     start: Position,
-    clause: Clause,
+    clause: &[u64; 25],
     words: &[u64; 544],
     n: usize,
-) -> Attributed
+) -> [u64; 4]
     requires { ⌜ n < 32 ⌝ }
-    ensures { λ r. ⌜ Attributes (now (s .entry)) (start .at) clause (now (words .entry)) n r ⌝ }
+    ensures { λ r. ⌜ AttributePatterns (now (s .entry)) (start .at) (clauseIn (now (clause .entry))) (now (words .entry)) n r ⌝ }
 {
     let mut at = start.at;
-    let mut names: u64 = 0;
-    let mut set = pattern_sets::only(0);
+    let mut set = pattern_sets::only(EMPTY);
     while languages::is_attribute(s, at) {
-        names = sets::with(names, commands::byte_at(s, at + 1) % 64);
         let more = with_attribute(s, at, clause, words, n, set);
         set = more;
         at += 3;
     }
-    Attributed { names, set }
+    set
 }
 
-// The patterns of an element, from those of its attributes and of its contents. Where no fact is about contents, all of these have the
-// pattern of nothing.
-fn element_patterns(clause: Clause, outer: [u64; 4], inner: [u64; 4]) -> [u64; 4]
-    ensures { λ r. ⌜ ElementPatterns clause outer inner r ⌝ }
-{
-    if clause.plain {
-        return outer;
-    }
-    if pattern_sets::same(outer, pattern_sets::only(0)) {
-        return inner;
-    }
-    let reading = clause.reading;
-    readings::product(reading, outer, inner)
-}
-
-// Whether the formula is false under some pattern of a set, for an element whose attributes have these names.
-fn fails_under(s: &[u8], clause: Clause, names: u64, patterns: [u64; 4]) -> bool
-    ensures { λ r. ⌜ FailsUnder (now (s .entry)) clause names patterns r ⌝ }
-{
-    if names == clause.names {
-        let truths = clause.truths;
-        let set = truths.set;
-        return !pattern_sets::is_empty(pattern_sets::difference(patterns, set));
-    }
-    let reading = clause.reading;
-    let facts = reading.facts;
-    let formula = Position { at: clause.formula };
-    clauses::clause_fails(s, formula, facts, names, patterns).fails
-}
-
-// Whether the clause can fail for the element of template n whose attributes stand here and whose contents have these patterns.
-fn element_fails(
+// The patterns of the element of template n whose attributes stand here, from those of its contents. Where no fact is about contents,
+// all of these have the pattern of nothing; where none is about attributes, they have it.
+fn element_patterns(
     s: &[u8],
     start: Position,
-    clause: Clause,
+    clause: &[u64; 25],
     words: &[u64; 544],
     n: usize,
     inner: [u64; 4],
+) -> [u64; 4]
+    requires { ⌜ n < 32 ⌝ }
+    ensures { λ r. ⌜ ElementPatterns (now (s .entry)) (start .at) (clauseIn (now (clause .entry))) (now (words .entry)) n inner r ⌝ }
+{
+    if clause[GAPS] != ALL_GAPS {
+        return attribute_patterns(s, start, clause, words, n);
+    }
+    if clause[ATTRIBUTES] == 0 {
+        return inner;
+    }
+    followed(
+        clause,
+        attribute_patterns(s, start, clause, words, n),
+        inner,
+    )
+}
+
+// Whether the formula is false under some pattern of a set, for an element whose attributes have these names.
+fn fails_under(s: &[u8], clause: &[u64; 25], names: u64, patterns: [u64; 4]) -> bool
+    ensures { λ r. ⌜ FailsUnder (now (s .entry)) (clauseIn (now (clause .entry))) names patterns r ⌝ }
+{
+    if names == clause[NAMES] {
+        let truths = languages::four_at(clause, TRUTHS);
+        return !pattern_sets::is_empty(pattern_sets::difference(patterns, truths));
+    }
+    let formula = Position {
+        at: clause[FORMULA] as usize,
+    };
+    clauses::clause_fails(s, formula, facts_in(clause), names, patterns).fails
+}
+
+// Whether the clause can fail for the element of template n whose attributes stand here and have these names, and whose contents have
+// these patterns.
+fn element_fails(
+    s: &[u8],
+    start: Position,
+    clause: &[u64; 25],
+    words: &[u64; 544],
+    n: usize,
+    names: u64,
+    inner: [u64; 4],
 ) -> bool
     requires { ⌜ n < 32 ⌝ }
-    ensures { λ r. ⌜ ElementFails (now (s .entry)) (start .at) clause (now (words .entry)) n inner r ⌝ }
+    ensures { λ r. ⌜ ElementFails (now (s .entry)) (start .at) (clauseIn (now (clause .entry))) (now (words .entry)) n names inner r ⌝ }
 {
-    let attributed = attributes_of(s, start, clause, words, n);
-    let outer = attributed.set;
-    let patterns = element_patterns(clause, outer, inner);
-    fails_under(s, clause, attributed.names, patterns)
+    let patterns = element_patterns(s, start, clause, words, n, inner);
+    fails_under(s, clause, names, patterns)
 }
 
 // The lowest wrong element of an element at an offset: itself, or one inside it.
@@ -216,96 +425,32 @@ fn with_mark(fails: bool, at: usize, inside: usize) -> usize
     inside
 }
 
-// Whether the patterns of the contents of element e are wanted: it has the clause's name, and some fact is about contents.
-fn is_wanted(clause: Clause, e: u8) -> bool
-    ensures { λ r. ⌜ TellsWanted clause e r ⌝ }
-{
-    if e != clause.element {
-        return false;
-    }
-    !clause.plain
-}
-
-// A list of no items. If its patterns are not wanted, no item changes them.
-fn first_line(contents: u64, wanted: bool) -> Line
-    ensures { λ line. ⌜ (wanted ≡ true → LineBegins contents line) ⌝ }
-{
-    let line = languages::no_items(contents);
-    if wanted {
-        return line;
-    }
-    let set = line.set;
-    Line {
-        set,
-        contents: 0,
-        gaps: 0,
-    }
-}
-
-// The element here, of template n: itself, if it has the clause's name, and those inside it.
+// The element here, of template n, which has the clause's name: itself and those inside it. On the way the patterns of its contents are
+// worked out.
 fn search_element(
     s: &[u8],
     here: Position,
-    clause: Clause,
+    clause: &[u64; 25],
     n: usize,
     words: &[u64; 544],
     takes: &[u64; 32],
 ) -> Found
-    requires { ⌜ (n < 32) × (here .at < length (now s)) × (byte (now s) (here .at) ≡ 0x23) ⌝ }
+    requires { ⌜ (n < 32) × (here .at < length (now s)) × (byte (now s) (here .at) ≡ 0x23) × (byte (now s) (here .at + 1) ≡ clauseIn (now clause) .element) ⌝ }
     ensures forward { λ r. ⌜ here .at < r .next .at ⌝ }
-    ensures searched { λ r. ⌜ SearchesItem (now (s .entry)) (here .at) clause (now (words .entry)) (now (takes .entry)) n r ⌝ }
+    ensures searched { λ r. ⌜ SearchesItem (now (s .entry)) (here .at) (clauseIn (now (clause .entry))) (now (words .entry)) (now (takes .entry)) n r ⌝ }
 {
-    let at = here.at;
-    let e = commands::byte_at(s, at + 1);
-    let start = Position { at: at + 2 };
-    let list = search_items(
-        s,
-        occurrences::after_attributes(s, start),
-        clause,
-        n,
-        words,
-        takes,
-        is_wanted(clause, e),
-    );
-    let next = list.next;
-    if e != clause.element {
-        return Found {
-            wrong: list.wrong,
-            next,
-        };
-    }
-    let inner = list.set;
-    let fails = element_fails(s, start, clause, words, n, inner);
-    Found {
-        wrong: with_mark(fails, at, list.wrong),
-        next,
-    }
-}
-
-// The items from here on, of template n, up to and with what ends them.
-fn search_items(
-    s: &[u8],
-    here: Position,
-    clause: Clause,
-    n: usize,
-    words: &[u64; 544],
-    takes: &[u64; 32],
-    wanted: bool,
-) -> Searched
-    requires { ⌜ n < 32 ⌝ }
-    ensures forward { λ r. ⌜ here .at ≤ r .next .at ⌝ }
-    ensures searched { λ r. ⌜ SearchesItems (now (s .entry)) (here .at) clause (now (words .entry)) (now (takes .entry)) n wanted r ⌝ }
-{
-    let mut at = here.at;
+    let start = Position { at: here.at + 2 };
+    let named = reach::names_at(s, start);
+    let inside = named.next;
+    let mut at = inside.at;
     let mut wrong: usize = 0;
-    let mut line = first_line(clause.contents, wanted);
+    let mut line = no_items(clause);
     while at < s.len() {
         match s[at] {
             0x21 => {
                 at += 1;
-                if sets::has(line.contents, 0) {
-                    let reading = clause.reading;
-                    let more = languages::with_content(reading, clause.contents, line, 0);
+                if sets::has(line.contents, TEXT) {
+                    let more = with_content(clause, line, TEXT);
                     line = more;
                 }
             }
@@ -313,37 +458,109 @@ fn search_items(
                 let g = commands::byte_at(s, at + 1) % 8;
                 at += 2;
                 if sets::has(line.gaps, g) {
-                    let reading = clause.reading;
-                    let more = languages::with_gap(reading, clause.contents, line, takes, g);
+                    let more = with_gap(clause, line, takes, g);
                     line = more;
                 }
             }
             0x23 => {
                 let e = commands::byte_at(s, at + 1) % 64;
-                let found = search_element(s, Position { at }, clause, n, words, takes);
+                let found = search_child(s, Position { at }, clause, n, words, takes);
                 wrong = reach::lower(wrong, found.wrong);
                 let next = found.next;
                 at = next.at;
                 if sets::has(line.contents, e) {
-                    let reading = clause.reading;
-                    let more = languages::with_content(reading, clause.contents, line, e);
+                    let more = with_child(clause, line, e);
                     line = more;
                 }
             }
             _ => {
                 let set = line.set;
-                return Searched {
-                    wrong,
-                    set,
+                let fails = element_fails(s, start, clause, words, n, named.names, set);
+                return Found {
+                    wrong: with_mark(fails, here.at, wrong),
                     next: Position { at: at + 1 },
                 };
             }
         }
     }
-    let set = line.set;
-    Searched {
+    Found {
         wrong,
-        set,
+        next: Position { at },
+    }
+}
+
+// The element here, of template n, by its name.
+fn search_child(
+    s: &[u8],
+    here: Position,
+    clause: &[u64; 25],
+    n: usize,
+    words: &[u64; 544],
+    takes: &[u64; 32],
+) -> Found
+    requires { ⌜ (n < 32) × (here .at < length (now s)) × (byte (now s) (here .at) ≡ 0x23) ⌝ }
+    ensures forward { λ r. ⌜ here .at < r .next .at ⌝ }
+    ensures searched { λ r. ⌜ SearchesItem (now (s .entry)) (here .at) (clauseIn (now (clause .entry))) (now (words .entry)) (now (takes .entry)) n r ⌝ }
+{
+    let at = here.at;
+    if wide(commands::byte_at(s, at + 1)) == clause[ELEMENT] {
+        return search_element(s, here, clause, n, words, takes);
+    }
+    let inside = languages::after_attributes(s, Position { at: at + 2 });
+    search_items(s, inside, clause, n, words, takes)
+}
+
+// The items from here on, of template n, up to and with what ends them, where nobody asks for their patterns. An element of another
+// name than the clause's is gone into: `depth` of them are open.
+fn search_items(
+    s: &[u8],
+    here: Position,
+    clause: &[u64; 25],
+    n: usize,
+    words: &[u64; 544],
+    takes: &[u64; 32],
+) -> Found
+    requires { ⌜ n < 32 ⌝ }
+    ensures forward { λ r. ⌜ here .at ≤ r .next .at ⌝ }
+    ensures searched { λ r. ⌜ SearchesItems (now (s .entry)) (here .at) (clauseIn (now (clause .entry))) (now (words .entry)) (now (takes .entry)) n r ⌝ }
+{
+    let mut at = here.at;
+    let mut wrong: usize = 0;
+    let mut depth: usize = 0;
+    while at < s.len() {
+        match s[at] {
+            0x21 => {
+                at += 1;
+            }
+            0x22 => {
+                at += 2;
+            }
+            0x23 => {
+                if wide(commands::byte_at(s, at + 1)) == clause[ELEMENT] {
+                    let found = search_element(s, Position { at }, clause, n, words, takes);
+                    wrong = reach::lower(wrong, found.wrong);
+                    let next = found.next;
+                    at = next.at;
+                } else {
+                    depth += 1;
+                    let inside = languages::after_attributes(s, Position { at: at + 2 });
+                    at = inside.at;
+                }
+            }
+            _ => {
+                at += 1;
+                if depth == 0 {
+                    return Found {
+                        wrong,
+                        next: Position { at },
+                    };
+                }
+                depth -= 1;
+            }
+        }
+    }
+    Found {
+        wrong,
         next: Position { at },
     }
 }
@@ -371,28 +588,27 @@ fn clause_of(s: &[u8], e: u8, formula: usize, facts: Facts, names: u64) -> Claus
 // The exact pattern sets of all templates for the clause's facts, one after the other, if some are about contents.
 fn rows_of(
     s: &[u8],
-    clause: Clause,
+    clause: &[u64; 25],
     words: &[u64; 544],
     gaps: &[u64; 32],
     lone: &[u8; 32],
     starts: &[usize; 32],
     count: usize,
 ) -> [u64; 128]
-    ensures { λ r. ⌜ RowsFor (now (s .entry)) clause (now (words .entry)) (now (gaps .entry)) (now (lone .entry)) (now (starts .entry)) count r ⌝ }
+    ensures { λ r. ⌜ RowsFor (now (s .entry)) (clauseIn (now (clause .entry))) (now (words .entry)) (now (gaps .entry)) (now (lone .entry)) (now (starts .entry)) count r ⌝ }
 {
-    if clause.plain {
+    if clause[GAPS] != ALL_GAPS {
         return [0u64; 128];
     }
-    let reading = clause.reading;
-    languages::settled_rows(s, reading, words, gaps, lone, starts, count)
+    languages::settled_rows(s, reading_in(clause), words, gaps, lone, starts, count)
 }
 
 // What each gap of template n takes, if some facts of the clause are about contents.
-fn takes_of(clause: Clause, n: usize, words: &[u64; 544], rows: &[u64; 128]) -> [u64; 32]
+fn takes_of(clause: &[u64; 25], n: usize, words: &[u64; 544], rows: &[u64; 128]) -> [u64; 32]
     requires { ⌜ n < 32 ⌝ }
-    ensures { λ r. ⌜ TakesFor clause (now (words .entry)) (now (rows .entry)) n r ⌝ }
+    ensures { λ r. ⌜ TakesFor (clauseIn (now (clause .entry))) (now (words .entry)) (now (rows .entry)) n r ⌝ }
 {
-    if clause.plain {
+    if clause[GAPS] != ALL_GAPS {
         return [0u64; 32];
     }
     languages::gaps_from(words, rows, n)
@@ -402,22 +618,22 @@ fn takes_of(clause: Clause, n: usize, words: &[u64; 544], rows: &[u64; 128]) -> 
 fn search_template(
     s: &[u8],
     from: usize,
-    clause: Clause,
+    clause: &[u64; 25],
     n: usize,
     words: &[u64; 544],
     rows: &[u64; 128],
 ) -> usize
     requires { ⌜ n < 32 ⌝ }
-    ensures { λ r. ⌜ SearchesTemplate (now (s .entry)) from clause (now (words .entry)) (now (rows .entry)) n r ⌝ }
+    ensures { λ r. ⌜ SearchesTemplate (now (s .entry)) from (clauseIn (now (clause .entry))) (now (words .entry)) (now (rows .entry)) n r ⌝ }
 {
     let takes = takes_of(clause, n, words, rows);
-    search_items(s, Position { at: from }, clause, n, words, &takes, false).wrong
+    search_items(s, Position { at: from }, clause, n, words, &takes).wrong
 }
 
 // The table made lower by one clause, for the templates of a set, of which pages come. Template 0 has no element.
 fn search_templates(
     s: &[u8],
-    clause: Clause,
+    clause: &[u64; 25],
     words: &[u64; 544],
     gaps: &[u64; 32],
     lone: &[u8; 32],
@@ -426,7 +642,7 @@ fn search_templates(
     chosen: u64,
     table: [usize; 32],
 ) -> [usize; 32]
-    ensures { λ r. ⌜ SearchesTemplates (now (s .entry)) clause (now (words .entry)) (now (gaps .entry)) (now (lone .entry)) (now (starts .entry)) count chosen table r ⌝ }
+    ensures { λ r. ⌜ SearchesTemplates (now (s .entry)) (clauseIn (now (clause .entry))) (now (words .entry)) (now (gaps .entry)) (now (lone .entry)) (now (starts .entry)) count chosen table r ⌝ }
 {
     let rows = rows_of(s, clause, words, gaps, lone, starts, count);
     let mut lowest = table;
@@ -460,8 +676,8 @@ fn search_clause(
 ) -> [usize; 32]
     ensures { λ r. ⌜ SearchesClause (now (s .entry)) e formula facts (now (words .entry)) (now (gaps .entry)) (now (lone .entry)) (now (starts .entry)) count chosen table r ⌝ }
 {
-    let clause = clause_of(s, e, formula, facts, ever);
-    search_templates(s, clause, words, gaps, lone, starts, count, chosen, table)
+    let clause = words_of(clause_of(s, e, formula, facts, ever));
+    search_templates(s, &clause, words, gaps, lone, starts, count, chosen, table)
 }
 
 // The table made lower by the clauses of element e's rule, which stand from an offset on, for the templates of a set. A clause that

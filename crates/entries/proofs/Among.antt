@@ -1,24 +1,21 @@
 -- Walking over two lists of items at once: an item that stands in both is passed in both, any other of the second list by itself.
 use Prim.Native.Nat.{ℕ, _+_, _*_, _-_, _≤_, _<_}
-use mathlib.Core.Path.{_≡_, refl, sym, ap, _∙_}
-use mathlib.Core.Logic.{_⊎_, inl, inr}
+use mathlib.Core.Path.{_≡_, refl, sym, _∙_}
+use mathlib.Core.Logic.{inl, inr}
 use mathlib.Core.List.{List, [], _∷_}
-use mathlib.Core.Bool.{Bool, true, false, cond, not, _||_, false≢true}
+use mathlib.Core.Bool.{Bool, true, false, false≢true}
 use native.Mathlib.Omega.{arith}
 use lib.ListN.{length}
-use lib.Dec.{eqb, lit<}
-use borrow.Author.Tests.{not-true, not-false}
+use lib.Dec.{lit<}
 use Rattle.commands.specs.declared.Context.{Context}
 use Rattle.commands.specs.declared.Context.the-variants.{TemplateFacts, StringFacts}
 use Rattle.commands.specs.Commands.{byte, allowed, operandsOf, operandBytes}
-use Rattle.summaries.specs.Proposal.{Claim, Fact}
-use Rattle.summaries.specs.ProposalReading.{factOf, factAt}
-use Rattle.summaries.specs.Summaries.{Within, saysClaim, held}
-use Rattle.entries.specs.Listed.{ItemAt, over, Listed, SameItem, PastItem, SpellsFour}
-use Rattle.entries.specs.Words.{Keeps}
-use Rattle.entries.specs.Passing.{Decides}
+use Rattle.summaries.specs.Proposal.{Fact}
+use Rattle.summaries.specs.ProposalReading.{factAt}
+use Rattle.summaries.specs.Summaries.{Within, held}
+use Rattle.entries.specs.Listed.{over, Listed, SameItem, PastItem, SpellsFour}
 use Rattle.entries.proofs.Tests.{or-left, or-right, or-cases}
-use Rattle.entries.proofs.Walks.{inside, no-item, few-bytes}
+use Rattle.entries.proofs.Walks.{inside}
 
 pub not-zero : (n : ℕ) → (n ≡ 0 → ⊥) → 0 < n
 not-zero n h = omega (arith, h)

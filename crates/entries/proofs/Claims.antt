@@ -1,13 +1,13 @@
 -- What an item says of claims.
-use Prim.Native.Nat.{ℕ, _<_}
-use mathlib.Core.Path.{_≡_, refl, sym, ap, _∙_, subst}
+use Prim.Native.Nat.{ℕ}
+use mathlib.Core.Path.{_≡_, refl, sym, ap, _∙_}
 use mathlib.Core.List.{List, [], _∷_}
-use mathlib.Core.Bool.{Bool, true, false, cond, _&&_, false≢true}
+use mathlib.Core.Bool.{true, false, cond, false≢true}
 use lib.ListN.{getD}
 use lib.Dec.{eqb}
 use borrow.Author.Tests.{eq-eqb, eqb-true}
-use Rattle.summaries.specs.Proposal.{Claim, root, edge, string, gapFrom, attributeGapFrom, Fact, claim, anyAt, oneString, anyString}
-use Rattle.summaries.specs.Summaries.{numbersOf, sameNumbers, isStringAt, saysClaim}
+use Rattle.summaries.specs.Proposal.{Claim, root, edge, string, gapFrom, attributeGapFrom, claim, anyAt}
+use Rattle.summaries.specs.Summaries.{numbersOf, sameNumbers, saysClaim}
 use Rattle.entries.proofs.Tests.{and-both, and-left, and-right}
 
 same-numbers : (ns : List ℕ) → sameNumbers ns ns ≡ true

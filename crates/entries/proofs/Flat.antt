@@ -1,21 +1,20 @@
 -- The items of a template, one command after the other: the gaps that the commands name are the template's.
-use Prim.Native.Nat.{ℕ, zero, suc, _+_, _≤_, _<_}
+use Prim.Native.Nat.{ℕ, zero, suc, _+_, _≤_}
 use mathlib.Core.Path.{_≡_, refl, sym, ap, _∙_}
 use mathlib.Core.List.{List, [], _∷_, _++_}
-use mathlib.Core.Bool.{Bool, true, false, cond, _&&_, _||_, or-false, or-assoc, false≢true}
+use mathlib.Core.Bool.{Bool, true, false, _&&_, _||_, or-false, or-assoc, false≢true}
 use mathlib.Core.Logic.{_⊎_, inl, inr}
 use native.Mathlib.Omega.{arith}
 use lib.Dec.{eqb, leb}
-use borrow.Author.Tests.{eq-eqb, ne-eqb, eqb-true, eqb-false, leb-true, le-leb}
+use borrow.Author.Tests.{ne-eqb, eqb-true, eqb-false, leb-true, le-leb}
 use Rattle.commands.specs.declared.Context.the-variants.{TemplateItems, TemplateAttributes}
-use Rattle.commands.specs.declared.Decoded.the-variants.{Moved}
-use Rattle.commands.specs.Commands.{byte, between, either, allowed, operandsOf, operandBytes, allInRange, command}
+use Rattle.commands.specs.Commands.{byte, allowed, operandsOf, operandBytes, allInRange, command}
 use Rattle.commands.specs.Reading.{whole}
-use Rattle.commands.proofs.Laws.{MovedOver, moved}
+use Rattle.commands.proofs.Laws.{moved}
 use Rattle.pages.specs.declared.Kind.the-variants.{Template}
-use Rattle.pages.specs.Items.{Value, Attribute, Item, text, gap, element, Items, none, more, gapIn, gapInItem, isOpenGap, openIn, attributeGapIn, attributeGapInItem}
+use Rattle.pages.specs.Items.{Attribute, Item, gap, element, Items, gapIn, gapInItem, isOpenGap, openIn, attributeGapIn, attributeGapInItem}
 use Rattle.pages.specs.ItemReading.{endOf, valueAt, leafAt, attributes, items, item}
-use Rattle.pages.proofs.Whole.{never-unfinished, AttributesEnd, AttributeMore, attributes-whole, ItemsEnd, ItemsMore, items-whole, LeafRead, ElementRead, item-whole}
+use Rattle.pages.proofs.Whole.{never-unfinished, attributes-whole, items-whole, item-whole}
 use Rattle.entries.specs.Listed.{over}
 use Rattle.entries.specs.Gaps.{InnerAt, gapHere, attributeGapHere}
 use Rattle.entries.proofs.Tests.{or-cases, and-both}

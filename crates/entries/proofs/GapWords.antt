@@ -1,28 +1,26 @@
 -- The gaps of a template as a word: command by command, and against the words of an entry.
-use Prim.Native.Nat.{ℕ, zero, suc, _+_, _-_, _%_, _≤_, _<_}
+use Prim.Native.Nat.{ℕ, _+_, _-_, _%_, _≤_, _<_}
 use mathlib.Core.Path.{_≡_, refl, sym, ap, _∙_}
 use mathlib.Core.List.{List, [], _∷_}
-use mathlib.Core.Bool.{Bool, true, false, not, _&&_, _||_, or-false, and-false, false≢true}
-use mathlib.Core.Logic.{_⊎_, inl, inr}
+use mathlib.Core.Bool.{Bool, true, false, _&&_, _||_, or-false, and-false, false≢true}
 use native.Mathlib.Omega.{arith}
 use lib.ListN.{length, length-set, getD, set}
 use lib.Seq.{getD-set-same, getD-set-other}
 use lib.Dec.{eqb, leb, ltb}
-use borrow.Author.Tests.{eq-eqb, ne-eqb, eqb-true, eqb-false, ltb-true, ltb-false, lt-ltb, le-ltb, leb-true, not-true, not-false}
+use borrow.Author.Tests.{eq-eqb, ne-eqb, eqb-true, eqb-false, ltb-true, ltb-false, lt-ltb, leb-true}
 use Rattle.sets.specs.Sets.{member}
 use Rattle.sets.proofs.Laws.{member-zero}
 use Rattle.commands.specs.Commands.{byte, between, operandsOf, allInRange}
 use Rattle.commands.proofs.Laws.{byte-past}
 use Rattle.pages.specs.Items.{Items, none, gapIn, attributeGapIn}
 use Rattle.programs.specs.Program.{templateAt}
-use Rattle.summaries.specs.Proposal.{Claim, root, edge, string, gapFrom, attributeGapFrom}
+use Rattle.summaries.specs.Proposal.{root, edge, string, gapFrom, attributeGapFrom}
 use Rattle.summaries.specs.Summaries.{Summary, Within, fragment}
 use Rattle.entries.specs.Listed.{over}
 use Rattle.entries.specs.Words.{Keeps}
-use Rattle.entries.specs.Passing.{Decides}
 use Rattle.entries.specs.Gaps.{hasGap, hasAttributeGap, GapsAre, ItemsStand, StartsAt, InnerAt, gapHere, attributeGapHere, GapsMore}
-use Rattle.entries.proofs.Tests.{and-both, and-left, and-right, alike, refuted, decides, decided-true, decided-false}
-use Rattle.entries.proofs.Flat.{Flat, some-of, FlatPart, FlatList, items-flat}
+use Rattle.entries.proofs.Tests.{and-both, and-left, and-right, alike}
+use Rattle.entries.proofs.Flat.{Flat, some-of, items-flat}
 
 -- A number below 8 beside a bit of the word.
 low : (g a : ℕ) (m : Bool) → a < 8 → (ltb g 8 && (eqb g a || m)) ≡ (eqb a g || (ltb g 8 && m))

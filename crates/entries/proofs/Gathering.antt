@@ -1,9 +1,9 @@
 -- Gathering what the items under a head say, and comparing them one by one.
 use Prim.Native.Nat.{ℕ, _+_, _%_, _<_}
-use mathlib.Core.Path.{_≡_, refl, sym, ap, _∙_}
-use mathlib.Core.List.{List, [], _∷_}
-use mathlib.Core.Bool.{Bool, true, false, not, _||_, or-false, false≢true}
-use mathlib.Core.Logic.{_⊎_, inl, inr}
+use mathlib.Core.Path.{_≡_, refl, sym, _∙_}
+use mathlib.Core.List.{List}
+use mathlib.Core.Bool.{Bool, true, false, not, _||_, or-false}
+use mathlib.Core.Logic.{inl, inr}
 use native.Mathlib.Omega.{arith}
 use lib.Dec.{eqb}
 use borrow.Author.Tests.{eq-eqb, ne-eqb, eqb-true, not-true, not-false}
@@ -11,15 +11,14 @@ use Rattle.sets.specs.Sets.{member}
 use Rattle.commands.specs.declared.Context.{Context}
 use Rattle.commands.specs.declared.Context.the-variants.{TemplateFacts, StringFacts}
 use Rattle.commands.specs.Commands.{byte, allowed}
-use Rattle.summaries.specs.Proposal.{Claim, root, edge, string, gapFrom, attributeGapFrom, Fact, claim, anyAt, oneString, anyString}
+use Rattle.summaries.specs.Proposal.{root, Fact, claim, oneString}
 use Rattle.summaries.specs.ProposalReading.{factOf}
-use Rattle.summaries.specs.Summaries.{Summary, Within, sameNumbers, saysClaim, saysString, held}
+use Rattle.summaries.specs.Summaries.{Summary, sameNumbers, saysClaim, saysString, held}
 use Rattle.entries.specs.declared.Strings.{Strings}
 use Rattle.entries.specs.declared.Passing.{Passing}
 use Rattle.entries.specs.Listed.{ItemAt, over, Listed}
-use Rattle.entries.specs.Words.{Keeps}
-use Rattle.entries.specs.Passing.{isOf, passed, Decides}
-use Rattle.entries.proofs.Tests.{alike, refuted, or-cases, decided-true, decided-false}
+use Rattle.entries.specs.Passing.{isOf, Decides}
+use Rattle.entries.proofs.Tests.{alike, or-cases, decided-true, decided-false}
 use Rattle.entries.proofs.Claims.{says-itself, says-alone}
 use Rattle.entries.proofs.Items.{one-of, root-told}
 use Rattle.entries.proofs.Walks.{Walked, walk-begins, walk-goes, walk-ends, walk-stops}

@@ -1,14 +1,14 @@
 -- Whether an item passes into an entry, by the bits of the entry's words.
-use Prim.Native.Nat.{ℕ, _+_, _*_, _%_, _^_, _≤_, _<_}
-use mathlib.Core.Path.{_≡_, refl, sym, ap, _∙_}
+use Prim.Native.Nat.{ℕ, _+_, _*_, _%_, _<_}
+use mathlib.Core.Path.{_≡_, sym, _∙_}
 use mathlib.Core.List.{List}
-use mathlib.Core.Bool.{Bool, true, false, not, _||_}
+use mathlib.Core.Bool.{Bool, true, false, not}
 use native.Mathlib.Omega.{arith}
 use lib.ListN.{getD}
 use borrow.Author.Tests.{not-true, not-false}
 use Rattle.sets.specs.Sets.{member}
 use Rattle.sets.specs.Sets as Sets
-use Rattle.summaries.specs.Proposal.{Claim, root, edge, string, gapFrom, attributeGapFrom, claim, anyAt}
+use Rattle.summaries.specs.Proposal.{root, edge, string, gapFrom, attributeGapFrom, claim, anyAt}
 use Rattle.summaries.specs.Summaries.{Summary, Within}
 use Rattle.entries.specs.declared.Strings.{Strings}
 use Rattle.entries.specs.declared.Passing.{Passing}

@@ -1,17 +1,16 @@
 -- The item that stands at an offset, by its command.
 use Prim.Native.Nat.{ℕ, _+_, _*_, _%_, _≤_, _<_}
-use mathlib.Core.Path.{_≡_, refl, sym, ap, _∙_}
-use mathlib.Core.Logic.{_⊎_, inl, inr}
-use mathlib.Core.List.{List, [], _∷_}
-use mathlib.Core.Bool.{Bool, true, false, cond, _&&_, false≢true}
+use mathlib.Core.Path.{_≡_, refl, sym, _∙_}
+use mathlib.Core.List.{List}
+use mathlib.Core.Bool.{Bool, true, false, cond}
 use native.Mathlib.Omega.{arith}
 use native.Mathlib.Nat.{mod-lt}
 use lib.Dec.{eqb, leb, lit<}
 use borrow.Author.Tests.{eqb-false, leb-true}
-use Rattle.commands.specs.declared.Context.the-variants.{TemplateFacts, StringFacts}
+use Rattle.commands.specs.declared.Context.the-variants.{TemplateFacts}
 use Rattle.commands.specs.Commands.{byte, allowed}
 use Rattle.summaries.specs.Proposal.{Claim, root, edge, string, gapFrom, attributeGapFrom, Fact, claim, anyAt, oneString, anyString}
-use Rattle.summaries.specs.ProposalReading.{factOf, factAt}
+use Rattle.summaries.specs.ProposalReading.{factOf}
 use Rattle.entries.specs.Listed.{ClaimFits, FactFits, ItemAt}
 use Rattle.entries.specs.Words.{InWords, SlotAt}
 use Rattle.entries.proofs.Tests.{and-left, and-right}

@@ -1,7 +1,7 @@
 -- The words of an entry while its items are put into them.
-use Prim.Native.Nat.{ℕ, zero, suc, _+_, _^_, _≤_, _<_}
-use mathlib.Core.Path.{_≡_, refl, sym, ap, _∙_}
-use mathlib.Core.List.{List, [], _∷_}
+use Prim.Native.Nat.{ℕ, _^_, _<_}
+use mathlib.Core.Path.{_≡_, refl, _∙_}
+use mathlib.Core.List.{List, _∷_}
 use mathlib.Core.Bool.{Bool, true, false, _||_, or-false}
 use native.Mathlib.Omega.{arith}
 use lib.ListN.{length, getD, set, replicate}
@@ -13,8 +13,9 @@ use Rattle.commands.specs.declared.Context.the-variants.{TemplateFacts}
 use Rattle.commands.specs.Commands.{byte, allowed}
 use Rattle.summaries.specs.Proposal.{Claim, Fact, claim, anyAt, oneString, anyString}
 use Rattle.summaries.specs.Summaries.{saysClaim, held}
-use Rattle.entries.specs.Listed.{ItemAt, over, Listed}
-use Rattle.entries.specs.Words.{holds, InWords, SlotAt, Keeps}
+use Rattle.summaries.proofs.Laws.{zeros}
+use Rattle.entries.specs.Listed.{ItemAt, over}
+use Rattle.entries.specs.Words.{holds, InWords, SlotAt, Loads}
 use Rattle.entries.proofs.Slots.{holds-claim, holds-any, holds-none}
 use Rattle.entries.proofs.Walks.{Walked, walk-begins, walk-goes, walk-ends}
 use Rattle.entries.proofs.Items.{OfTemplate, item-kind, in-words}
@@ -58,22 +59,23 @@ module _ (s : List ℕ) (from at : ℕ) (words : List ℕ) where
         go k true e = rw (eqb-true k i e, getD-set-same words i v 0 inside) f
         go k false e = rw (getD-set-other words i k v 0 (eqb-false k i e)) (w .narrow k)
 
-  pub load-ends : allowed TemplateFacts (byte s at) ≡ false → Wide words → Walked TemplateFacts s from at (Loaded words)
-      → (xs : List Fact) → Listed TemplateFacts s from xs → Keeps words (held saysClaim xs)
+  pub load-ends : allowed TemplateFacts (byte s at) ≡ false → Wide words → Walked TemplateFacts s from at (Loaded words) → Loads s from words
   unfolding held
-  load-ends n w h xs l = record {
-    same = λ c g. walk-ends TemplateFacts s from at (Loaded words) h n xs l c g ∙ or-false (holds words c);
-    narrow = w .narrow;
+  load-ends n w h = record {
+    room = w .count;
+    keeps = λ xs l. record {
+      same = λ c g. walk-ends TemplateFacts s from at (Loaded words) h n xs l c g ∙ or-false (holds words c);
+      narrow = w .narrow;
+    };
   }
 
-pub load-begins : (s : List ℕ) (from : ℕ) (words : List ℕ) → ((i : ℕ) → getD words i 0 ≡ 0) → Walked TemplateFacts s from from (Loaded words)
-load-begins s from words z = walk-begins TemplateFacts s from (Loaded words) λ xs c g. rw (holds-none words z c)
+-- Nothing is loaded yet.
+module _ (words : List ℕ) (none : words ≡ replicate 544 0) where
+  zero-at : (i : ℕ) → getD words i 0 ≡ 0
+  zero-at i = rw none (zeros 544 i)
 
-pub wide-begins : (words : List ℕ) → length words ≡ 544 → ((i : ℕ) → getD words i 0 ≡ 0) → Wide words
-wide-begins words e z = record { count = e; narrow = λ i. rw (z i) (omega arith) }
+  pub load-begins : (s : List ℕ) (from : ℕ) → Walked TemplateFacts s from from (Loaded words)
+  load-begins s from = walk-begins TemplateFacts s from (Loaded words) λ xs c g. rw (holds-none words zero-at c)
 
--- A list of zeros.
-pub zeros : (n i : ℕ) → _≡_ {A = ℕ} (getD (replicate n 0) i 0) 0
-zeros zero i = refl
-zeros (suc n) zero = refl
-zeros (suc n) (suc i) = zeros n i
+  pub wide-begins : Wide words
+  wide-begins = record { count = rw none; narrow = λ i. rw (zero-at i) (omega arith) }

@@ -1,9 +1,9 @@
 -- What an entry holds of a template itself, gathered as bits: enough to see that a template just loaded lies within it.
-use Prim.Native.Nat.{ℕ, _+_, _-_, _%_, _≤_, _<_}
-use mathlib.Core.Path.{_≡_, refl, sym, ap, _∙_}
-use mathlib.Core.List.{List, [], _∷_}
-use mathlib.Core.Bool.{Bool, true, false, cond, not, _&&_, _||_, false≢true}
-use mathlib.Core.Logic.{_⊎_, inl, inr}
+use Prim.Native.Nat.{ℕ, _+_, _-_, _%_, _<_}
+use mathlib.Core.Path.{_≡_, sym, _∙_}
+use mathlib.Core.List.{List}
+use mathlib.Core.Bool.{Bool, true, false, _||_, false≢true}
+use mathlib.Core.Logic.{inl, inr}
 use native.Mathlib.Omega.{arith}
 use lib.Dec.{eqb, ltb}
 use borrow.Author.Tests.{eqb-true, ltb-true, lt-ltb, le-ltb}
@@ -13,7 +13,7 @@ use Rattle.sets.proofs.Laws.{member-zero}
 use Rattle.commands.specs.declared.Context.the-variants.{TemplateFacts}
 use Rattle.commands.specs.Commands.{byte, allowed}
 use Rattle.pages.specs.Items.{Items}
-use Rattle.summaries.specs.Proposal.{Claim, root, edge, string, gapFrom, attributeGapFrom, Fact, claim}
+use Rattle.summaries.specs.Proposal.{root, edge, string, gapFrom, attributeGapFrom, Fact}
 use Rattle.summaries.specs.Summaries.{Within, fragment, saysClaim, held}
 use Rattle.entries.specs.Listed.{ItemAt, over, Listed}
 use Rattle.entries.specs.Gaps.{hasGap, hasAttributeGap, GapsAre, ownClaim, OwnMore}

@@ -1,21 +1,19 @@
 -- What of an entry passes: item by item, and against the words of an entry.
-use Prim.Native.Nat.{ℕ, _+_, _*_, _^_, _≤_, _<_}
+use Prim.Native.Nat.{ℕ, _^_, _<_}
 use mathlib.Core.Path.{_≡_, refl, sym, ap, _∙_}
 use mathlib.Core.List.{List, [], _∷_}
 use mathlib.Core.Bool.{Bool, true, false, not, _&&_, _||_, and-false, or-false, false≢true}
-use mathlib.Core.Logic.{_⊎_, inl, inr}
+use mathlib.Core.Logic.{inl, inr}
 use native.Mathlib.Omega.{arith}
-use lib.ListN.{getD}
 use lib.Dec.{eqb}
 use borrow.Author.Tests.{eq-eqb, ne-eqb, eqb-true}
 use Rattle.sets.specs.Sets.{member}
 use Rattle.sets.specs.Sets as Sets
 use Rattle.sets.proofs.Laws.{member-high}
 use Rattle.summaries.specs.Proposal.{Claim, root, edge, string, gapFrom, attributeGapFrom, Fact, claim, anyAt}
-use Rattle.summaries.specs.Summaries.{Summary, Within, sameNumbers, saysClaim, isStringAt, held}
+use Rattle.summaries.specs.Summaries.{Summary, Within, sameNumbers, saysClaim, held}
 use Rattle.entries.specs.declared.Strings.{Strings}
 use Rattle.entries.specs.declared.Passing.{Passing}
-use Rattle.entries.specs.Words.{isKept, holds, InWords, Keeps}
 use Rattle.entries.specs.Passing.{isOf, stays, added, passed, Decides}
 use Rattle.entries.proofs.Tests.{or-left, or-right, or-cases, and-both, and-left, and-right, refuted, decides, decides-map}
 use Rattle.entries.proofs.Claims.{says-itself, says-alone, says-any}

@@ -1,20 +1,20 @@
 -- The items that reading a proposal gives stand where it read them.
-use Prim.Native.Nat.{ℕ, zero, suc, _+_, _-_, _≤_, _<_}
-use mathlib.Core.Path.{_≡_, refl, sym, ap, _∙_}
+use Prim.Native.Nat.{ℕ, zero, suc, _+_, _≤_, _<_}
+use mathlib.Core.Path.{_≡_, refl}
 use mathlib.Core.Logic.{_⊎_, inl, inr}
 use mathlib.Core.List.{List, [], _∷_}
-use mathlib.Core.Bool.{Bool, true, false, cond, _&&_, false≢true}
+use mathlib.Core.Bool.{Bool, true, false, cond, _&&_}
 use native.Mathlib.Omega.{arith}
-use lib.Dec.{eqb, leb, ltb}
+use lib.Dec.{eqb, leb}
 use borrow.Author.Tests.{eqb-true, leb-true, ltb-true}
 use Rattle.verdicts.specs.declared.Form.the-variants.{NotRising, Missing}
 use Rattle.commands.specs.declared.Context.{Context}
 use Rattle.commands.specs.Commands.{byte, allowed, operandsOf, allInRange}
-use Rattle.commands.specs.Reading.{Read, whole, refused, unfinished, andThen, onCommand, when}
+use Rattle.commands.specs.Reading.{Read, whole, when}
 use Rattle.commands.proofs.Laws.{moved, andThen-whole, onCommand-whole, when-whole}
-use Rattle.summaries.specs.Proposal.{Claim, root, edge, string, gapFrom, attributeGapFrom, Fact, claim, anyAt, oneString, anyString}
+use Rattle.summaries.specs.Proposal.{root, edge, string, gapFrom, attributeGapFrom, Fact, claim, anyAt, oneString}
 use Rattle.summaries.specs.ProposalReading.{factOf, factAt, factThere, rank, facts}
-use Rattle.entries.specs.Listed.{FactFits, ItemAt, over, Listed}
+use Rattle.entries.specs.Listed.{FactFits, Listed}
 use Rattle.entries.proofs.Tests.{and-left, and-right}
 
 chosen : (P : Fact → Type 0) (t : Bool) (x y : Fact) → (t ≡ true → P x) → P y → P (cond t x y)

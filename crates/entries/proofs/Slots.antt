@@ -1,20 +1,19 @@
 -- Each item has a word and a bit of its own.
-use Prim.Native.Nat.{ℕ, _+_, _-_, _*_, _/_, _%_, _≤_, _<_}
-use mathlib.Core.Path.{_≡_, refl, sym, ap, _∙_}
+use Prim.Native.Nat.{ℕ, _+_, _-_, _*_, _/_, _%_, _<_}
+use mathlib.Core.Path.{_≡_, refl, sym, _∙_}
 use mathlib.Core.List.{List}
-use mathlib.Core.Bool.{Bool, true, false, cond, _&&_, _||_, false≢true}
-use mathlib.Core.Logic.{_⊎_, inl, inr}
+use mathlib.Core.Bool.{Bool, true, false, cond, _&&_, _||_}
 use native.Mathlib.Omega.{arith}
 use lib.ListN.{length, getD, set}
 use lib.Seq.{getD-set-same, getD-set-other}
 use lib.Dec.{eqb, ltb}
-use borrow.Author.Tests.{eq-eqb, ne-eqb, eqb-true, eqb-false, lt-ltb, le-ltb}
+use borrow.Author.Tests.{eq-eqb, eqb-true, eqb-false, lt-ltb, le-ltb}
 use Rattle.sets.specs.Sets.{member}
 use Rattle.sets.proofs.Laws.{member-zero}
 use Rattle.summaries.specs.Proposal.{Claim, root, edge, string, gapFrom, attributeGapFrom, Fact, claim, anyAt, oneString, anyString}
-use Rattle.summaries.specs.Summaries.{saysClaim, isStringAt}
+use Rattle.summaries.specs.Summaries.{saysClaim}
 use Rattle.entries.specs.Words.{claimWord, claimBit, factWord, factBit, isKept, holds, InWords}
-use Rattle.entries.proofs.Tests.{or-left, or-right, and-both, and-left, and-right, alike, refuted}
+use Rattle.entries.proofs.Tests.{and-both, and-left, and-right, alike, refuted}
 use Rattle.entries.proofs.Claims.{says-itself, says-alone}
 
 -- The item of a word and a bit.

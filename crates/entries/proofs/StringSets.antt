@@ -1,8 +1,8 @@
 -- Sets of strings: one lies within another.
-use Prim.Native.Nat.{ℕ, _+_, _*_, _%_, _^_, _≤_, _<_}
+use Prim.Native.Nat.{ℕ, _+_, _*_, _%_, _^_, _<_}
 use mathlib.Core.List.{List}
 use lib.ListN.{getD}
-use mathlib.Core.Path.{_≡_, refl, sym, ap, _∙_}
+use mathlib.Core.Path.{_≡_, sym, _∙_}
 use mathlib.Core.Bool.{Bool, true, false, _||_, false≢true}
 use native.Mathlib.Omega.{arith}
 use Rattle.sets.specs.Sets.{member}
@@ -13,7 +13,7 @@ use Rattle.summaries.specs.Summaries.{Within}
 use Rattle.entries.specs.declared.Strings.{Strings}
 use Rattle.entries.specs.Words.{holds}
 use Rattle.entries.specs.Passing.{isOf, Decides}
-use Rattle.entries.proofs.Tests.{or-left, decides-map}
+use Rattle.entries.proofs.Tests.{decides-map}
 
 module _ (a b : Strings) where
   pub any-covers : b .any ≡ true → Within (isOf a) (isOf b)

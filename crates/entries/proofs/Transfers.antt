@@ -1,9 +1,9 @@
 -- The transfer functions as ways of passing. Their gaps are below 8, so gap 8 is none.
-use Prim.Native.Nat.{ℕ, _+_, _≤_, _<_}
-use mathlib.Core.Path.{_≡_, refl, sym, ap, _∙_}
+use Prim.Native.Nat.{ℕ, _<_}
+use mathlib.Core.Path.{_≡_, refl, sym, _∙_}
 use mathlib.Core.List.{List, [], _∷_}
 use mathlib.Core.Bool.{Bool, true, false, not, cond, _&&_, _||_, and-false, or-false, false≢true}
-use mathlib.Core.Logic.{_⊎_, inl, inr}
+use mathlib.Core.Logic.{inl, inr}
 use native.Mathlib.Omega.{arith}
 use lib.Dec.{eqb}
 use borrow.Author.Tests.{ne-eqb}
@@ -14,8 +14,8 @@ use Rattle.summaries.specs.Proposal.{Claim, root, edge, string, gapFrom, attrib
 use Rattle.summaries.specs.Summaries.{Summary, Strings, Within, plugSummary, plugStringSummary, saysClaim, held}
 use Rattle.entries.specs.declared.Strings as Declared
 use Rattle.entries.specs.declared.Passing.{Passing}
-use Rattle.entries.specs.Listed.{FactFits, ItemAt, Listed}
-use Rattle.entries.specs.Passing.{isOf, stays, added, passed, noStrings, wholly, withoutRoots, plugging, filling, Decides}
+use Rattle.entries.specs.Listed.{FactFits, Listed}
+use Rattle.entries.specs.Passing.{isOf, passed, wholly, withoutRoots, plugging, filling, Decides}
 use Rattle.entries.proofs.Tests.{or-left, or-right, or-cases, and-right, decided-true, decided-false, decides-map}
 use Rattle.entries.proofs.Claims.{says-alone}
 

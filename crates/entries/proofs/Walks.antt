@@ -1,5 +1,5 @@
 -- Walking over the items under a head: what was passed, and what is left.
-use Prim.Native.Nat.{ℕ, _+_, _*_, _-_, _^_, _≤_, _<_}
+use Prim.Native.Nat.{ℕ, _+_, _*_, _^_, _≤_, _<_}
 use mathlib.Core.Path.{_≡_, refl, sym, ap, _∙_}
 use mathlib.Core.List.{List, [], _∷_}
 use mathlib.Core.Bool.{Bool, true, false, cond, false≢true}
@@ -8,7 +8,7 @@ use lib.ListN.{length}
 use lib.Dec.{eqb, leb, ltb}
 use borrow.Author.Tests.{ltb-true, ltb-false, leb-true}
 use Rattle.commands.specs.declared.Context.{Context}
-use Rattle.commands.specs.declared.Context.the-variants.{TemplateItems, TemplateAttributes, TemplateFacts, StringFacts}
+use Rattle.commands.specs.declared.Context.the-variants.{TemplateFacts, StringFacts}
 use Rattle.commands.specs.Commands.{byte, allowed, Format, formats, widths, lookup, operandsOf, operandBytes}
 use Rattle.commands.proofs.Laws.{byte-past}
 use Rattle.summaries.specs.Proposal.{Fact}

@@ -4,12 +4,12 @@ use Prim.Native.Nat.{ℕ, _+_, _*_, _^_, _<_}
 use mathlib.Core.Path.{_≡_}
 use mathlib.Core.List.{List}
 use mathlib.Core.Bool.{Bool, _||_}
-use lib.ListN.{getD}
+use lib.ListN.{length, getD}
 use Rattle.sets.specs.Sets.{member}
 use Rattle.summaries.specs.Proposal.{Claim, root, edge, string, gapFrom, attributeGapFrom, Fact, claim, anyAt, oneString, anyString}
-use Rattle.summaries.specs.Summaries.{Summary}
+use Rattle.summaries.specs.Summaries.{Summary, saysClaim, held}
 use Rattle.commands.specs.declared.Context.the-variants.{TemplateFacts}
-use Rattle.entries.specs.Listed.{ItemAt}
+use Rattle.entries.specs.Listed.{ItemAt, Listed}
 
 -- Word 0 has the roots; 1 to 8 the origins of each gap, 9 to 16 those of each attribute gap; 17 to 24, for each attribute gap, the
 -- templates at which it takes any string; then for each template and gap the templates of its edges, and for each template and
@@ -64,6 +64,11 @@ InWords (attributeGapFrom h n) = h < 8
 pub record Keeps (words : List ℕ) (R : Summary) : Type 0 where
   pub same : (c : Claim) → InWords c → R c ≡ holds words c
   pub narrow : (i : ℕ) → getD words i 0 < 2 ^ 64
+
+-- The words keep the entry whose items stand at an offset.
+pub record Loads (s : List ℕ) (from : ℕ) (words : List ℕ) : Type 0 where
+  pub room : length words ≡ 544
+  pub keeps : (xs : List Fact) → Listed TemplateFacts s from xs → Keeps words (held saysClaim xs)
 
 -- The word and the bit of the item that stands at an offset; in range in any case.
 pub record SlotAt (s : List ℕ) (at word bit : ℕ) : Type 0 where

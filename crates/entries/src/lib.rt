@@ -3,16 +3,16 @@ ghost use mathlib.Core.Path.{_≡_};
 ghost use mathlib.Core.List.{List};
 ghost use mathlib.Core.Bool.{true, _||_};
 ghost use Prim.Native.Nat.{ℕ, _+_, _*_, _≤_, _<_};
-ghost use lib.ListN.{length, getD};
+ghost use lib.ListN.{length, getD, replicate};
 ghost use Rattle.sets.specs.Sets.{member};
 ghost use Rattle.commands.specs.Commands.{byte, between, allowed};
 ghost use Rattle.pages.specs.Items.{Items};
 ghost use Rattle.programs.specs.Program.{templateAt};
-ghost use Rattle.summaries.specs.Proposal.{Claim, root, edge, string, gapFrom, attributeGapFrom, Fact, claim, anyAt};
+ghost use Rattle.summaries.specs.Proposal.{root, edge, string, gapFrom, attributeGapFrom, Fact, claim, anyAt};
 ghost use Rattle.summaries.specs.Summaries.{Summary, Within, fragment, plugSummary, plugStringSummary, saysClaim, saysString, held};
 ghost use Rattle.summaries.specs.Summaries as Summaries;
 ghost use Rattle.entries.specs.Listed.{ItemAt, over, Listed, SameItem, PastItem, SpellsFour};
-ghost use Rattle.entries.specs.Words.{SlotAt, holds, Keeps};
+ghost use Rattle.entries.specs.Words.{SlotAt, holds, Keeps, Loads};
 ghost use Rattle.entries.specs.Passing.{isOf, passed, Decides};
 ghost use Rattle.entries.specs.Gaps.{GapsAre, ItemsStand, StartsAt, InnerAt, GapsMore, ownClaim, OwnMore};
 use commands::Context;
@@ -340,11 +340,11 @@ fn strings_among(s: &[u8], from: usize, there: usize) -> bool
     }
 }
 
-// The items under a head as words.
-pub fn load(s: &[u8], from: usize) -> [u64; 544]
-    ensures { λ r. ⌜ ((xs : List Fact) → Listed Context.TemplateFacts (now (s .entry)) from xs → Keeps r (held saysClaim xs)) ⌝ }
+// The items under a head as words, in an array that is lent with zeros.
+pub fn load(s: &[u8], from: usize, words: &mut [u64; 544])
+    requires { ⌜ now words ≡ replicate 544 0 ⌝ }
+    ensures { λ _. ⌜ Loads (now (s .entry)) from (now (words .exit)) ⌝ }
 {
-    let mut words = [0u64; 544];
     let mut at = from;
     while is_item(s, at) {
         let slot = slot_of(s, at);
@@ -352,7 +352,6 @@ pub fn load(s: &[u8], from: usize) -> [u64; 544]
         words[i] = sets::with(words[i], slot.bit);
         at = over(s, at);
     }
-    words
 }
 
 // Whether every string of the one set is one of the other. Only any string covers any string: other strings than the named ones exist.
@@ -672,7 +671,8 @@ pub fn entry_within(s: &[u8], from: usize, there: usize) -> bool
     if items_among(s, from, there) {
         return true;
     }
-    let words = load(s, there);
+    let mut words = [0u64; 544];
+    load(s, there, &mut words);
     copy_holds(s, from, &words)
 }
 
@@ -739,7 +739,8 @@ pub fn fragment_within(s: &[u8], t: u8, gaps: u64, there: usize) -> bool
     if fragment_among(s, t, gaps, there) {
         return true;
     }
-    let words = load(s, there);
+    let mut words = [0u64; 544];
+    load(s, there, &mut words);
     fragment_holds(&words, t, gaps)
 }
 
@@ -747,7 +748,8 @@ pub fn fragment_within(s: &[u8], t: u8, gaps: u64, there: usize) -> bool
 pub fn plug_within(s: &[u8], first: usize, gap: u8, second: usize, there: usize) -> bool
     ensures { λ r. ⌜ ((xs ys zs : List Fact) → Listed Context.TemplateFacts (now (s .entry)) first xs → Listed Context.TemplateFacts (now (s .entry)) second ys → Listed Context.TemplateFacts (now (s .entry)) there zs → Decides r (Within (plugSummary gap (held saysClaim xs) (held saysClaim ys)) (held saysClaim zs))) ⌝ }
 {
-    let words = load(s, there);
+    let mut words = [0u64; 544];
+    load(s, there, &mut words);
     plug_holds(s, first, gap, second, &words)
 }
 
@@ -755,7 +757,8 @@ pub fn plug_within(s: &[u8], first: usize, gap: u8, second: usize, there: usize)
 pub fn fill_within(s: &[u8], from: usize, attribute: u8, strings: Strings, there: usize) -> bool
     ensures { λ r. ⌜ ((xs : List Fact) (Y : Summaries.Strings) (zs : List Fact) → Listed Context.TemplateFacts (now (s .entry)) from xs → ((t : ℕ) → Y t ≡ isOf strings t) → Listed Context.TemplateFacts (now (s .entry)) there zs → Decides r (Within (plugStringSummary attribute (held saysClaim xs) Y) (held saysClaim zs))) ⌝ }
 {
-    let words = load(s, there);
+    let mut words = [0u64; 544];
+    load(s, there, &mut words);
     fill_holds(s, from, attribute, strings, &words)
 }
 

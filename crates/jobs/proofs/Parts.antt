@@ -9,6 +9,7 @@ use Rattle.verdicts.specs.declared.Form.{Form}
 use Rattle.verdicts.specs.declared.Form.the-variants.{TooLong, NotAllowed}
 use Rattle.sets.specs.Sets.{member}
 use Rattle.commands.specs.declared.Position.{Position}
+use Rattle.commands.specs.declared.Part.{Part}
 use Rattle.commands.specs.declared.Part.the-variants.{Whole, Refused}
 use Rattle.commands.specs.Reading.{Read, whole, refused, andThen, enough}
 use Rattle.commands.specs.Parts.{AgreesAs}
@@ -25,7 +26,6 @@ use Rattle.programs.specs.Program.{Statement}
 use Rattle.programs.specs.ProgramReading.{program}
 use Rattle.programs.specs.Promises.{Tabled, ProgramReads}
 use Rattle.programs.proofs.Laws.{WholeAs, agrees-whole, agrees-refuses, whole-agrees, refused-agrees, whole-then, enough-enough}
-use Rattle.summaries.specs.declared.ProposalRead.{ProposalRead}
 use Rattle.summaries.specs.ProposalReading.{proposal}
 use Rattle.summaries.specs.Promises.{Kept, ProposalReads}
 use Rattle.jobs.specs.declared.JobRead.{JobRead}
@@ -48,32 +48,32 @@ module _ (s : List ℕ) where
   parts = andThen (vocabulary s) afterVocabulary
 
   -- Refused where the parts are, and where something follows them.
-  module _ (r : JobRead) where
-    pub too-long : mostBytes < length s → r .part ≡ Refused TooLong 0 → JobReads s r
+  module _ (heads : List ℕ) (r : JobRead) where
+    pub too-long : mostBytes < length s → r .part ≡ Refused TooLong 0 → JobReads s heads r
     unfolding job
-    too-long l e = refused-agrees (λ j end. JobKept s j r) (job s) (r .part) TooLong 0 (rw (lt-leb (length s) mostBytes l)) e
+    too-long l e = refused-agrees (λ j end. JobKept s heads j r) (job s) (r .part) TooLong 0 (rw (lt-leb (length s) mostBytes l)) e
 
     module _ (short : length s ≤ mostBytes) where
-      parts-refuse : (f : Form) (n : ℕ) → parts ≡ refused f n → r .part ≡ Refused f n → JobReads s r
+      parts-refuse : (f : Form) (n : ℕ) → parts ≡ refused f n → r .part ≡ Refused f n → JobReads s heads r
       unfolding job
-      parts-refuse f n q e = refused-agrees (λ j end. JobKept s j r) (job s) (r .part) f n (rw (le-leb (length s) mostBytes short, q)) e
+      parts-refuse f n q e = refused-agrees (λ j end. JobKept s heads j r) (job s) (r .part) f n (rw (le-leb (length s) mostBytes short, q)) e
 
-      parts-go-on : (j : Job) (end : ℕ) → parts ≡ whole j end → end < length s → r .part ≡ Refused NotAllowed end → JobReads s r
+      parts-go-on : (j : Job) (end : ℕ) → parts ≡ whole j end → end < length s → r .part ≡ Refused NotAllowed end → JobReads s heads r
       unfolding job
       parts-go-on j end q l e =
-          refused-agrees (λ j end. JobKept s j r) (job s) (r .part) NotAllowed end (rw (le-leb (length s) mostBytes short, q, lt-ltb end (length s) l)) e
+          refused-agrees (λ j end. JobKept s heads j r) (job s) (r .part) NotAllowed end (rw (le-leb (length s) mostBytes short, q, lt-ltb end (length s) l)) e
 
-      parts-are-all : (j : Job) (end : Position) → parts ≡ whole j (end .at) → length s ≤ end .at → r .part ≡ Whole end → JobKept s j r → JobReads s r
+      parts-are-all : (j : Job) (end : Position) → parts ≡ whole j (end .at) → length s ≤ end .at → r .part ≡ Whole end → JobKept s heads j r → JobReads s heads r
       unfolding job
       parts-are-all j end q l e K =
-          whole-agrees (λ j end. JobKept s j r) (job s) (r .part) end j (end .at) (rw (le-leb (length s) mostBytes short, q, le-ltb (end .at) (length s) l)) e refl K
+          whole-agrees (λ j end. JobKept s heads j r) (job s) (r .part) end j (end .at) (rw (le-leb (length s) mostBytes short, q, le-ltb (end .at) (length s) l)) e refl K
 
 -- The vocabulary is refused, or is there.
-pub vocabulary-refuses : (s : List ℕ) (v : VocabularyRead) (r : JobRead) (f : Form) (n : ℕ) → length s ≤ mostBytes → VocabularyReads s v → v .part ≡ Refused f n → r .part ≡ v .part
-    → JobReads s r
-vocabulary-refuses s v r f n short reads q e =
+pub vocabulary-refuses : (s : List ℕ) (v : VocabularyRead) (heads : List ℕ) (r : JobRead) (f : Form) (n : ℕ) → length s ≤ mostBytes → VocabularyReads s v → v .part ≡ Refused f n → r .part ≡ v .part
+    → JobReads s heads r
+vocabulary-refuses s v heads r f n short reads q e =
     let refuses = agrees-refuses (λ D end. Describes s D (v .tables)) (vocabulary s) (v .part) f n q reads in
-    parts-refuse s r short f n (rw refuses) (e ∙ q)
+    parts-refuse s heads r short f n (rw refuses) (e ∙ q)
 
 pub record VocabularyThere (s : List ℕ) (v : VocabularyRead) (next : Position) : Type 0 where
   pub short : length s ≤ mostBytes
@@ -97,10 +97,10 @@ module _ {s : List ℕ} {v : VocabularyRead} {next : Position} (there : Vocabula
         subst (λ (ruled : ℕ → Bool). TemplatesFrom ruled s (next .at) t) (fun-ext (v-tree .holds .declares)) reads
         (enough s) (enough-enough s (next .at))
 
-    pub templates-refuse : (r : JobRead) (f : Form) (n : ℕ) → t .part ≡ Refused f n → r .part ≡ t .part → JobReads s r
-    templates-refuse r f n q e =
+    pub templates-refuse : (heads : List ℕ) (r : JobRead) (f : Form) (n : ℕ) → t .part ≡ Refused f n → r .part ≡ t .part → JobReads s heads r
+    templates-refuse heads r f n q e =
         let refuses = agrees-refuses (λ φs end. Located (declared (D .rules)) s φs (t .count) (t .starts)) (templates (enough s) (declared (D .rules)) s 0 (next .at)) (t .part) f n q t-agree in
-        parts-refuse s r (there .short) f n (after-v ∙ rw refuses) (e ∙ q)
+        parts-refuse s heads r (there .short) f n (after-v ∙ rw refuses) (e ∙ q)
 
 pub record TemplatesThere (s : List ℕ) (v : VocabularyRead) (next : Position) (t : TemplatesRead) (next′ : Position) : Type 0 where
   pub before : VocabularyThere s v next
@@ -127,10 +127,10 @@ module _ {s : List ℕ} {v : VocabularyRead} {next : Position} {t : TemplatesRea
     p-agrees : AgreesAs (λ ts end. Tabled s (length φs) p ts) (program (enough s) (length φs) s (next′ .at)) (p .part)
     p-agrees = subst (λ (n : ℕ). ProgramReads s n (next′ .at) p) (t-tree .holds .counted) reads (enough s) (enough-enough s (next′ .at))
 
-    pub program-refuses : (r : JobRead) (f : Form) (n : ℕ) → p .part ≡ Refused f n → r .part ≡ p .part → JobReads s r
-    program-refuses r f n q e =
+    pub program-refuses : (heads : List ℕ) (r : JobRead) (f : Form) (n : ℕ) → p .part ≡ Refused f n → r .part ≡ p .part → JobReads s heads r
+    program-refuses heads r f n q e =
         let refuses = agrees-refuses (λ ts end. Tabled s (length φs) p ts) (program (enough s) (length φs) s (next′ .at)) (p .part) f n q p-agrees in
-        parts-refuse s r (there .before .short) f n (after-t ∙ rw refuses) (e ∙ q)
+        parts-refuse s heads r (there .before .short) f n (after-t ∙ rw refuses) (e ∙ q)
 
 pub record ProgramThere (s : List ℕ) (v : VocabularyRead) (next : Position) (t : TemplatesRead) (next′ : Position) (p : ProgramRead) (next″ : Position) : Type 0 where
   pub before : TemplatesThere s v next t next′
@@ -156,22 +156,22 @@ module _ {s : List ℕ} {v : VocabularyRead} {next : Position} {t : TemplatesRea
   points-low = p-tree .holds .most
 
   -- The proposal is refused, or is there.
-  module _ (h : ProposalRead) (reads : ProposalReads (t .count) (p .count) s 0 (next″ .at) h) where
-    h-agrees : AgreesAs (λ hs end. Kept (length (φs (there .before))) s 0 (h .heads) hs) (proposal (enough s) (length (φs (there .before))) (length ts) s 0 (next″ .at)) (h .part)
+  module _ (heads : List ℕ) (h : Part) (reads : ProposalReads (t .count) (p .count) s 0 (next″ .at) heads h) where
+    h-agrees : AgreesAs (λ hs end. Kept (length (φs (there .before))) s 0 heads hs) (proposal (enough s) (length (φs (there .before))) (length ts) s 0 (next″ .at)) h
     h-agrees =
-        subst (λ (n : ℕ). ProposalReads (length (φs (there .before))) n s 0 (next″ .at) h) (p-tree .holds .points)
-        (subst (λ (n : ℕ). ProposalReads n (p .count) s 0 (next″ .at) h) (t-tree (there .before) .holds .counted) reads)
+        subst (λ (n : ℕ). ProposalReads (length (φs (there .before))) n s 0 (next″ .at) heads h) (p-tree .holds .points)
+        (subst (λ (n : ℕ). ProposalReads n (p .count) s 0 (next″ .at) heads h) (t-tree (there .before) .holds .counted) reads)
         (enough s) (enough-enough s (next″ .at))
 
-    pub proposal-refuses : (r : JobRead) (f : Form) (n : ℕ) → h .part ≡ Refused f n → r .part ≡ h .part → JobReads s r
+    pub proposal-refuses : (r : JobRead) (f : Form) (n : ℕ) → h ≡ Refused f n → r .part ≡ h → JobReads s heads r
     proposal-refuses r f n q e =
-        let refuses = agrees-refuses (λ hs end. Kept (length (φs (there .before))) s 0 (h .heads) hs) (proposal (enough s) (length (φs (there .before))) (length ts) s 0 (next″ .at)) (h .part) f n q h-agrees in
-        parts-refuse s r (there .before .before .short) f n (after-p ∙ rw refuses) (e ∙ q)
+        let refuses = agrees-refuses (λ hs end. Kept (length (φs (there .before))) s 0 heads hs) (proposal (enough s) (length (φs (there .before))) (length ts) s 0 (next″ .at)) h f n q h-agrees in
+        parts-refuse s heads r (there .before .before .short) f n (after-p ∙ rw refuses) (e ∙ q)
 
-    module _ (end : Position) (is-whole : h .part ≡ Whole end) where
-      h-tree : WholeAs (λ hs end. Kept (length (φs (there .before))) s 0 (h .heads) hs) (proposal (enough s) (length (φs (there .before))) (length ts) s 0 (next″ .at)) end
+    module _ (end : Position) (is-whole : h ≡ Whole end) where
+      h-tree : WholeAs (λ hs end. Kept (length (φs (there .before))) s 0 heads hs) (proposal (enough s) (length (φs (there .before))) (length ts) s 0 (next″ .at)) end
       h-tree =
-          agrees-whole (λ hs end. Kept (length (φs (there .before))) s 0 (h .heads) hs) (proposal (enough s) (length (φs (there .before))) (length ts) s 0 (next″ .at)) (h .part) end is-whole h-agrees
+          agrees-whole (λ hs end. Kept (length (φs (there .before))) s 0 heads hs) (proposal (enough s) (length (φs (there .before))) (length ts) s 0 (next″ .at)) h end is-whole h-agrees
 
       abbrev all : Job
       all = record { vocabulary = D (there .before .before); templates = φs (there .before); program = ts; proposal = h-tree .tree }
@@ -179,13 +179,13 @@ module _ {s : List ℕ} {v : VocabularyRead} {next : Position} {t : TemplatesRea
       after-h : parts s ≡ whole all (end .at)
       after-h =
           after-p
-          ∙ whole-then (λ hs end. Kept (length (φs (there .before))) s 0 (h .heads) hs) (proposal (enough s) (length (φs (there .before))) (length ts) s 0 (next″ .at)) end h-tree
+          ∙ whole-then (λ hs end. Kept (length (φs (there .before))) s 0 heads hs) (proposal (enough s) (length (φs (there .before))) (length ts) s 0 (next″ .at)) end h-tree
           (λ hs end. whole (record { vocabulary = D (there .before .before); templates = φs (there .before); program = ts; proposal = hs }) end)
 
-      pub more-follows : (r : JobRead) → end .at < length s → r .part ≡ Refused NotAllowed (end .at) → JobReads s r
-      more-follows r l e = parts-go-on s r (there .before .before .short) all (end .at) after-h l e
+      pub more-follows : (r : JobRead) → end .at < length s → r .part ≡ Refused NotAllowed (end .at) → JobReads s heads r
+      more-follows r l e = parts-go-on s heads r (there .before .before .short) all (end .at) after-h l e
 
-      pub nothing-follows : length s ≤ end .at → JobReads s (record { part = Whole end; tables = v .tables; templates = t; program = p; proposal = h })
+      pub nothing-follows : length s ≤ end .at → JobReads s heads (record { part = Whole end; tables = v .tables; templates = t; program = p })
       nothing-follows l =
-          parts-are-all s (record { part = Whole end; tables = v .tables; templates = t; program = p; proposal = h }) (there .before .before .short) all end after-h l refl
+          parts-are-all s heads (record { part = Whole end; tables = v .tables; templates = t; program = p }) (there .before .before .short) all end after-h l refl
           (record { vocabulary = v-tree (there .before .before) .holds; templates = t-tree (there .before) .holds; program = p-tree .holds; proposal = h-tree .holds })

@@ -11,12 +11,12 @@ use Rattle.summaries.specs.Promises.{Kept}
 use Rattle.jobs.specs.declared.JobRead.{JobRead}
 use Rattle.jobs.specs.Job.{Job, job}
 
--- What is kept of each part of a job.
-pub record JobKept (s : List ℕ) (j : Job) (r : JobRead) : Type 0 where
+-- What is kept of each part of a job; of the proposal, the offsets of the items under each head.
+pub record JobKept (s heads : List ℕ) (j : Job) (r : JobRead) : Type 0 where
   pub vocabulary : Describes s (j .vocabulary) (r .tables)
   pub templates : Located (declared (j .vocabulary .rules)) s (j .templates) (r .templates .count) (r .templates .starts)
   pub program : Tabled s (length (j .templates)) (r .program) (j .program)
-  pub proposal : Kept (length (j .templates)) s 0 (r .proposal .heads) (j .proposal)
+  pub proposal : Kept (length (j .templates)) s 0 heads (j .proposal)
 
-abbrev pub JobReads : List ℕ → JobRead → Type 0
-JobReads s r = AgreesAs (λ j end. JobKept s j r) (job s) (r .part)
+abbrev pub JobReads : List ℕ → List ℕ → JobRead → Type 0
+JobReads s heads r = AgreesAs (λ j end. JobKept s heads j r) (job s) (r .part)

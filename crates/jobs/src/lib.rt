@@ -1,20 +1,19 @@
 // Jobs: a vocabulary, templates, a program and a proposal, read from one string of bytes.
 ghost use mathlib.Core.Path.{_≡_};
+ghost use lib.ListN.{replicate};
 ghost use Rattle.jobs.specs.Promises.{JobReads};
 use commands::Part;
 use pages::TemplatesRead;
 use programs::ProgramRead;
-use summaries::ProposalRead;
 use verdicts::Form;
 use vocabularies::Tables;
 
-// What reading a job keeps of each part. Where the job cannot be read, only `part` counts.
+// What reading a job keeps of each part but the proposal. Where the job cannot be read, only `part` counts.
 pub struct JobRead {
     pub part: Part,
     pub tables: Tables,
     pub templates: TemplatesRead,
     pub program: ProgramRead,
-    pub proposal: ProposalRead,
 }
 
 const MOST_BYTES: usize = 65535;
@@ -43,16 +42,14 @@ fn unread(part: Part) -> JobRead
             places: [0; 32],
             named: 0,
         },
-        proposal: ProposalRead {
-            part,
-            heads: [0; 256],
-        },
     }
 }
 
-// The four parts, in order; nothing may follow.
-pub fn read_job(s: &[u8]) -> JobRead
-    ensures { λ r. ⌜ JobReads (now (s .entry)) r ⌝ }
+// The four parts, in order; nothing may follow. An array that is lent with zeros gets the offsets of the items under each head of the
+// proposal.
+pub fn read_job(s: &[u8], heads: &mut [usize; 256]) -> JobRead
+    requires { ⌜ now heads ≡ replicate 256 0 ⌝ }
+    ensures { λ r. ⌜ JobReads (now (s .entry)) (now (heads .exit)) r ⌝ }
 {
     if MOST_BYTES < s.len() {
         return unread(Part::Refused(Form::TooLong, 0));
@@ -73,8 +70,7 @@ pub fn read_job(s: &[u8]) -> JobRead
     let Part::Whole(next) = third else {
         return unread(third);
     };
-    let proposal = summaries::read_proposal(s, next, templates.count, program.count);
-    let part = proposal.part;
+    let part = summaries::read_proposal(s, next, templates.count, program.count, heads);
     let Part::Whole(end) = part else {
         return unread(part);
     };
@@ -86,6 +82,5 @@ pub fn read_job(s: &[u8]) -> JobRead
         tables,
         templates,
         program,
-        proposal,
     }
 }

@@ -1,7 +1,7 @@
 -- Items and lists of items: what the judgement of the parts says of the whole.
 use Prim.Native.Nat.{ℕ, zero, suc, _+_, _%_, _≤_, _<_}
 use mathlib.Core.Path.{_≡_, refl, sym, ap, subst, subst₂, _∙_}
-use mathlib.Core.List.{List, [], _∷_, _++_, append-assoc, append-nil}
+use mathlib.Core.List.{List, [], _∷_}
 use mathlib.Core.Bool.{Bool, true, false, cond, false≢true}
 use mathlib.Core.Option.{Option, some, none}
 use native.Mathlib.Numerals.{add-one}
@@ -24,7 +24,7 @@ use Rattle.judging.specs.declared.Judged.{Judged}
 use Rattle.judging.specs.declared.Listed.{Listed}
 use Rattle.judging.specs.declared.Named.{Named}
 use Rattle.judging.specs.Judgement.{rightUnder, orElse, firstWrong, firstWrongItem}
-use Rattle.judging.specs.Promises.{Names, Containing, IsRight, Tabled, wrongOf, ItemJudged, JudgesItem, JudgesItems}
+use Rattle.judging.specs.Promises.{Names, IsRight, Tabled, wrongOf, JudgesItem, JudgesItems}
 use Rattle.judging.proofs.Booleans.{by-test, and-left, and-right, or-left}
 
 pub or-none : (o : Option ℕ) → orElse o none ≡ o

@@ -19,9 +19,8 @@ use Rattle.pages.specs.Promises.{PastText}
 use Rattle.pages.specs.RightPages.{word, wordItem}
 use Rattle.pages.proofs.Laws.{item-move}
 use Rattle.judging.specs.declared.Judged.{Judged}
-use Rattle.judging.specs.declared.Listed.{Listed}
 use Rattle.judging.specs.Judgement.{orElse, firstWrong, firstWrongItem}
-use Rattle.judging.specs.Promises.{Lent, Containing, Tabled, SpeltAgain, wrongOf, ItemJudged, JudgesItem, ItemsJudged, JudgesItems}
+use Rattle.judging.specs.Promises.{Lent, Containing, Tabled, SpeltAgain, wrongOf, JudgesItem, ItemsJudged, JudgesItems}
 use Rattle.judging.proofs.ItemLaws.{or-none, or-or, inner-end, text-item, list-none, list-parts, parts}
 use Rattle.judging.proofs.Spelling.{item-same}
 

@@ -14,7 +14,7 @@ use Rattle.judging.specs.declared.Held.{Held}
 use Rattle.judging.specs.Judgement.{Atoms}
 use Rattle.judging.specs.Promises.{tableAtoms, Holds, heldOf, Shaped, Closed, Decides, AllHold, Settled, Remembered, Lent}
 use Rattle.judging.proofs.Booleans.{by-test}
-use Rattle.judging.proofs.Formulas.{truth-holds, attr-holds, content-holds, order-holds, value-holds, past-left, first-fails, first-holds, held-true, held-false}
+use Rattle.judging.proofs.Formulas.{attr-holds, content-holds, order-holds, value-holds, past-left, first-fails, first-holds, held-true, held-false}
 
 unordered : (x y z : Bool) → (x && y) ≡ false → not (x && (y && z)) ≡ true
 unordered false y z e = refl

@@ -1,6 +1,6 @@
 -- What is spelt the same is read the same, but for its marks: an item that is spelt as a right one is right.
 use Prim.Native.Nat.{ℕ, zero, suc, _+_, _-_, _≤_, _<_}
-use mathlib.Core.Path.{_≡_, refl, sym, ap, ap₂, subst, _∙_}
+use mathlib.Core.Path.{_≡_, refl, sym, ap, subst, _∙_}
 use mathlib.Core.Logic.{inl, inr}
 use mathlib.Core.List.{List, [], _∷_}
 use mathlib.Core.Bool.{Bool, true, false, cond, false≢true}
@@ -8,19 +8,19 @@ use mathlib.Core.Option.{Option, some, none}
 use native.Mathlib.Omega.{arith}
 use lib.Dec.{eqb}
 use borrow.Author.Count.{below-more}
-use borrow.Author.Tests.{eqb-true, eqb-false}
+use borrow.Author.Tests.{eqb-true}
 use Rattle.commands.specs.declared.Context.{Context}
 use Rattle.commands.specs.declared.Context.the-variants.{PageItems, PageAttributes}
 use Rattle.commands.specs.declared.Position.{Position}
 use Rattle.commands.specs.declared.Decoded.the-variants.{Moved}
 use Rattle.commands.specs.Commands.{byte, operandBytes, operandsOf, allowed, command}
 use Rattle.commands.specs.Reading.{whole}
-use Rattle.commands.proofs.Laws.{moved, MovedOver}
+use Rattle.commands.proofs.Laws.{moved}
 use Rattle.vocabularies.specs.Vocabulary.{Vocabulary, ruleOf, declared}
 use Rattle.pages.specs.declared.Kind.the-variants.{Page}
 use Rattle.pages.specs.Items.{Attribute, Item, text, element, Items, more}
 use Rattle.pages.specs.Items as Items
-use Rattle.pages.specs.ItemReading.{attributes, item, items, valueAt}
+use Rattle.pages.specs.ItemReading.{attributes, item, items}
 use Rattle.pages.specs.RightPages.{word, wordItem}
 use Rattle.pages.proofs.Whole.{never-unfinished, attributes-whole, items-whole, item-whole}
 use Rattle.pages.proofs.Laws.{attributes-move, items-move, item-move}

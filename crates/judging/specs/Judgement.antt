@@ -1,7 +1,7 @@
 -- The judgement of a page, computed: section 6 of source 000 as tests. That it agrees with the relation of `RightPages`, and with
 -- `PageVerdict`, is proved, both ways.
 use Prim.Native.Nat.{ℕ}
-use mathlib.Core.List.{List, [], _∷_, map}
+use mathlib.Core.List.{List, [], _∷_}
 use mathlib.Core.Bool.{Bool, true, false, cond, not, _&&_, _||_}
 use mathlib.Core.Option.{Option, some, none}
 use lib.Dec.{eqb}

@@ -60,7 +60,7 @@ pub struct Listed {
 }
 
 // No number above 63 is a member.
-fn is_member(set: u64, i: u8) -> bool
+pub fn is_member(set: u64, i: u8) -> bool
     ensures { λ r. ⌜ r ≡ member set i ⌝ }
 {
     if 64 <= i {

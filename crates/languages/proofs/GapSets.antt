@@ -20,7 +20,7 @@ use Rattle.patterns.specs.Rounds.{Sets, anyBelow}
 use Rattle.patterns.proofs.Tests.{or-left, or-right, or-cases, and-both, and-left, and-right, same-test, failed, any-below, below-any}
 use Rattle.pattern_sets.specs.PatternSets.{holds, FirstMember}
 use Rattle.entries.specs.Words.{Keeps}
-use Rattle.languages.specs.Tables.{fourAt, putFour, RowsAre, gapWords, OwnGapSetsAre}
+use Rattle.languages.specs.Tables.{fourAt, putFour, RowsAre, gapWords, GapSetIs, OwnGapSetsAre}
 use Rattle.languages.specs.Promises.{UnionOf}
 
 -- ---- stepping through the templates
@@ -177,8 +177,8 @@ module _ (words : List ℕ) (n : ℕ) (rows : List ℕ) (own : ℕ) (g : ℕ) (t
       let q : G (edge n k m) ≡ true = keeps .same (edge n k m) (few, l) ∙ e in
       record { to = m; there = bounded .edges n k m q; leads = q; has = p }
 
-  pub gap-sets-are : OwnGapSetsAre φs G M X n own takes
-  gap-sets-are k l o = record {
+  is-set : (k : ℕ) → k < 8 → member own k ≡ true → GapSetIs φs G M X n takes k
+  is-set k l o = record {
     inside = λ x h. same-test (holds (gapWords takes k) x) (anyBelow (suc (length φs)) (λ m. G (edge n k m) && X m x)) (into x h) (out x h);
     outside = λ x h. failed (holds (gapWords takes k) x) (λ e. let d = led k x l o e in false≢true (sym (are (d .to) (d .there) .outside x h) ∙ d .has));
   }
@@ -196,3 +196,6 @@ module _ (words : List ℕ) (n : ℕ) (rows : List ℕ) (own : ℕ) (g : ℕ) (t
           so-far .unions k (omega arith) l o .complete m x (omega arith)
           (sym (keeps .same (edge n k m) (few, l)) ∙ and-left (G (edge n k m)) (X m x) p)
           (are m (omega arith) .inside x h ∙ and-right (G (edge n k m)) (X m x) p)
+
+  pub gap-sets-are : OwnGapSetsAre φs G M X n own takes
+  gap-sets-are = record { gap-set = λ k l o. is-set k l o }

@@ -36,7 +36,7 @@ use Rattle.readings.specs.declared.Reading.{Reading}
 use Rattle.readings.specs.Readings.{Is}
 use Rattle.readings.specs.Promises.{ReadsOne}
 use Rattle.entries.specs.Gaps.{Lone}
-use Rattle.entries.proofs.Loading.{zeros}
+use Rattle.summaries.proofs.Laws.{zeros}
 use Rattle.languages.specs.Tables.{Used, fourAt, putFour, SetsAre, RowsAre, OwnGapSetsAre, ShownInRounds}
 use Rattle.languages.specs.Promises.{ListPatterns, AllTake, IsRound, Targets, TargetsTable, TakesFrom, OnlyChanged, CameOf, Rounds, WithinSet, Lacks, Grown, Grows}
 use Rattle.languages.proofs.Uses.{lawful, monoid, is-as, held-below, product-as}
@@ -105,7 +105,7 @@ module _ (r : Reading) (contents : ℕ) (s words gaps lone starts : List ℕ) (�
     template-list filled ne set L =
         let st = lent .shown .stand n (omega arith) there in
         L (lent .tells) M (lent .shown .reads) used φs G X n (st .ruled) (st .fuel) 0 (st .end) (templateAt φs n) (st .reads)
-        (λ g p. let (low, m) = own-gap (getD gaps n 0) (templateAt φs n) (lent .gaps-are n there) g p in sets g low m) (sym all-is ∙ filled)
+        (λ g p. let (low, m) = own-gap (getD gaps n 0) (templateAt φs n) (lent .gaps-are n there) g p in sets .gap-set g low m) (sym all-is ∙ filled)
 
 -- ---- a template that takes from no set that has changed
 

@@ -156,7 +156,7 @@ module _ (words takes : List ℕ) (n : ℕ) where
 
     pub taken-all : (k : ℕ) → 16 ≤ k → TakenTo k → AllTake words takes n own true
     taken-all k high so-far φs G M X keeps sets φ are = sym (all-take φs G M X n φ
-        (λ g p. let (low, m) = own-gap own φ are g p in sym (so-far .taken g (omega arith) (omega arith) m .gap low φs G M X (sets g low m)))
+        (λ g p. let (low, m) = own-gap own φ are g p in sym (so-far .taken g (omega arith) (omega arith) m .gap low φs G M X (sets .gap-set g low m)))
         (λ h p.
         let (low, m) = own-attribute-gap own φ are h p in
         let e : (8 + h) - 8 ≡ h = omega arith in
@@ -172,7 +172,7 @@ module _ (words takes : List ℕ) (n : ℕ) where
         go : allTake φs G M X n φ ≡ true → (u : Bool) → ltb k 8 ≡ u → ⊥
         go e true q =
             let l = ltb-true k 8 q in
-            false≢true (sym absent ∙ here .gap l φs G M X (sets k l held) ∙ gaps-take φs G M X n φ e k (are .gaps k ∙ and-both q held))
+            false≢true (sym absent ∙ here .gap l φs G M X (sets .gap-set k l held) ∙ gaps-take φs G M X n φ e k (are .gaps k ∙ and-both q held))
         go e false q =
             let h = ltb-false k 8 q in
             let back : 8 + (k - 8) ≡ k = omega arith in

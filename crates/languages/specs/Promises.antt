@@ -20,9 +20,9 @@ use Rattle.patterns.specs.Rounds.{Set, Sets, only, valueTakes, gapTakes, allTak
 use Rattle.pattern_sets.specs.PatternSets.{holds}
 use Rattle.readings.specs.declared.Reading.{Reading}
 use Rattle.readings.specs.Readings.{Is}
-use Rattle.readings.specs.Promises.{OfReading, TellsContents}
+use Rattle.readings.specs.Promises.{OfReading, ReadsOne, TellsContents}
 use Rattle.entries.specs.Words.{Keeps}
-use Rattle.entries.specs.Gaps.{GapsAre, ItemsStand, Lone}
+use Rattle.entries.specs.Gaps.{GapsAre}
 use Rattle.languages.specs.declared.Line.{Line}
 use Rattle.languages.specs.Tables.{Used, fourAt, gapWords, GapSetIs, OwnGapSetsAre, SetsAre, RowsAre, ShownInRounds}
 
@@ -54,10 +54,6 @@ AfterItem s at r = (ruled : ℕ → Bool) (f depth end : ℕ) (i : Item) → ite
 abbrev pub AfterItems : List ℕ → ℕ → Position → Type 0
 AfterItems s at r = (ruled : ℕ → Bool) (f depth end : ℕ) (φ : Items) → items f Template ruled s depth at ≡ whole φ end → r .at ≡ end
 
--- Which element the items at an offset are, if they are one alone; a number above 63 says nothing.
-abbrev pub LoneAt : List ℕ → ℕ → ℕ → Type 0
-LoneAt s at e = (φ : Items) → ItemsStand s at φ → e < 64 → Lone e φ
-
 -- The patterns of a list so far; what cannot change them changes nothing.
 pub record LineIs (M : Morphisms.Morphism) (takes : List ℕ) (line : Line) (A : Set) : Type 0 where
   pub is : Is M (line .set) A
@@ -79,6 +75,15 @@ LineWithContent r contents line c more = TellsContents r contents → OfReading 
 abbrev pub LineWithGap : Reading → ℕ → List ℕ → Line → ℕ → Line → Type 0
 LineWithGap r contents takes line g more = TellsContents r contents → OfReading r (λ M. Used M → (A I : Set)
     → LineIs M takes line A → Is M (gapWords takes g) I → LineIs M takes more (product M A I))
+
+-- With the product of its patterns and those of a content or a gap, for every reading.
+abbrev pub LineAddsContent : ℕ → Line → ℕ → List ℕ → Line → Type 0
+LineAddsContent contents line c more longer = (r : Reading) (p : ℕ) (own : List ℕ) → ReadsOne r c p → ((y : ℕ) → holds own y ≡ eqb y p)
+    → Follows r (line .set) own more → LineWithContent r contents line c longer
+
+abbrev pub LineAddsGap : ℕ → Line → ℕ → List ℕ → Line → Type 0
+LineAddsGap contents line g more longer = (r : Reading) (takes own : List ℕ) → (g < 8 → own ≡ gapWords takes g)
+    → Follows r (line .set) own more → LineWithGap r contents takes line g longer
 
 -- What stands at an offset: content c, or gap g.
 abbrev pub ContentAt : List ℕ → ℕ → ℕ → Type 0

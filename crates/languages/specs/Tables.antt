@@ -49,8 +49,8 @@ gapWords takes g = fourAt takes (g * 4)
 abbrev pub GapSetIs : List Items → Summary → Morphisms.Morphism → Sets → ℕ → List ℕ → ℕ → Type 0
 GapSetIs φs G M X n takes g = Is M (gapWords takes g) (λ x. anyTemplate φs (λ m. G (edge n g m) && X m x))
 
-abbrev pub OwnGapSetsAre : List Items → Summary → Morphisms.Morphism → Sets → ℕ → ℕ → List ℕ → Type 0
-OwnGapSetsAre φs G M X n own takes = (g : ℕ) → g < 8 → member own g ≡ true → GapSetIs φs G M X n takes g
+pub record OwnGapSetsAre (φs : List Items) (G : Summary) (M : Morphisms.Morphism) (X : Sets) (n own : ℕ) (takes : List ℕ) : Type 0 where
+  pub gap-set : (g : ℕ) → g < 8 → member own g ≡ true → GapSetIs φs G M X n takes g
 
 abbrev pub GapSetsAre : List Items → Summary → Morphisms.Morphism → Sets → ℕ → List ℕ → Type 0
 GapSetsAre φs G M X n takes = (g : ℕ) → g < 8 → GapSetIs φs G M X n takes g

@@ -15,10 +15,11 @@ ghost use Rattle.patterns.specs.Rounds.{Sets, valueTakes};
 ghost use Rattle.patterns.specs.Exactness.{Exact};
 ghost use Rattle.entries.specs.Words.{Keeps};
 ghost use Rattle.languages.specs.Tables.{fourAt, putFour, SetsAre, RowsAre, gapWords, OwnGapSetsAre, GapSetsAre, Shown};
-ghost use Rattle.entries.specs.Gaps.{StartsAt, GapsTable, LoneTable};
-ghost use Rattle.languages.specs.Promises.{firstWord, Zeroed, UnionOf, AfterAttributes, AfterItem, AfterItems, LoneAt, Follows, LineBegins, LineWithContent, LineWithGap, CanChange, LineWithItem, ListPatterns, GapTakes, AllTake, IsRound, Targets, TargetsTable, TakesFrom, Rounds, WithinSet, Grows};
+ghost use Rattle.entries.specs.Gaps.{GapsTable, LoneTable};
+ghost use Rattle.languages.specs.Promises.{firstWord, Zeroed, UnionOf, AfterAttributes, AfterItem, AfterItems, Follows, LineBegins, LineAddsContent, LineWithContent, LineAddsGap, LineWithGap, CanChange, LineWithItem, ListPatterns, GapTakes, AllTake, IsRound, Targets, TargetsTable, TakesFrom, Rounds, WithinSet, Grows};
 use commands::Context;
 use commands::Position;
+use readings::EMPTY;
 use readings::Reading;
 
 // The patterns of a list of items so far, and the contents and gaps that can still change them.
@@ -28,13 +29,10 @@ pub struct Line {
     pub gaps: u64,
 }
 
-// The pattern of the empty word.
-const EMPTY: u8 = 0;
-
-const TEXT: u8 = 0;
+pub const TEXT: u8 = 0;
 
 // Gaps 0 to 7.
-const ALL_GAPS: u64 = 0xFF;
+pub const ALL_GAPS: u64 = 0xFF;
 
 // The first of the words, 8 apart, in which templates have what their gap takes: the edges of gap k, or from 8 on the strings of
 // attribute gap k - 8.
@@ -74,7 +72,7 @@ pub fn close(words: &mut [u64; 544])
     }
 }
 
-fn four_at(table: &[u64], i: usize) -> [u64; 4]
+pub fn four_at(table: &[u64], i: usize) -> [u64; 4]
     requires { ⌜ i + 3 < length (now table) ⌝ }
     ensures { λ r. ⌜ r ≡ fourAt (now (table .entry)) i ⌝ }
 {
@@ -116,19 +114,17 @@ fn union_of(templates: u64, rows: &[u64; 128]) -> [u64; 4]
 
 // What the gaps of template n among `own` take: the patterns of all templates to which they have edges, from their sets. Gap g has
 // four words from 4 * g on.
-fn own_gaps_from(words: &[u64; 544], rows: &[u64; 128], n: usize, own: u64) -> [u64; 32]
-    requires { ⌜ n < 32 ⌝ }
-    ensures { λ r. ⌜ ((φs : List Items) (G : Summary) (M : Morphisms.Morphism) (X : Sets) → length φs < 32 → Bounded φs G → Keeps (now (words .entry)) G → RowsAre φs M X (now (rows .entry)) → OwnGapSetsAre φs G M X n own r) ⌝ }
+fn own_gaps_from(words: &[u64; 544], rows: &[u64; 128], n: usize, own: u64, takes: &mut [u64])
+    requires { ⌜ (n < 32) × (length (now takes) ≡ 32) ⌝ }
+    ensures { λ _. ⌜ ((φs : List Items) (G : Summary) (M : Morphisms.Morphism) (X : Sets) → length φs < 32 → Bounded φs G → Keeps (now (words .entry)) G → RowsAre φs M X (now (rows .entry)) → OwnGapSetsAre φs G M X n own (now (takes .exit))) ⌝ }
 {
-    let mut takes = [0u64; 32];
     let mut g = pattern_sets::first_member(own, 0);
     while g < 8 {
         let i = g as usize;
         let set = union_of(words[32 + n * 8 + i], rows);
-        put_four(&mut takes, i * 4, set);
+        put_four(takes, i * 4, set);
         g = pattern_sets::first_member(own, g + 1);
     }
-    takes
 }
 
 // The same of all gaps.
@@ -136,7 +132,9 @@ pub fn gaps_from(words: &[u64; 544], rows: &[u64; 128], n: usize) -> [u64; 32]
     requires { ⌜ n < 32 ⌝ }
     ensures { λ r. ⌜ ((φs : List Items) (G : Summary) (M : Morphisms.Morphism) (X : Sets) → length φs < 32 → Bounded φs G → Keeps (now (words .entry)) G → RowsAre φs M X (now (rows .entry)) → GapSetsAre φs G M X n r) ⌝ }
 {
-    own_gaps_from(words, rows, n, ALL_GAPS)
+    let mut takes = [0u64; 32];
+    own_gaps_from(words, rows, n, ALL_GAPS, &mut takes);
+    takes
 }
 
 // Whether template n's attribute gap h has some string to take.
@@ -160,7 +158,7 @@ pub fn is_attribute(s: &[u8], at: usize) -> bool
 }
 
 // The four words of a gap.
-fn taken(takes: &[u64; 32], g: u8) -> [u64; 4]
+pub fn taken(takes: &[u64; 32], g: u8) -> [u64; 4]
     ensures { λ r. ⌜ (g < 8 → r ≡ gapWords (now (takes .entry)) g) ⌝ }
 {
     let i = (g % 8) as usize * 4;
@@ -176,7 +174,7 @@ pub fn is_end(s: &[u8], at: usize) -> bool
 }
 
 // The offset after the attributes straight after `23 e`.
-fn after_attributes(s: &[u8], here: Position) -> Position
+pub fn after_attributes(s: &[u8], here: Position) -> Position
     ensures forward { λ r. ⌜ here .at ≤ r .at ⌝ }
     ensures after { λ r. ⌜ AfterAttributes (now (s .entry)) (here .at) r ⌝ }
 {
@@ -223,44 +221,8 @@ pub fn after_items(s: &[u8], here: Position) -> Position
     Position { at }
 }
 
-// Of a template that is not one element alone.
-const NOT_LONE: u8 = 64;
-
-// Which element the template at an offset is, if it is one alone.
-fn lone_element(s: &[u8], at: usize) -> u8
-    ensures { λ e. ⌜ LoneAt (now (s .entry)) at e ⌝ }
-{
-    if s.len() <= at {
-        return NOT_LONE;
-    }
-    if s[at] != 0x23 {
-        return NOT_LONE;
-    }
-    let next = after_item(s, Position { at });
-    if !is_end(s, next.at) {
-        return NOT_LONE;
-    }
-    commands::byte_at(s, at + 1)
-}
-
-// Which element each template is, if it is one alone. Template 0 is empty.
-pub fn lone_elements(s: &[u8], starts: &[usize; 32], count: usize) -> [u8; 32]
-    ensures { λ r. ⌜ ((φs : List Items) → StartsAt (now (s .entry)) φs (now (starts .entry)) → count ≡ length φs → LoneTable r φs) ⌝ }
-{
-    let mut lone = [64u8; 32];
-    let mut n = 1;
-    while n < 32 {
-        if count < n {
-            return lone;
-        }
-        lone[n] = lone_element(s, starts[n]);
-        n += 1;
-    }
-    lone
-}
-
 // A list of no items. `contents` are those that have another pattern than the empty word.
-pub fn no_items(contents: u64) -> Line
+fn no_items(contents: u64) -> Line
     ensures { λ line. ⌜ LineBegins contents line ⌝ }
 {
     Line {
@@ -280,16 +242,12 @@ fn followed(r: Reading, a: [u64; 4], b: [u64; 4]) -> [u64; 4]
     readings::product(r, a, b)
 }
 
-// A list with one content more.
-pub fn with_content(r: Reading, contents: u64, line: Line, c: u8) -> Line
+// A list with content c one more, after which it has these patterns.
+pub fn content_added(contents: u64, line: Line, c: u8, more: [u64; 4]) -> Line
     requires { ⌜ c < 64 ⌝ }
-    ensures { λ more. ⌜ LineWithContent r contents line c more ⌝ }
+    ensures { λ longer. ⌜ LineAddsContent contents line c more longer ⌝ }
 {
-    if !sets::has(line.contents, c) {
-        return line;
-    }
     let set = line.set;
-    let more = followed(r, set, pattern_sets::only(readings::single(r, c)));
     if pattern_sets::same(more, set) {
         return Line {
             set,
@@ -304,16 +262,22 @@ pub fn with_content(r: Reading, contents: u64, line: Line, c: u8) -> Line
     }
 }
 
-// A list with what gap g takes, one more.
-pub fn with_gap(r: Reading, contents: u64, line: Line, takes: &[u64; 32], g: u8) -> Line
-    requires { ⌜ g < 8 ⌝ }
-    ensures { λ more. ⌜ LineWithGap r contents (now (takes .entry)) line g more ⌝ }
+// A list with one content more.
+fn with_content(r: Reading, contents: u64, line: Line, c: u8) -> Line
+    requires { ⌜ c < 64 ⌝ }
+    ensures { λ more. ⌜ LineWithContent r contents line c more ⌝ }
 {
-    if !sets::has(line.gaps, g) {
-        return line;
-    }
     let set = line.set;
-    let more = followed(r, set, taken(takes, g));
+    let more = followed(r, set, pattern_sets::only(readings::single(r, c)));
+    content_added(contents, line, c, more)
+}
+
+// A list with what gap g takes one more, after which it has these patterns.
+pub fn gap_added(contents: u64, line: Line, g: u8, more: [u64; 4]) -> Line
+    requires { ⌜ g < 8 ⌝ }
+    ensures { λ longer. ⌜ LineAddsGap contents line g more longer ⌝ }
+{
+    let set = line.set;
     if pattern_sets::same(more, set) {
         return Line {
             set,
@@ -326,6 +290,16 @@ pub fn with_gap(r: Reading, contents: u64, line: Line, takes: &[u64; 32], g: u8)
         contents,
         gaps: ALL_GAPS,
     }
+}
+
+// A list with what gap g takes, one more.
+fn with_gap(r: Reading, contents: u64, line: Line, takes: &[u64; 32], g: u8) -> Line
+    requires { ⌜ g < 8 ⌝ }
+    ensures { λ more. ⌜ LineWithGap r contents (now (takes .entry)) line g more ⌝ }
+{
+    let set = line.set;
+    let more = followed(r, set, taken(takes, g));
+    gap_added(contents, line, g, more)
 }
 
 // Whether the item at an offset can still change a list.
@@ -405,7 +379,7 @@ fn all_take(words: &[u64; 544], takes: &[u64; 32], n: usize, own: u64) -> bool
 fn is_element(e: u8) -> bool
     ensures { λ t. ⌜ (t ≡ true → (0 < e) × (e < 64)) ⌝ }
 {
-    0 < e && e < NOT_LONE
+    0 < e && e < 64
 }
 
 // The set of template n, from the sets of the round before. Template 0 is empty. There is no pattern while a gap has nothing to take.
@@ -427,7 +401,8 @@ fn template_patterns(
         return pattern_sets::only(EMPTY);
     }
     let own = gaps[n];
-    let takes = own_gaps_from(words, rows, n, own);
+    let mut takes = [0u64; 32];
+    own_gaps_from(words, rows, n, own, &mut takes);
     if !all_take(words, &takes, n, own) {
         return pattern_sets::empty();
     }

@@ -1,23 +1,31 @@
 -- The table of elements, element by element and template by template.
-use Prim.Native.Nat.{ℕ, _+_, _≤_, _<_}
+use Prim.Native.Nat.{ℕ, zero, suc, _+_, _≤_, _<_}
 use mathlib.Core.Path.{_≡_, refl, sym, ap, subst, _∙_}
-use mathlib.Core.List.{List, [], _∷_}
-use mathlib.Core.Bool.{Bool, true, false, _&&_, _||_}
+use mathlib.Core.List.{List}
+use mathlib.Core.Bool.{Bool, true, false, _&&_, _||_, and-false}
+use mathlib.Core.Logic.{_⊎_, ⊎-elim}
+use native.Mathlib.Decide.{ℕ-discrete}
 use native.Mathlib.Omega.{arith}
-use lib.ListN.{length, getD, set, length-set}
+use lib.ListN.{length, getD, set, length-set, replicate}
 use lib.Seq.{getD-set-same, getD-set-other}
-use lib.Dec.{eqb}
+use lib.Dec.{eqb, ltb}
 use borrow.Author.Tests.{eq-eqb, eqb-true, eqb-false}
 use Rattle.sets.specs.Sets.{member}
-use Rattle.commands.specs.declared.Position.{Position}
+use Rattle.sets.proofs.Laws.{member-zero}
 use Rattle.vocabularies.specs.Vocabulary.{isIn}
 use Rattle.pages.specs.Items.{Attribute, Items}
-use Rattle.pages.specs.RightPages.{names}
+use Rattle.pages.specs.RightPages.{word}
 use Rattle.programs.specs.Program.{templateAt}
 use Rattle.patterns.proofs.Tests.{or-left, or-right, and-left, and-right}
-use Rattle.entries.specs.Gaps.{StartsAt}
-use Rattle.occurrences.specs.Occurrences.{AllElements, Tells, AllTold, Keeps, AddsElement, NamesInItems, TellsOccurrences}
+use Rattle.entries.specs.Gaps.{hasGap, StartsAt}
+use Rattle.reach.specs.Outlines.{gapAmong}
+use Rattle.reach.proofs.Filling.{Filled, filled-zeros, filled-more}
+use Rattle.reach.proofs.Templates.{template-none}
+use Rattle.occurrences.specs.declared.Outer.{Outer}
+use Rattle.occurrences.specs.Occurrences.{AllElements, Tells, AllTold, Keeps, AddsElement}
+use Rattle.occurrences.specs.Promises.{TellsOuter, TellsTemplates}
 use Rattle.occurrences.proofs.Names.{still-told}
+use Rattle.occurrences.proofs.LoneElements.{LoneTo, lone-none, lone-more, lone-all}
 
 -- ---- one element
 
@@ -104,48 +112,76 @@ module _ (table : List ℕ) (wide : length table ≡ 192) (n e named : ℕ) (low
 
 -- ---- all templates
 
--- The table tells of the elements of the templates below a number.
-pub record Telling (s starts : List ℕ) (count t : ℕ) (table : List ℕ) : Type 0 where
+module _ (φs : List Items) where
+  abbrev ContentsAt : ℕ → ℕ → Type 0
+  ContentsAt t w = (c : ℕ) → member w c ≡ isIn c (word (templateAt φs t))
+
+  abbrev GapsAt : ℕ → ℕ → Type 0
+  GapsAt t w = (g : ℕ) → gapAmong (templateAt φs t) g ≡ hasGap w g
+
+  contents-none : (t : ℕ) → t < 1 → ContentsAt t 0
+  unfolding word isIn
+  contents-none zero h c = rw (template-none φs) (member-zero c)
+  contents-none (suc t) h c = absurd (omega arith)
+
+  gaps-none : (t : ℕ) → t < 1 → GapsAt t 0
+  unfolding gapAmong
+  gaps-none zero h g = rw (template-none φs, member-zero g) (sym (and-false (ltb g 8)))
+  gaps-none (suc t) h g = absurd (omega arith)
+
+-- What is told of the templates below a number.
+pub record Telling (φs : List Items) (t : ℕ) (contents gaps table : List ℕ) : Type 0 where
+  pub contents-are : Filled (ContentsAt φs) 32 t contents
+  pub gaps-are : Filled (GapsAt φs) 32 t gaps
+  pub told : (n : ℕ) → n < t → n ≤ length φs → AllTold table n (templateAt φs n)
+
+pub record TellingTo (s starts : List ℕ) (count t : ℕ) (contents gaps lone table : List ℕ) : Type 0 where
   pub wide : length table ≡ 192
-  pub least : 1 ≤ t
-  pub told : (φs : List Items) → StartsAt s φs starts → count ≡ length φs → (n : ℕ) → n < t → n ≤ length φs → AllTold table n (templateAt φs n)
+  pub lone-are : LoneTo s starts lone t
+  pub telling : (φs : List Items) → StartsAt s φs starts → count ≡ length φs → Telling φs t contents gaps table
 
 module _ (s starts : List ℕ) (count : ℕ) where
-  pub telling-none : (table : List ℕ) → length table ≡ 192 → Telling s starts count 1 table
-  unfolding templateAt AllElements
+  pub telling-none : (table : List ℕ) → length table ≡ 192 → TellingTo s starts count 1 (replicate 32 0) (replicate 32 0) (replicate 32 64) table
+  unfolding AllElements
   telling-none table wide = record {
     wide = wide;
-    least = omega arith;
-    told = λ φs S c n l h. let z : n ≡ 0 = omega arith in rw z (nothing φs);
+    lone-are = lone-none s starts;
+    telling = λ φs S c. record {
+      contents-are = filled-zeros (ContentsAt φs) 32 1 (contents-none φs);
+      gaps-are = filled-zeros (GapsAt φs) 32 1 (gaps-none φs);
+      told = λ n l h. let z : n ≡ 0 = omega arith in rw (z, template-none φs) tt;
+    };
   }
-    where
-      nothing : (φs : List Items) → AllTold table 0 (templateAt φs 0)
-      nothing [] = tt
-      nothing (φ ∷ φs) = tt
 
-  module _ (t : ℕ) (table : List ℕ) (T : Telling s starts count t table) where
-    pub telling-more : t ≤ count → (r : Position) (larger : List ℕ) → length larger ≡ 192 → NamesInItems s (getD starts t 0) t table r larger
-        → Telling s starts count (t + 1) larger
-    telling-more there r larger wide passed = record {
+  module _ (t : ℕ) (contents gaps lone table : List ℕ) (T : TellingTo s starts count t contents gaps lone table) where
+    pub telling-more : t < 32 → t ≤ count → (r : Outer) (larger : List ℕ) → length larger ≡ 192 → Keeps table larger → TellsOuter s (getD starts t 0) t r larger
+        → TellingTo s starts count (t + 1) (set contents t (r .contents)) (set gaps t (r .gaps)) (set lone t (r .lone)) larger
+    telling-more low there r larger wide keeps tells = record {
       wide = wide;
-      least = omega arith;
-      told = λ φs S c n l h. go φs S c n l h (eqb n t) refl;
+      lone-are = lone-more s starts lone t (r .lone) low (λ φ st. tells φ st .lone) (T .lone-are);
+      telling = λ φs S c.
+          let here = tells (templateAt φs t) (S t (T .lone-are .begun) (omega arith)) in
+          let before = T .telling φs S c in
+          record {
+            contents-are = filled-more (ContentsAt φs) 32 t contents (before .contents-are) (r .contents) low (here .outline .contents);
+            gaps-are = filled-more (GapsAt φs) 32 t gaps (before .gaps-are) (r .gaps) low (here .outline .gaps);
+            told = λ n l h. go φs n (here .tells) l (λ q. before .told n q h) (ℕ-discrete n t);
+          };
     }
       where
-        go : (φs : List Items) → StartsAt s φs starts → count ≡ length φs → (n : ℕ) → n < t + 1 → n ≤ length φs
-            → (b : Bool) → eqb n t ≡ b → AllTold larger n (templateAt φs n)
-        go φs S c n l h true q =
-            let st = S t (T .least) (omega arith) in
-            let here = passed (st .ruled) (st .fuel) 0 (st .end) (templateAt φs t) (st .reads) in
-            subst (λ (j : ℕ). AllTold larger j (templateAt φs j)) (sym (eqb-true n t q)) (here .tells)
-        go φs S c n l h false q =
-            let ne = eqb-false n t q in
-            let st = S t (T .least) (omega arith) in
-            let here = passed (st .ruled) (st .fuel) 0 (st .end) (templateAt φs t) (st .reads) in
-            still-told table larger (here .keeps) n (templateAt φs n) (T .told φs S c n (omega arith) h)
+        go : (φs : List Items) (n : ℕ) → AllTold larger t (templateAt φs t) → n < t + 1 → (n < t → AllTold table n (templateAt φs n)) → Dec (n ≡ t)
+            → AllTold larger n (templateAt φs n)
+        go φs n here l before (yes q) = rw q here
+        go φs n here l before (no q) = still-told table larger keeps n (templateAt φs n) (before (omega arith))
 
-    pub telling-counted : count < t → TellsOccurrences s starts count table
-    telling-counted l φs S c few n h = T .told φs S c n (omega arith) h
-
-    pub telling-all : 32 ≤ t → TellsOccurrences s starts count table
-    telling-all l φs S c few n h = T .told φs S c n (omega arith) h
+    pub telling-all : (count < t) ⊎ (32 ≤ t) → TellsTemplates s starts count (record { contents = contents; gaps = gaps; lone = lone }) table
+    telling-all end φs S c few =
+        let all = T .telling φs S c in
+        record {
+          outlines = λ i l low. record { contents = all .contents-are .below i (past end i l); gaps = all .gaps-are .below i (past end i l) };
+          lone = lone-all s starts lone t (T .lone-are) φs S;
+          occurrences = λ n h. all .told n (past end n (omega arith)) h;
+        }
+      where
+        past : (count < t) ⊎ (32 ≤ t) → (i : ℕ) → i ≤ count → i < t
+        past end i l = ⊎-elim (λ e. omega arith) (λ e. omega arith) end

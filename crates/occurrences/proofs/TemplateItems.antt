@@ -1,7 +1,7 @@
--- How the items of a template were read: past attributes, an element with its parts, a list with its first item.
+-- How the items of a template were read: an element with its parts, a list with its first item.
 use Prim.Native.Nat.{ℕ, zero, suc, _+_, _≤_, _<_}
 use mathlib.Core.Path.{_≡_, refl, sym, ap, subst, _∙_}
-use mathlib.Core.List.{List, [], _∷_}
+use mathlib.Core.List.{List, []}
 use mathlib.Core.Bool.{Bool, true, false, cond, _||_, false≢true}
 use mathlib.Core.Logic.{inl, inr}
 use native.Mathlib.Omega.{arith}
@@ -15,9 +15,8 @@ use Rattle.commands.proofs.Laws.{byte-past, moved}
 use Rattle.pages.specs.declared.Kind.the-variants.{Template}
 use Rattle.pages.specs.Items.{Attribute, Item, element, Items, more}
 use Rattle.pages.specs.ItemReading.{endOf, leafAt, attributes, item, items}
-use Rattle.pages.proofs.Whole.{never-unfinished, attributes-whole, items-whole, item-whole}
+use Rattle.pages.proofs.Whole.{never-unfinished, items-whole, item-whole}
 use Rattle.patterns.proofs.Tests.{and-left, and-right}
-use Rattle.languages.proofs.AttributeLaws.{attribute-width}
 use Rattle.occurrences.specs.Occurrences.{EndsAttributes}
 
 -- An attribute stands before the end.
@@ -28,31 +27,6 @@ attribute-inside s at y = go (ltb at (length s)) refl
     go : (b : Bool) → ltb at (length s) ≡ b → at < length s
     go true e = ltb-true at (length s) e
     go false e = absurd (false≢true (sym (ap (λ (k : ℕ). eqb k 0x24 || eqb k 0x25) (byte-past s at (ltb-false at (length s) e))) ∙ y))
-
-module _ (s : List ℕ) (at : ℕ) where
-  pub ends-here : allowed TemplateAttributes (byte s at) ≡ false → EndsAttributes s at at
-  unfolding attributes
-  ends-here n before zero end δ e = never-unfinished e
-  ends-here n before (suc f) end δ e = elim (attributes-whole f Template s before at δ end e) [
-    | inl r ↦ sym (r .here)
-    | inr r ↦ absurd (false≢true (sym n ∙ r .permitted))
-  ]
-
-  pub ends-later : allowed TemplateAttributes (byte s at) ≡ true → (r : ℕ) → EndsAttributes s (at + 3) r → EndsAttributes s at r
-  unfolding attributes
-  ends-later y r later before zero end δ e = never-unfinished e
-  ends-later y r later before (suc f) end δ e = elim (attributes-whole f Template s before at δ end e) [
-    | inl w ↦ absurd (false≢true (sym (w .not-attribute) ∙ y))
-    | inr w ↦
-        let m = moved TemplateAttributes s at (byte s at) (w .next) (w .stands) in
-        later (byte s (at + 1) ∷ before) f end (w .rest)
-        (subst (λ (k : ℕ). attributes f Template s (byte s (at + 1) ∷ before) k ≡ whole (w .rest) end) (m .after ∙ attribute-width [] 0 s at y) (w .reads-rest))
-  ]
-
--- Where the walk has come.
-pub record Passing (s : List ℕ) (at₀ at : ℕ) : Type 0 where
-  pub forward : at₀ ≤ at
-  pub goes : (r : ℕ) → EndsAttributes s at r → EndsAttributes s at₀ r
 
 -- An element's parts, as they were read.
 module _ (s : List ℕ) (at : ℕ) (code : byte s at ≡ 0x23) (after : ℕ) (ends : EndsAttributes s (at + 2) after) where

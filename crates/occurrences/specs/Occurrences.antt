@@ -4,18 +4,16 @@
 use Prim.Native.Nat.{ℕ, _+_, _≤_, _<_}
 use mathlib.Core.Path.{_≡_}
 use mathlib.Core.List.{List}
-use mathlib.Core.Bool.{Bool, true}
+use mathlib.Core.Bool.{true}
 use lib.ListN.{length, getD}
 use Rattle.sets.specs.Sets.{member}
-use Rattle.commands.specs.declared.Position.{Position}
 use Rattle.commands.specs.Reading.{whole}
 use Rattle.vocabularies.specs.Vocabulary.{isIn}
 use Rattle.pages.specs.declared.Kind.the-variants.{Template}
 use Rattle.pages.specs.Items.{Attribute, Item, text, gap, element, Items, none, more}
-use Rattle.pages.specs.ItemReading.{attributes, item, items}
+use Rattle.pages.specs.ItemReading.{attributes}
 use Rattle.pages.specs.RightPages.{names}
 use Rattle.programs.specs.Program.{templateAt}
-use Rattle.entries.specs.Gaps.{StartsAt}
 
 -- The end of the attributes that stand at an offset.
 abbrev pub EndsAttributes : List ℕ → ℕ → ℕ → Type 0
@@ -55,23 +53,6 @@ pub record AddsElement (n e named : ℕ) (table larger : List ℕ) : Type 0 wher
   pub keeps : Keeps table larger
   pub adds : (δ : List Attribute) → ((a : ℕ) → member named a ≡ isIn a (names δ)) → Tells larger n e δ
 
--- And of the elements of what was passed, up to its end.
-pub record Passed (table larger : List ℕ) (Told : Type 0) (end : ℕ) (r : Position) : Type 0 where
-  pub ends : r .at ≡ end
-  pub keeps : Keeps table larger
-  pub tells : Told
-
-abbrev pub NamesInItems : List ℕ → ℕ → ℕ → List ℕ → Position → List ℕ → Type 0
-NamesInItems s at n table r larger = (ruled : ℕ → Bool) (f depth end : ℕ) (φ : Items) → items f Template ruled s depth at ≡ whole φ end
-    → Passed table larger (AllTold larger n φ) end r
-
-abbrev pub NamesInItem : List ℕ → ℕ → ℕ → List ℕ → Position → List ℕ → Type 0
-NamesInItem s at n table r larger = (ruled : ℕ → Bool) (f depth end : ℕ) (i : Item) → item f Template ruled s depth at ≡ whole i end
-    → Passed table larger (AllToldOf larger n i) end r
-
 -- The table tells of every element of every template.
 abbrev pub Occurrences : List Items → List ℕ → Type 0
 Occurrences φs table = (n : ℕ) → n ≤ length φs → AllTold table n (templateAt φs n)
-
-abbrev pub TellsOccurrences : List ℕ → List ℕ → ℕ → List ℕ → Type 0
-TellsOccurrences s starts count r = (φs : List Items) → StartsAt s φs starts → count ≡ length φs → count ≤ 31 → Occurrences φs r

@@ -1,10 +1,12 @@
-// In which templates each element stands, and with which attributes.
+// In which templates each element stands, and with which attributes; and the outline of each template.
 ghost use mathlib.Core.Path.{_≡_};
 ghost use Prim.Native.Nat.{_≤_, _<_};
 ghost use lib.ListN.{length};
 ghost use Rattle.commands.specs.Commands.{byte};
+ghost use Rattle.languages.specs.Promises.{AfterItem};
 ghost use Rattle.pattern_sets.specs.PatternSets.{FirstMember};
-ghost use Rattle.occurrences.specs.Occurrences.{EndsAttributes, AddsElement, NamesInItem, NamesInItems, TellsOccurrences};
+ghost use Rattle.occurrences.specs.Occurrences.{Keeps, AddsElement};
+ghost use Rattle.occurrences.specs.Promises.{OpensElement, NamesInItems, LoneAt, TellsOuter, TellsTemplates};
 use commands::Position;
 
 // A table has for each element the templates in which it stands, then for each the attributes that it always has, then for each those
@@ -13,16 +15,21 @@ const ALWAYS: usize = 64;
 
 const EVER: usize = 128;
 
-// The position after the attributes straight after `23 e`.
-pub fn after_attributes(s: &[u8], start: Position) -> Position
-    ensures forward { λ r. ⌜ start .at ≤ r .at ⌝ }
-    ensures ends { λ r. ⌜ EndsAttributes (now (s .entry)) (start .at) (r .at) ⌝ }
-{
-    let mut at = start.at;
-    while languages::is_attribute(s, at) {
-        at += 3;
-    }
-    Position { at }
+// Of a template that is not one element alone.
+const NOT_LONE: u8 = 64;
+
+// The contents and the gaps that stand among the outer items of a template, and which element it is, if it is one alone.
+pub struct Outer {
+    pub contents: u64,
+    pub gaps: u64,
+    pub lone: u8,
+}
+
+// The same of every template.
+pub struct Outlines {
+    pub contents: [u64; 32],
+    pub gaps: [u64; 32],
+    pub lone: [u8; 32],
 }
 
 // The first element of a set from a place on, or 64.
@@ -48,29 +55,33 @@ fn add_element(table: &mut [u64; 192], n: u8, e: u8, names: u64)
     table[k + EVER] = sets::union(table[k + EVER], names);
 }
 
-// The element here, of template n, and those inside it.
-fn names_in_element(s: &[u8], here: Position, n: u8, table: &mut [u64; 192]) -> Position
+// An element of template n opens here and is put into the table. The position after its attributes.
+fn open_element(s: &[u8], here: Position, n: u8, table: &mut [u64; 192]) -> Position
     requires { ⌜ (here .at < length (now s)) × (byte (now s) (here .at) ≡ 0x23) × (length (now table) ≡ 192) × (n < 64) ⌝ }
     ensures forward { λ r. ⌜ here .at < r .at ⌝ }
     ensures long { λ _. ⌜ length (now (table .exit)) ≡ 192 ⌝ }
-    ensures named { λ r. ⌜ NamesInItem (now (s .entry)) (here .at) n (now (table .entry)) r (now (table .exit)) ⌝ }
+    ensures keeps { λ _. ⌜ Keeps (now (table .entry)) (now (table .exit)) ⌝ }
+    ensures opens { λ r. ⌜ OpensElement (now (s .entry)) (here .at) n r (now (table .exit)) ⌝ }
 {
     let at = here.at;
     let named = reach::names_at(s, Position { at: at + 2 });
     let e = commands::byte_at(s, at + 1) % 64;
     add_element(table, n, e, named.names);
     let inside = named.next;
-    names_in_items(s, inside, n, table)
+    inside
 }
 
-// The items from here on, of template n, up to and with what ends them.
+// The elements of the items from here on, of template n, at any depth; the position after what ends the items. An element's names do not
+// depend on what it stands in, so the walk only counts the elements that are open.
 fn names_in_items(s: &[u8], here: Position, n: u8, table: &mut [u64; 192]) -> Position
     requires { ⌜ (length (now table) ≡ 192) × (n < 64) ⌝ }
     ensures forward { λ r. ⌜ here .at ≤ r .at ⌝ }
     ensures long { λ _. ⌜ length (now (table .exit)) ≡ 192 ⌝ }
-    ensures named { λ r. ⌜ NamesInItems (now (s .entry)) (here .at) n (now (table .entry)) r (now (table .exit)) ⌝ }
+    ensures keeps { λ _. ⌜ Keeps (now (table .entry)) (now (table .exit)) ⌝ }
+    ensures named { λ r. ⌜ NamesInItems (now (s .entry)) (here .at) n r (now (table .exit)) ⌝ }
 {
     let mut at = here.at;
+    let mut depth: usize = 0;
     while at < s.len() {
         match s[at] {
             0x21 => {
@@ -80,43 +91,126 @@ fn names_in_items(s: &[u8], here: Position, n: u8, table: &mut [u64; 192]) -> Po
                 at += 2;
             }
             0x23 => {
-                let next = names_in_element(s, Position { at }, n, table);
-                at = next.at;
+                let inside = open_element(s, Position { at }, n, table);
+                at = inside.at;
+                depth += 1;
             }
             _ => {
-                return Position { at: at + 1 };
+                at += 1;
+                if depth == 0 {
+                    return Position { at };
+                }
+                depth -= 1;
             }
         }
     }
     Position { at }
 }
 
-// The table of no elements: they have all attributes, and none.
-fn no_elements() -> [u64; 192]
-    ensures { λ r. ⌜ length r ≡ 192 ⌝ }
+// Which element a template is that starts at an offset and has an element here, up to `next`; if it is that one alone.
+fn lone_element(s: &[u8], start: usize, here: Position, next: Position) -> u8
+    requires { ⌜ (here .at < length (now s)) × (byte (now s) (here .at) ≡ 0x23) × AfterItem (now s) (here .at) next ⌝ }
+    ensures { λ e. ⌜ LoneAt (now (s .entry)) start e ⌝ }
 {
-    let mut table = [0u64; 192];
+    let at = here.at;
+    if at != start {
+        return NOT_LONE;
+    }
+    if !languages::is_end(s, next.at) {
+        return NOT_LONE;
+    }
+    commands::byte_at(s, at + 1)
+}
+
+// The outer items of template n, which starts at an offset. Its elements, at any depth, are put into the table.
+fn outer_items(s: &[u8], start: usize, n: u8, table: &mut [u64; 192]) -> Outer
+    requires { ⌜ (length (now table) ≡ 192) × (n < 64) ⌝ }
+    ensures long { λ _. ⌜ length (now (table .exit)) ≡ 192 ⌝ }
+    ensures keeps { λ _. ⌜ Keeps (now (table .entry)) (now (table .exit)) ⌝ }
+    ensures told { λ r. ⌜ TellsOuter (now (s .entry)) start n r (now (table .exit)) ⌝ }
+{
+    let mut at = start;
+    let mut contents: u64 = 0;
+    let mut gaps: u64 = 0;
+    let mut lone = NOT_LONE;
+    while at < s.len() {
+        match s[at] {
+            0x21 => {
+                contents = sets::with(contents, 0);
+                at += 1;
+            }
+            0x22 => {
+                gaps = sets::with(gaps, commands::byte_at(s, at + 1) % 8);
+                at += 2;
+            }
+            0x23 => {
+                contents = sets::with(contents, commands::byte_at(s, at + 1) % 64);
+                let inside = open_element(s, Position { at }, n, table);
+                let next = names_in_items(s, inside, n, table);
+                lone = lone_element(s, start, Position { at }, next);
+                at = next.at;
+            }
+            _ => {
+                return Outer {
+                    contents,
+                    gaps,
+                    lone,
+                };
+            }
+        }
+    }
+    Outer {
+        contents,
+        gaps,
+        lone,
+    }
+}
+
+// No element is there yet: each has all attributes always.
+fn no_elements(table: &mut [u64; 192])
+    requires { ⌜ length (now table) ≡ 192 ⌝ }
+    ensures { λ _. ⌜ length (now (table .exit)) ≡ 192 ⌝ }
+{
     let mut i = ALWAYS;
     while i < EVER {
         table[i] = 0xFFFF_FFFF_FFFF_FFFF;
         i += 1;
     }
-    table
 }
 
-// The table of the elements of all templates. Template 0 has no element.
-pub fn of_templates(s: &[u8], starts: &[usize; 32], count: usize) -> [u64; 192]
-    ensures { λ r. ⌜ TellsOccurrences (now (s .entry)) (now (starts .entry)) count r ⌝ }
+// The outlines of all templates; their elements are put into the table, which is lent with zeros. Template 0 is empty.
+pub fn of_templates(
+    s: &[u8],
+    starts: &[usize; 32],
+    count: usize,
+    table: &mut [u64; 192],
+) -> Outlines
+    requires { ⌜ length (now table) ≡ 192 ⌝ }
+    ensures { λ r. ⌜ TellsTemplates (now (s .entry)) (now (starts .entry)) count r (now (table .exit)) ⌝ }
 {
-    let mut table = no_elements();
+    no_elements(table);
+    let mut contents = [0u64; 32];
+    let mut gaps = [0u64; 32];
+    let mut lone = [NOT_LONE; 32];
     let mut n: u8 = 1;
     while n < 32 {
         let t = n as usize;
         if count < t {
-            return table;
+            return Outlines {
+                contents,
+                gaps,
+                lone,
+            };
         }
-        names_in_items(s, Position { at: starts[t] }, n, &mut table);
+        let outer = outer_items(s, starts[t], n, table);
+        contents[t] = outer.contents;
+        gaps[t] = outer.gaps;
+        lone[t] = outer.lone;
         n += 1;
     }
-    table
+    Outlines {
+        contents,
+        gaps,
+        lone,
+    }
 }

@@ -246,9 +246,3 @@ templates-settle (suc f) (suc g) ruled s count at hf hg =
 module _ (ruled ruled′ : ℕ → Bool) (alike : (e : ℕ) → ruled e ≡ ruled′ e) where
   pub items-alike : (f : ℕ) (k : Kind) (s : List ℕ) (depth at : ℕ) → items f k ruled s depth at ≡ items f k ruled′ s depth at
   items-alike f k s depth at = ap (λ (r : ℕ → Bool). items f k r s depth at) (fun-ext alike)
-
-  pub item-alike : (f : ℕ) (k : Kind) (s : List ℕ) (depth at : ℕ) → item f k ruled s depth at ≡ item f k ruled′ s depth at
-  item-alike f k s depth at = ap (λ (r : ℕ → Bool). item f k r s depth at) (fun-ext alike)
-
-  pub templates-alike : (f : ℕ) (s : List ℕ) (count at : ℕ) → templates f ruled s count at ≡ templates f ruled′ s count at
-  templates-alike f s count at = ap (λ (r : ℕ → Bool). templates f r s count at) (fun-ext alike)

@@ -2,7 +2,6 @@ pub mod Whole
 pub mod Laws
 pub mod Parts
 pub mod Trees
-pub mod Marks
 pub mod Slices
 mod Agreement
 mod TemplateAgreement

@@ -1,8 +1,7 @@
 -- What was read, as trees: where the code's part is whole, the definition reads one tree at every fuel that is enough, and ends where
 -- the part ends.
-use Prim.Native.Nat.{ℕ, zero, suc, _+_, _-_, _≤_}
+use Prim.Native.Nat.{ℕ, _+_, _-_, _≤_}
 use mathlib.Core.Path.{_≡_, _∙_}
-use mathlib.Core.Logic.{inl, inr}
 use mathlib.Core.List.{List}
 use mathlib.Core.Bool.{Bool}
 use native.Mathlib.Omega.{arith}
@@ -13,12 +12,10 @@ use Rattle.commands.specs.declared.Part.the-variants.{Whole}
 use Rattle.commands.specs.Reading.{whole}
 use Rattle.commands.specs.Parts.{Enough}
 use Rattle.pages.specs.declared.Kind.{Kind}
-use Rattle.pages.specs.declared.TemplatesRead.{TemplatesRead}
 use Rattle.pages.specs.Items.{Items}
-use Rattle.pages.specs.ItemReading.{attributes, items, item, mostTemplates, templates}
-use Rattle.pages.specs.Promises.{AttributesRead, ItemsRead, ItemRead, Located, TemplatesFrom}
-use Rattle.pages.proofs.Whole.{never-unfinished, templates-whole}
-use Rattle.pages.proofs.Laws.{Onward, attributes-move, items-move, item-move, templates-move, items-settle, templates-settle}
+use Rattle.pages.specs.ItemReading.{attributes, items, item}
+use Rattle.pages.specs.Promises.{AttributesRead, ItemsRead, ItemRead}
+use Rattle.pages.proofs.Laws.{Onward, attributes-move, items-move, item-move, items-settle}
 use Rattle.pages.proofs.Parts.{agrees-whole}
 
 -- A fuel that is enough.
@@ -50,34 +47,4 @@ tree-read k ruled s depth at r p e h =
       tree = w .0;
       reads = λ f enough. items-settle f (plenty s at) k ruled s depth at enough (omega arith) .same ∙ w .1;
       onward = items-move (plenty s at) k ruled s depth at (w .0) (p .at) (w .1);
-    }
-
-few : (f : ℕ) (ruled : ℕ → Bool) (s : List ℕ) (count at : ℕ) (φs : List Items) (end : ℕ) → count ≤ mostTemplates
-    → templates f ruled s count at ≡ whole φs end → count + length φs ≤ mostTemplates
-unfolding templates
-few zero ruled s count at φs end most e = never-unfinished e
-few (suc f) ruled s count at φs end most e = elim (templates-whole f ruled s count at φs end e) [
-  | inl r ↦ rw (r .no-more) (omega arith)
-  | inr r ↦
-      let rest = few f ruled s (count + 1) (r .past) (r .rest) end (omega (arith, r .few)) (r .reads-rest) in
-      rw (r .is-more) (omega arith)
-]
-
-pub record TemplatesTrees (ruled : ℕ → Bool) (s : List ℕ) (at : ℕ) (r : TemplatesRead) (end : ℕ) : Type 0 where
-  pub trees : List Items
-  pub reads : (f : ℕ) → Enough s at f → templates f ruled s 0 at ≡ whole trees end
-  pub located : Located ruled s trees (r .count) (r .starts)
-  pub most : r .count ≤ mostTemplates
-  pub onward : Onward s at end
-
-pub trees-read : (ruled : ℕ → Bool) (s : List ℕ) (at : ℕ) (r : TemplatesRead) (p : Position) → r .part ≡ Whole p
-    → TemplatesFrom ruled s at r → TemplatesTrees ruled s at r (p .at)
-trees-read ruled s at r p e h =
-    let w = agrees-whole _ (templates (plenty s at) ruled s 0 at) (r .part) p e (h (plenty s at) (omega arith)) in
-    record {
-      trees = w .0;
-      reads = λ f enough. templates-settle f (plenty s at) ruled s 0 at enough (omega arith) .same ∙ w .1;
-      located = w .2;
-      most = omega (arith, few (plenty s at) ruled s 0 at (w .0) (p .at) (omega arith) (w .1), w .2 .counted);
-      onward = templates-move (plenty s at) ruled s 0 at (w .0) (p .at) (w .1);
     }

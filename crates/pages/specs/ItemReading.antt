@@ -2,7 +2,7 @@
 -- differ in which commands may stand, in how deep elements may nest, and in what ends them; one definition reads both.
 use Prim.Native.Nat.{ℕ, zero, suc, _+_}
 use mathlib.Core.List.{List, [], _∷_}
-use mathlib.Core.Bool.{Bool, true, false, cond}
+use mathlib.Core.Bool.{Bool, cond}
 use lib.Dec.{ltb, eqb}
 use Rattle.verdicts.specs.declared.Form.the-variants.{NotRising, TooMany, Missing}
 use Rattle.commands.specs.declared.Context.{Context}
@@ -29,7 +29,7 @@ nesting Template = 16
 nesting Page = 1024
 
 -- `24 a s` and `25 a h`. `28 a` is an attribute with a string outside 0 to 63: the least such number stands for all of them, since
--- no set of a clause holds any.
+-- no set of a clause that is read from bytes holds any.
 abbrev pub valueAt : List ℕ → ℕ → ℕ → Value
 valueAt s at code =
     cond (eqb code 0x24) (string (byte s (at + 2)))

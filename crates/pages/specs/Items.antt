@@ -2,7 +2,7 @@
 -- page has no gap left. An element keeps its mark, the offset of its `23`: no operation changes it, and it gives verdict 12 its place.
 use Prim.Native.Nat.{ℕ}
 use mathlib.Core.List.{List, [], _∷_}
-use mathlib.Core.Bool.{Bool, true, false, _||_}
+use mathlib.Core.Bool.{Bool, false, _||_}
 use lib.Dec.{eqb}
 
 -- What an attribute holds: a string, or an attribute gap. The named strings are 0 to 63, all others the numbers from 64 on.

@@ -7,8 +7,6 @@ use mathlib.Core.Bool.{Bool, cond}
 use lib.ListN.{length, getD}
 use lib.Dec.{leb, ltb}
 use Rattle.verdicts.specs.declared.Form.the-variants.{TooLong, NotAllowed}
-use Rattle.commands.specs.declared.Decoded.{Decoded}
-use Rattle.commands.specs.declared.Decoded.the-variants as Decodeds
 use Rattle.commands.specs.declared.Part.{Part}
 use Rattle.commands.specs.declared.Part.the-variants.{Whole, Refused}
 use Rattle.commands.specs.Commands.{byte}
@@ -20,11 +18,6 @@ use Rattle.pages.specs.declared.Kind.the-variants.{Template}
 use Rattle.pages.specs.declared.TemplatesRead.{TemplatesRead}
 use Rattle.pages.specs.Items.{Items, none}
 use Rattle.pages.specs.ItemReading.{attributes, items, item, templates}
-
--- A command by itself as a part.
-abbrev pub partOf : Decoded → Part
-partOf (Decodeds.Moved code next) = Whole next
-partOf (Decodeds.Refused f at) = Refused f at
 
 -- The attributes from an offset on, after those named before.
 abbrev pub AttributesRead : Kind → List ℕ → List ℕ → ℕ → Part → Type 0

@@ -3,13 +3,13 @@
 use Prim.Native.Nat.{ℕ, _≤_, _<_}
 use mathlib.Core.Path.{_≡_}
 use mathlib.Core.List.{List, [], _∷_, map, List·Memᴰ}
-use mathlib.Core.Option.{Option, some}
+use mathlib.Core.Option.{some}
 use mathlib.Core.Logic.{_⊎_}
 use mathlib.Core.Bool.{true, false}
 use lib.ListN.{length, getD}
 use Rattle.sets.specs.Sets.{member}
 use Rattle.vocabularies.specs.Vocabulary.{Formula, conj, disj, neg, truth, attr, content, order, value, Rule, Vocabulary, ruleOf}
-use Rattle.pages.specs.Items.{Value, string, Attribute, Item, text, gap, element, Items, none, more, one, gapIn, attributeGapIn}
+use Rattle.pages.specs.Items.{string, Attribute, Item, text, gap, element, Items, none, more, one, gapIn, attributeGapIn}
 
 abbrev pub _∈_ : {A : Type 0} → A → List A → Type 0
 _∈_ a l = List·Memᴰ a l
@@ -72,7 +72,7 @@ unfoldable mutual
 abbrev pub RootAlone : Vocabulary → Items → Type 0
 RootAlone D φ = (mark : ℕ) × (δ : List Attribute) × (contents : Items) × (φ ≡ one (element (D .root) mark δ contents))
 
--- gaps(φ) = ∅
+-- gaps(φ) = ∅, at any depth, of gaps and of attribute gaps.
 pub record Gapless (φ : Items) : Type 0 where
   pub gaps : (g : ℕ) → gapIn φ g ≡ false
   pub attribute-gaps : (h : ℕ) → attributeGapIn φ h ≡ false

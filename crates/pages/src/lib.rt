@@ -5,12 +5,13 @@ ghost use Rattle.sets.specs.Sets.{member};
 ghost use Rattle.commands.specs.Reading.{enough};
 ghost use Rattle.commands.specs.Parts.{Agrees};
 ghost use Rattle.pages.specs.ItemReading.{itemContext, attributeContext, nesting, endOf, items};
-ghost use Rattle.pages.specs.Promises.{partOf, AttributesRead, ItemsRead, ItemRead, TemplatesFrom, alonePart, PastText, PastLeaves};
+ghost use Rattle.pages.specs.Promises.{AttributesRead, ItemsRead, ItemRead, TemplatesFrom, alonePart, PastText, PastLeaves};
 use commands::Context;
 use commands::Decoded;
 use commands::Part;
 use commands::Position;
 use verdicts::Form;
+use vocabularies::part_of;
 
 const MOST_BYTES: usize = 65535;
 
@@ -62,16 +63,6 @@ fn end_of(depth: usize) -> u8
     ensures { λ r. ⌜ r ≡ endOf depth ⌝ }
 {
     if depth == 0 { 0x27 } else { 0x26 }
-}
-
-// A command by itself as a part.
-fn part_of(d: Decoded) -> Part
-    ensures { λ r. ⌜ r ≡ partOf d ⌝ }
-{
-    match d {
-        Decoded::Moved(_, next) => Part::Whole(next),
-        Decoded::Refused(form, at) => Part::Refused(form, at),
-    }
 }
 
 // Steps over the `21`s that stand one after the other: each of them is an item, text.

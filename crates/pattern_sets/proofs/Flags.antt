@@ -5,9 +5,9 @@ use mathlib.Core.Bool.{Bool, true, false, cond, _&&_, _||_, and-false, or-comm, 
 use native.Mathlib.Nat.{div-eq-sub-div}
 use native.Mathlib.Omega.{arith}
 use lib.Bits.{bitAnd, bitOr, or-disjoint, or-lt, and-le-r}
-use lib.Dec.{eqb, ltb, lit<}
-use lib.Pow.{pow-pos, pow-mono, pow-lt}
-use borrow.Author.Tests.{eq-eqb, ne-eqb, eqb-true, eqb-false, ltb-true, ltb-false}
+use lib.Dec.{eqb, ltb}
+use lib.Pow.{pow-pos, pow-lt}
+use borrow.Author.Tests.{ne-eqb, eqb-true, ltb-true, ltb-false}
 use Rattle.sets.specs.Sets.{member}
 use Rattle.sets.proofs.Laws.{member-and, member-or, member-zero, member-high, member-single, same-members}
 use Rattle.pattern_sets.specs.Images.{numberOf, pattern, raisedAt}

@@ -1,20 +1,20 @@
 -- Images: the pieces of which the joining of sets is made.
-use Prim.Native.Nat.{ℕ, zero, suc, _+_, _-_, _*_, _/_, _%_, _^_, _≤_, _<_}
+use Prim.Native.Nat.{ℕ, zero, _+_, _-_, _%_, _^_, _≤_, _<_}
 use mathlib.Core.Path.{_≡_, refl, sym, ap, ap₂, subst, _∙_}
-use mathlib.Core.List.{List, [], _∷_}
+use mathlib.Core.List.{List}
 use mathlib.Core.Bool.{Bool, true, false, not, _&&_, _||_, or-false, or-true, and-false, and-true, or-comm}
-use mathlib.Core.Logic.{_⊎_, inl, inr, ⊎-elim}
+use mathlib.Core.Logic.{_⊎_, ⊎-elim}
 use native.Mathlib.Omega.{arith}
 use lib.ListN.{length, getD}
 use lib.Dec.{eqb, ltb}
-use borrow.Author.Tests.{eq-eqb, ne-eqb, eqb-true, eqb-false, lt-ltb, le-ltb, ltb-true, ltb-false, not-true}
+use borrow.Author.Tests.{eq-eqb, eqb-true, eqb-false, lt-ltb, le-ltb, ltb-true, ltb-false, not-true}
 use Rattle.sets.specs.Sets.{member}
 use Rattle.sets.proofs.Laws.{member-high, member-zero}
 use Rattle.pattern_sets.specs.PatternSets.{holds}
 use Rattle.pattern_sets.specs.Images.{pattern, raisedAt, crossedAt, flagAt, raisedBy, crossedBy, joinedBy, AllFlagged, Shifted, Image, Apart}
 use Rattle.pattern_sets.proofs.Booleans.{or-left, or-right, or-cases, and-both, and-left, and-right}
 use Rattle.pattern_sets.proofs.Laws.{held-small}
-use Rattle.pattern_sets.proofs.Flags.{pattern-below, pattern-bit, pattern-high, pattern-is, pattern-same, member-large, added, added-below, lacks, raised-same, raised-more}
+use Rattle.pattern_sets.proofs.Flags.{pattern-bit, pattern-high, pattern-is, pattern-same, member-large, added, added-below, lacks, raised-same, raised-more}
 
 -- ---- images in general
 

@@ -1,5 +1,5 @@
 -- What holds of sets of patterns as words.
-use Prim.Native.Nat.{ℕ, zero, suc, _+_, _*_, _/_, _%_, _<_, _≤_, _^_}
+use Prim.Native.Nat.{ℕ, zero, suc, _+_, _*_, _/_, _%_, _<_, _≤_}
 use mathlib.Core.Path.{_≡_, refl, sym, ap, subst, _∙_}
 use mathlib.Core.List.{List, [], _∷_}
 use mathlib.Core.Bool.{Bool, true, false, _||_, false≢true}
@@ -8,10 +8,11 @@ use native.Mathlib.Decide.{ℕ-discrete}
 use lib.ListN.{length, getD, set, List·getD-eq-default}
 use lib.Seq.{getD-set-same, getD-set-other}
 use lib.Dec.{eqb, ltb}
-use borrow.Author.Tests.{eq-eqb, ne-eqb, eqb-true, eqb-false, ltb-true, ltb-false}
+use borrow.Author.Tests.{eq-eqb, ne-eqb, ltb-true, ltb-false}
 use Rattle.sets.specs.Sets.{member}
 use Rattle.sets.proofs.Laws.{member-zero}
 use Rattle.pattern_sets.specs.PatternSets.{holds, First, FirstMember, IsEmpty, SameMembers, Same}
+use Rattle.pattern_sets.proofs.Booleans.{or-absent}
 
 -- A number is told by its quotient and its remainder.
 same-rest : (x y : ℕ) → y / 64 ≡ x / 64 → eqb (y % 64) (x % 64) ≡ eqb y x
@@ -123,16 +124,24 @@ held-small s l x h = go (ltb x 256) refl
     go true e = ltb-true x 256 e
     go false e = absurd (false≢true (sym (holds-high s l x (ltb-false x 256 e)) ∙ h))
 
+no-word : (i : ℕ) → _≡_ {A = ℕ} (getD (0 ∷ 0 ∷ 0 ∷ 0 ∷ []) i 0) 0
+no-word zero = refl
+no-word (suc zero) = refl
+no-word (suc (suc zero)) = refl
+no-word (suc (suc (suc zero))) = refl
+no-word (suc (suc (suc (suc i)))) = refl
+
 pub holds-empty : (x : ℕ) → holds (0 ∷ 0 ∷ 0 ∷ 0 ∷ []) x ≡ false
 unfolding holds
-holds-empty x = go (x / 64)
-  where
-    go : (q : ℕ) → member (getD (0 ∷ 0 ∷ 0 ∷ 0 ∷ []) q 0) (x % 64) ≡ false
-    go zero = member-zero (x % 64)
-    go (suc zero) = member-zero (x % 64)
-    go (suc (suc zero)) = member-zero (x % 64)
-    go (suc (suc (suc zero))) = member-zero (x % 64)
-    go (suc (suc (suc (suc q)))) = member-zero (x % 64)
+holds-empty x = ap (λ (n : ℕ). member n (x % 64)) (no-word (x / 64)) ∙ member-zero (x % 64)
+
+-- One pattern, in the word in which it stands.
+pub only-pattern : (x w : ℕ) → ((k : ℕ) → member w k ≡ (eqb k (x % 64) || member 0 k)) → (i : ℕ) → i < 4 → x / 64 ≡ i
+    → (y : ℕ) → holds (set (0 ∷ 0 ∷ 0 ∷ 0 ∷ []) i w) y ≡ eqb y x
+only-pattern x w e i low q y =
+    subst (λ (j : ℕ). holds (set (0 ∷ 0 ∷ 0 ∷ 0 ∷ []) j w) y ≡ eqb y x) q
+    (with-pattern (0 ∷ 0 ∷ 0 ∷ 0 ∷ []) x w (omega arith) (λ k. e k ∙ ap (λ (n : ℕ). eqb k (x % 64) || member n k) (sym (no-word (x / 64)))) y
+    ∙ or-absent (eqb y x) (holds-empty y))
 
 pub tells-empty : (s none : List ℕ) → ((x : ℕ) → holds none x ≡ false) → (t : Bool) → Same s none t → IsEmpty s t
 tells-empty s none empty true same = λ x. same x ∙ empty x

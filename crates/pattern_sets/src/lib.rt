@@ -32,7 +32,14 @@ pub fn with(set: [u64; 4], x: u8) -> [u64; 4]
 pub fn only(x: u8) -> [u64; 4]
     ensures { λ r. ⌜ ((y : ℕ) → holds r y ≡ eqb y x) ⌝ }
 {
-    with(empty(), x)
+    let word = sets::with(0, x % 64);
+    let i = x / 64;
+    match i {
+        0 => [word, 0, 0, 0],
+        1 => [0, word, 0, 0],
+        2 => [0, 0, word, 0],
+        _ => [0, 0, 0, word],
+    }
 }
 
 pub fn union(a: [u64; 4], b: [u64; 4]) -> [u64; 4]

@@ -5,24 +5,20 @@ use native.Mathlib.Nat.{div-div-eq-div-mul, div-one, pow-succ'}
 use native.Mathlib.Omega.{arith}
 use mathlib.Core.Path.{_≡_, refl, sym, ap, _∙_}
 use mathlib.Core.List.{List, [], _∷_, _++_}
-use mathlib.Core.Bool.{Bool, true, false, cond, _&&_, _||_, true≢false}
+use mathlib.Core.Bool.{Bool, true, false, cond, true≢false}
 use mathlib.Core.Logic.{⊎-elim}
 use lib.ListN.{length, getD, length-append, List·getD-append}
 use lib.Seq.{getD-append-seam}
 use lib.Dec.{eqb}
 use borrow.Author.Tests.{eqb-true, eqb-false}
 use Rattle.sets.specs.Sets.{member}
-use Rattle.commands.specs.Commands.{strings}
 use Rattle.vocabularies.specs.Vocabulary.{Formula, conj, disj, neg, truth, attr, content, order, value, isIn}
 use Rattle.vocabularies.specs.Facts.{Fact, present, ordered, valued, sameFact, isAmong, add, withFacts, factsOf}
-use Rattle.pages.specs.Items.{string, Attribute}
 use Rattle.judging.specs.Judgement.{precedes, holdsValue}
 use Rattle.patterns.specs.Patterns.{flagged, numbered, patternOf, flagIn}
-use Rattle.patterns.specs.Elements.{attributePattern}
 use Rattle.patterns.proofs.Tests.{or-left, or-right, either, failed}
 use Rattle.patterns.proofs.Facts.{fact-same}
 use Rattle.patterns.proofs.Clauses.{lowest, higher, numbered-same}
-use Rattle.patterns.proofs.ElementPatterns.{NamedSets}
 
 -- Fact i of a list.
 abbrev pub factAt : List Fact → ℕ → Fact
@@ -134,7 +130,7 @@ unfolding numbered
 all-unflagged [] = refl
 all-unflagged (f ∷ fs) = rw (all-unflagged fs)
 
--- The pattern of nothing is 0, and so is that of an attribute whose string is none of the named ones.
+-- The pattern of nothing is 0.
 pub pattern-of-nothing : (fs : List Fact) → patternOf fs [] [] ≡ 0
 unfolding patternOf isIn precedes holdsValue
 pattern-of-nothing fs = numbered-same fs (flagged [] []) (λ f. false) unflagged ∙ all-unflagged fs
@@ -143,19 +139,3 @@ pattern-of-nothing fs = numbered-same fs (flagged [] []) (λ f. false) unflagged
     unflagged (present c) e = refl
     unflagged (ordered c d) e = refl
     unflagged (valued a m) e = refl
-
-pub pattern-of-other : (fs : List Fact) → NamedSets fs → (a : ℕ) → attributePattern fs a strings ≡ 0
-unfolding patternOf isIn precedes holdsValue
-pattern-of-other fs named a = numbered-same fs (flagged other []) (λ f. false) unflagged ∙ all-unflagged fs
-  where
-    other : List Attribute
-    other = record { name = a; value = string strings } ∷ []
-
-    no-string : (b : Bool) → ((b && false) || false) ≡ false
-    no-string true = refl
-    no-string false = refl
-
-    unflagged : (f : Fact) → isAmong f fs ≡ true → flagged other [] f ≡ false
-    unflagged (present c) e = refl
-    unflagged (ordered c d) e = refl
-    unflagged (valued b m) e = rw (named b m e strings (omega arith)) (no-string (eqb a b))

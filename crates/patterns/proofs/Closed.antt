@@ -1,7 +1,7 @@
 -- Pages that are derived have no gap left.
 use Prim.Native.Nat.{ℕ}
 use mathlib.Core.Path.{_≡_, refl, sym, ap, _∙_}
-use mathlib.Core.List.{List, [], _∷_}
+use mathlib.Core.List.{List}
 use mathlib.Core.Bool.{Bool, false, _||_, or-assoc}
 use Rattle.pages.specs.Items.{Attribute, Item, element, Items, none, more, one, _⋈_, gapIn, gapInItem, openIn, attributeGapIn, attributeGapInItem}
 use Rattle.pages.specs.RightPages.{Gapless}

@@ -2,8 +2,8 @@
 -- is the i-th of the list. Variables x and y are 0 to 3, templates are numbered from 1, template 0 is empty.
 use Prim.Native.Nat.{ℕ, zero, suc}
 use mathlib.Core.List.{List, [], _∷_}
-use mathlib.Core.Bool.{Bool, true, false, cond, _||_}
-use mathlib.Core.Option.{Option, some, none}
+use mathlib.Core.Bool.{Bool, false, _||_}
+use mathlib.Core.Option.{none}
 use lib.Dec.{eqb}
 use Rattle.pages.specs.Items.{Items}
 use Rattle.pages.specs.Items as Items

@@ -1,19 +1,18 @@
 -- The names of attributes, gathered one attribute after the other.
 use Prim.Native.Nat.{ℕ, zero, suc, _+_, _%_, _≤_}
 use native.Mathlib.Omega.{arith}
-use mathlib.Core.Path.{_≡_, refl, sym, subst, _∙_}
-use mathlib.Core.List.{List, _∷_}
-use mathlib.Core.Bool.{Bool, true, false, _||_, or-false, false≢true}
-use mathlib.Core.Logic.{_⊎_, inl, inr, ⊎-elim}
-use lib.ListN.{length}
+use mathlib.Core.Path.{_≡_, sym, subst, _∙_}
+use mathlib.Core.List.{List, [], _∷_}
+use mathlib.Core.Bool.{true, false, _||_, or-false, false≢true}
+use mathlib.Core.Logic.{inl, inr}
 use lib.Dec.{eqb, leb}
-use borrow.Author.Tests.{eqb-true, leb-true}
+use borrow.Author.Tests.{leb-true}
 use Rattle.sets.specs.Sets.{member}
 use Rattle.sets.proofs.Laws.{member-zero}
 use Rattle.commands.specs.declared.Context.the-variants.{TemplateAttributes}
-use Rattle.commands.specs.Commands.{byte, operandBytes, operandsOf, allInRange, allowed}
+use Rattle.commands.specs.Commands.{byte, operandsOf, inRange, allInRange, allowed}
 use Rattle.commands.specs.Reading.{whole}
-use Rattle.commands.proofs.Laws.{byte-past, moved}
+use Rattle.commands.proofs.Laws.{moved}
 use Rattle.vocabularies.specs.Vocabulary.{isIn}
 use Rattle.pages.specs.declared.Kind.the-variants.{Template}
 use Rattle.pages.specs.Items.{Attribute}
@@ -21,8 +20,10 @@ use Rattle.pages.specs.ItemReading.{attributes}
 use Rattle.pages.specs.RightPages.{names}
 use Rattle.pages.proofs.Whole.{never-unfinished, attributes-whole}
 use Rattle.judging.specs.declared.Named.{Named}
-use Rattle.patterns.proofs.Tests.{or-cases, and-left}
+use Rattle.patterns.proofs.Tests.{and-left}
+use Rattle.languages.proofs.AttributeLaws.{attribute-kind, attribute-width}
 use Rattle.reach.specs.Walking.{NamesAt}
+use Rattle.reach.proofs.Sets.{moved-first}
 
 -- The attributes from an offset on, with the names of those before.
 abbrev pub NamesWith : List ℕ → ℕ → ℕ → Named → Type 0
@@ -37,11 +38,6 @@ pub record NamesFrom (s : List ℕ) (first at named : ℕ) : Type 0 where
   pub forward : first ≤ at
   pub goes : (r : Named) → NamesWith s named at r → NamesWith s 0 first r
 
-moved-first : (a b c : Bool) → ((a || b) || c) ≡ (b || (a || c))
-moved-first true true c = refl
-moved-first true false c = refl
-moved-first false b c = refl
-
 module _ (s : List ℕ) (named at : ℕ) where
   pub names-end : allowed TemplateAttributes (byte s at) ≡ false → NamesWith s named at (record { names = named; next = record { at = at } })
   unfolding attributes
@@ -51,22 +47,12 @@ module _ (s : List ℕ) (named at : ℕ) where
     | inr r ↦ absurd (false≢true (sym none ∙ r .permitted))
   ]
 
-  pub names-past : length s ≤ at → NamesWith s named at (record { names = named; next = record { at = at } })
-  unfolding allowed
-  names-past past = names-end (rw (byte-past s at past))
-
-  -- `24 a s` and `25 a h` have three bytes, and a is small.
-  attribute-bytes : allowed TemplateAttributes (byte s at) ≡ true → allInRange (operandsOf (byte s at)) s (at + 1) ≡ true
-      → (at + 1 + operandBytes (byte s at) ≡ at + 3) × (byte s (at + 1) ≤ 31)
-  unfolding allowed operandBytes allInRange
-  attribute-bytes e r = ⊎-elim
-      (λ h. bytes 0x24 (eqb-true (byte s at) 0x24 h) refl (λ i. and-left (leb (byte s (at + 1)) 31) _ i))
-      (λ h. bytes 0x25 (eqb-true (byte s at) 0x25 h) refl (λ i. and-left (leb (byte s (at + 1)) 31) _ i))
-      (or-cases (eqb (byte s at) 0x24) (eqb (byte s at) 0x25) e)
-    where
-      bytes : (code : ℕ) → byte s at ≡ code → operandBytes code ≡ 2 → (allInRange (operandsOf code) s (at + 1) ≡ true → leb (byte s (at + 1)) 31 ≡ true)
-          → (at + 1 + operandBytes (byte s at) ≡ at + 3) × (byte s (at + 1) ≤ 31)
-      bytes code q two range = (rw (q, two) (omega arith), leb-true (byte s (at + 1)) 31 (range (rw q at r)))
+  attribute-named : allowed TemplateAttributes (byte s at) ≡ true → allInRange (operandsOf (byte s at)) s (at + 1) ≡ true → byte s (at + 1) ≤ 31
+  unfolding operandsOf allInRange inRange
+  attribute-named here ranges = elim (attribute-kind [] 0 s (byte s at) here) [
+    | inl k ↦ leb-true (byte s (at + 1)) 31 (and-left (leb (byte s (at + 1)) 31) _ (rw k at ranges))
+    | inr k ↦ leb-true (byte s (at + 1)) 31 (and-left (leb (byte s (at + 1)) 31) _ (rw k at ranges))
+  ]
 
   pub names-more : (more b : ℕ) (r : Named) → allowed TemplateAttributes (byte s at) ≡ true → b ≡ byte s (at + 1)
       → ((k : ℕ) → member more k ≡ (eqb k (b % 64) || member named k)) → NamesWith s more (at + 3) r → NamesWith s named at r
@@ -76,7 +62,8 @@ module _ (s : List ℕ) (named at : ℕ) where
     | inl q ↦ absurd (false≢true (sym (q .not-attribute) ∙ here))
     | inr q ↦
         let m = moved TemplateAttributes s at (byte s at) (q .next) (q .stands) in
-        let (three, small) = attribute-bytes here (m .ranges) in
+        let three = attribute-width [] 0 s at here in
+        let small = attribute-named here (m .ranges) in
         let n = N f end (byte s (at + 1) ∷ before) (q .rest) (subst (λ (k : ℕ). attributes f Template s (byte s (at + 1) ∷ before) k ≡ whole (q .rest) end) (m .after ∙ three) (q .reads-rest)) in
         let name : b % 64 ≡ byte s (at + 1) = omega arith in (
           n .0,

@@ -73,6 +73,3 @@ lower-lower (some m) (some n) (some k) = ap some (lowest-of m n k (leb m n) (leb
 pub mark-first : (p : ℕ → ℕ → List Attribute → Items → Bool) (i : Item) (φ : Items) → lowestMark p (more i φ) ≡ lower (lowestMark p (one i)) (lowestMark p φ)
 unfolding lowestMark
 mark-first p i φ = ap (λ (o : Option ℕ). lower o (lowestMark p φ)) (sym (lower-none (lowestMarkIn p i)))
-
-pub lower-first-of : (a b c o d : Option ℕ) → o ≡ lower a b → b ≡ c → lower o d ≡ lower a (lower c d)
-lower-first-of a b c o d p q = rw (p, q) (lower-lower a c d)

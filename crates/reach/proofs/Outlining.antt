@@ -1,5 +1,5 @@
 -- Outlines of items, and the contents that can stand among them.
-use Prim.Native.Nat.{ℕ, _*_, _^_, _≤_, _<_}
+use Prim.Native.Nat.{ℕ, _≤_, _<_}
 use native.Mathlib.Omega.{arith}
 use mathlib.Core.Path.{_≡_, refl, sym, ap, subst, _∙_}
 use mathlib.Core.List.{List}
@@ -9,9 +9,9 @@ use lib.ListN.{length, getD, List·getD-eq-default}
 use lib.Dec.{eqb, ltb}
 use borrow.Author.Tests.{eqb-true, lt-ltb, ltb-true, ltb-false}
 use Rattle.sets.specs.Sets.{member}
-use Rattle.sets.proofs.Laws.{member-zero, member-single}
+use Rattle.sets.proofs.Laws.{member-zero}
 use Rattle.vocabularies.specs.Vocabulary.{isIn}
-use Rattle.pages.specs.Items.{Attribute, Item, text, gap, element, Items, none, more, one}
+use Rattle.pages.specs.Items.{Attribute, Item, text, gap, element, Items, none, more}
 use Rattle.pages.specs.RightPages.{word, wordItem}
 use Rattle.summaries.specs.Proposal.{edge}
 use Rattle.summaries.specs.Summaries.{Summary}
@@ -23,48 +23,63 @@ use Rattle.entries.specs.Gaps.{hasGap}
 use Rattle.reach.specs.Closures.{United}
 use Rattle.reach.specs.Outlines.{isGap, gapAmong, Outline}
 use Rattle.reach.specs.Walking.{Brings}
-use Rattle.reach.proofs.Sets.{not-in-zero}
-
--- ---- one item
+use Rattle.reach.proofs.Sets.{not-in-zero, moved-first}
 
 no-gap : (g : ℕ) → hasGap 0 g ≡ false
 no-gap g = rw (member-zero g) (and-false (ltb g 8))
-
--- A word with one member.
-alone : (w k : ℕ) → ((i : ℕ) → member w i ≡ (eqb i k || member 0 i)) → (i : ℕ) → member w i ≡ (eqb i k || false)
-alone w k is i = is i ∙ ap (λ (b : Bool). eqb i k || b) (member-zero i)
-
-pub outline-text : Outline (one text) 1 0
-unfolding word wordItem isIn gapAmong
-outline-text = record { contents = λ c. member-single 0 c ∙ sym (or-false (eqb c 0)); gaps = λ g. sym (no-gap g) }
 
 gap-is : (k g : ℕ) → k < 8 → eqb k g ≡ (ltb g 8 && eqb g k)
 gap-is k g h = same-test (eqb k g) (ltb g 8 && eqb g k)
     (λ e. let q : k ≡ g = eqb-true k g e in and-both (lt-ltb g 8 (omega arith)) (subst (λ (n : ℕ). eqb n k ≡ true) q (eqb-same k)))
     (λ e. let q : g ≡ k = eqb-true g k (and-right (ltb g 8) (eqb g k) e) in subst (λ (n : ℕ). eqb k n ≡ true) (sym q) (eqb-same k))
 
-pub outline-gap : (k : ℕ) → k < 8 → Outline (one (gap k)) 0 (1 * 2 ^ k)
-unfolding word wordItem isIn gapAmong
-outline-gap k h = record {
-  contents = λ c. member-zero c;
-  gaps = λ g. or-false (eqb k g) ∙ gap-is k g h ∙ ap (λ (b : Bool). ltb g 8 && b) (sym (member-single k g));
+-- ---- outlines, one item after the other
+
+-- The outline of items, with contents and gaps that stood before them.
+pub record Outlined (inside gaps : ℕ) (φ : Items) (inside′ gaps′ : ℕ) : Type 0 where
+  pub contents-in : (c : ℕ) → member inside′ c ≡ (member inside c || isIn c (word φ))
+  pub gaps-in : (g : ℕ) → hasGap gaps′ g ≡ (hasGap gaps g || gapAmong φ g)
+
+pub outlined-none : (inside gaps : ℕ) → Outlined inside gaps none inside gaps
+unfolding word isIn gapAmong
+outlined-none inside gaps = record { contents-in = λ c. sym (or-false (member inside c)); gaps-in = λ g. sym (or-false (hasGap gaps g)) }
+
+pub outlined-all : (φ : Items) (inside gaps : ℕ) → Outlined 0 0 φ inside gaps → Outline φ inside gaps
+outlined-all φ inside gaps o = record {
+  contents = λ c. o .contents-in c ∙ rw (member-zero c);
+  gaps = λ g. sym (o .gaps-in g ∙ ap (λ (b : Bool). b || gapAmong φ g) (no-gap g));
 }
 
-pub outline-element : (e mark w : ℕ) (δ : List Attribute) (φ : Items) → ((i : ℕ) → member w i ≡ (eqb i e || member 0 i)) → Outline (one (element e mark δ φ)) w 0
-unfolding word wordItem isIn gapAmong
-outline-element e mark w δ φ is = record { contents = alone w e is; gaps = λ g. sym (no-gap g) }
+module _ (inside gaps : ℕ) (φ : Items) (inside″ gaps″ : ℕ) where
+  content-first : (e inside′ : ℕ) → ((k : ℕ) → member inside′ k ≡ (eqb k e || member inside k)) → ((c : ℕ) → member inside″ c ≡ (member inside′ c || isIn c (word φ)))
+      → (c : ℕ) → member inside″ c ≡ (member inside c || (eqb c e || isIn c (word φ)))
+  content-first e inside′ is all c = all c ∙ ap (λ (b : Bool). b || isIn c (word φ)) (is c) ∙ moved-first (eqb c e) (member inside c) (isIn c (word φ))
 
--- ---- an item, and those after it
+  pub outlined-text : (inside′ : ℕ) → ((k : ℕ) → member inside′ k ≡ (eqb k 0 || member inside k)) → Outlined inside′ gaps φ inside″ gaps″
+      → Outlined inside gaps (more text φ) inside″ gaps″
+  unfolding word wordItem isIn gapAmong
+  outlined-text inside′ is o = record { contents-in = content-first 0 inside′ is (o .contents-in); gaps-in = o .gaps-in }
 
-pub in-first : (c : ℕ) (i : Item) (φ : Items) → isIn c (word (more i φ)) ≡ (isIn c (word (one i)) || isIn c (word φ))
-unfolding word wordItem isIn
-in-first c text φ = rw (or-false (eqb c 0))
-in-first c (gap g) φ = refl
-in-first c (element e mark δ χ) φ = rw (or-false (eqb c e))
+  pub outlined-gap : (k gaps′ : ℕ) → k < 8 → ((j : ℕ) → member gaps′ j ≡ (eqb j k || member gaps j)) → Outlined inside gaps′ φ inside″ gaps″
+      → Outlined inside gaps (more (gap k) φ) inside″ gaps″
+  unfolding word wordItem isIn gapAmong
+  outlined-gap k gaps′ low is o = record {
+    contents-in = o .contents-in;
+    gaps-in = λ g. o .gaps-in g ∙ ap (λ (b : Bool). b || gapAmong φ g) (with-gap g) ∙ moved-first (eqb k g) (hasGap gaps g) (gapAmong φ g);
+  }
+    where
+      spread : (t u v : Bool) → (t && (u || v)) ≡ ((t && u) || (t && v))
+      spread true u v = refl
+      spread false u v = refl
 
-pub gap-first : (g : ℕ) (i : Item) (φ : Items) → gapAmong (more i φ) g ≡ (gapAmong (one i) g || gapAmong φ g)
-unfolding gapAmong
-gap-first g i φ = rw (or-false (isGap i g))
+      with-gap : (g : ℕ) → hasGap gaps′ g ≡ (eqb k g || hasGap gaps g)
+      with-gap g =
+          ap (λ (b : Bool). ltb g 8 && b) (is g) ∙ spread (ltb g 8) (eqb g k) (member gaps g) ∙ ap (λ (b : Bool). b || hasGap gaps g) (sym (gap-is k g low))
+
+  pub outlined-element : (e mark : ℕ) (δ : List Attribute) (χ : Items) (inside′ : ℕ) → ((k : ℕ) → member inside′ k ≡ (eqb k e || member inside k))
+      → Outlined inside′ gaps φ inside″ gaps″ → Outlined inside gaps (more (element e mark δ χ) φ) inside″ gaps″
+  unfolding word wordItem isIn gapAmong
+  outlined-element e mark δ χ inside′ is o = record { contents-in = content-first e inside′ is (o .contents-in); gaps-in = o .gaps-in }
 
 -- ---- the contents that can stand among items
 
@@ -80,7 +95,10 @@ module _ (φs : List Items) (G : Summary) (C : Sets) (n c : ℕ) where
   item-in (element e′ mark δ χ) φ e = inl (or-left (eqb c e′) (isIn c (word φ)) e)
 
   later-in : (i : Item) (φ : Items) → isIn c (word φ) ≡ true → isIn c (word (more i φ)) ≡ true
-  later-in i φ e = in-first c i φ ∙ or-right (isIn c (word (one i))) (isIn c (word φ)) e
+  unfolding word wordItem isIn
+  later-in text φ e = or-right (eqb c 0) (isIn c (word φ)) e
+  later-in (gap g) φ e = e
+  later-in (element e′ mark δ χ) φ e = or-right (eqb c e′) (isIn c (word φ)) e
 
   pub contents-from : (φ : Items) → contentsOf φs G C n φ c ≡ true
       → (isIn c (word φ) ≡ true) ⊎ ((g : ℕ) × (gapAmong φ g ≡ true) × (brought g ≡ true))

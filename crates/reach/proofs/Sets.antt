@@ -1,7 +1,7 @@
 -- Words as sets: which numbers are in none, and growth.
 use Prim.Native.Nat.{ℕ, _^_, _≤_, _<_}
-use mathlib.Core.Path.{_≡_, sym, subst, _∙_}
-use mathlib.Core.Bool.{true, _&&_, false≢true}
+use mathlib.Core.Path.{_≡_, refl, sym, subst, _∙_}
+use mathlib.Core.Bool.{Bool, true, false, _&&_, _||_, false≢true}
 use lib.Bits.{bitAnd, and-le-l, and-lt}
 use Rattle.sets.specs.Sets.{member}
 use Rattle.sets.proofs.Laws.{member-zero, member-high, member-and, same-members}
@@ -20,3 +20,9 @@ larger a b p q within =
     let e : bitAnd b a ≡ a = same-members 64 (bitAnd b a) a (and-lt 64 b a q p) p
     (λ k h. member-and b a k ∙ same-test (member b k && member a k) (member a k) (and-right (member b k) (member a k)) (λ t. and-both (within k t) t)) in
     subst (λ (n : ℕ). n ≤ b) e (and-le-l b a)
+
+-- The first two of three tests in the other order.
+pub moved-first : (a b c : Bool) → ((a || b) || c) ≡ (b || (a || c))
+moved-first true true c = refl
+moved-first true false c = refl
+moved-first false b c = refl

@@ -1,38 +1,32 @@
--- Every template: its outline, and its lowest element that is plainly wrong.
+-- Every template: its lowest element that is plainly wrong.
 use Prim.Native.Nat.{ℕ, zero, suc, _+_, _-_, _≤_, _<_}
 use native.Mathlib.Omega.{arith}
 use mathlib.Core.Path.{_≡_, refl, sym, ap, _∙_}
 use mathlib.Core.List.{List, [], _∷_}
-use mathlib.Core.Bool.{Bool, true, false, cond, and-false}
+use mathlib.Core.Bool.{Bool, true, false, cond}
 use mathlib.Core.Option.{Option}
 use mathlib.Core.Option as Option
 use mathlib.Core.Logic.{_⊎_, ⊎-elim}
 use lib.ListN.{length, getD}
-use lib.Dec.{ltb}
 use Rattle.sets.specs.Sets.{member}
-use Rattle.sets.proofs.Laws.{member-zero}
 use Rattle.commands.specs.Reading.{whole}
 use Rattle.vocabularies.specs.declared.Tables.{Tables}
-use Rattle.vocabularies.specs.Vocabulary.{Vocabulary, declared, isIn}
+use Rattle.vocabularies.specs.Vocabulary.{Vocabulary, declared}
 use Rattle.vocabularies.specs.Promises.{Describes}
-use Rattle.pages.specs.declared.Kind.the-variants.{Template}
 use Rattle.pages.specs.Items.{Items, none}
-use Rattle.pages.specs.RightPages.{word}
 use Rattle.pages.specs.Promises.{Located}
 use Rattle.programs.specs.Program.{templateAt}
 use Rattle.judging.specs.Promises.{wrongOf}
 use Rattle.summaries.specs.Summaries.{Summary}
 use Rattle.patterns.specs.Rounds.{Sets}
 use Rattle.patterns.specs.Shows.{lowestMark}
-use Rattle.entries.specs.Gaps.{hasGap}
-use Rattle.reach.specs.Outlines.{gapAmong}
 use Rattle.reach.specs.PlainlyWrong.{plainlyWrong}
-use Rattle.reach.specs.Promises.{GraphKept, OutlinesTo}
+use Rattle.reach.specs.Promises.{GraphKept}
 use Rattle.reach.specs.Walking.{RulesKept, ContentsKept, TellsWrongIn, TellsPlainlyWrong}
 use Rattle.reach.proofs.Filling.{Filled}
 
 -- Template 0 is empty, and the others stand in the list from its first place on.
-template-none : (φs : List Items) → templateAt φs 0 ≡ none
+pub template-none : (φs : List Items) → templateAt φs 0 ≡ none
 unfolding templateAt
 template-none [] = refl
 template-none (φ ∷ φs) = refl
@@ -46,34 +40,6 @@ template-listed (φ ∷ φs) (suc (suc t)) l =
     let a : suc (suc t) - 1 ≡ suc t = omega arith in
     let b : suc t - 1 ≡ t = omega arith in
     rw a (rw b at (template-listed φs (suc t) (omega arith)))
-
--- ---- outlines
-
-module _ (φs : List Items) where
-  abbrev pub InsideAt : ℕ → ℕ → Type 0
-  InsideAt t w = (c : ℕ) → member w c ≡ isIn c (word (templateAt φs t))
-
-  abbrev pub GapsAt : ℕ → ℕ → Type 0
-  GapsAt t w = (g : ℕ) → gapAmong (templateAt φs t) g ≡ hasGap w g
-
-  pub inside-none : (t : ℕ) → t < 1 → InsideAt t 0
-  unfolding word isIn
-  inside-none zero h c = rw (template-none φs) (member-zero c)
-  inside-none (suc t) h c = absurd (omega arith)
-
-  pub gaps-none : (t : ℕ) → t < 1 → GapsAt t 0
-  unfolding gapAmong
-  gaps-none zero h g = rw (template-none φs, member-zero g) (sym (and-false (ltb g 8)))
-  gaps-none (suc t) h g = absurd (omega arith)
-
-  pub outlines-all : (contents gaps : List ℕ) (count t : ℕ) → (count < t) ⊎ (32 ≤ t) → Filled InsideAt 32 t contents → Filled GapsAt 32 t gaps
-      → OutlinesTo φs count contents gaps
-  outlines-all contents gaps count t end f h i l low = record { contents = f .below i (past end); gaps = h .below i (past end) }
-    where
-      past : (count < t) ⊎ (32 ≤ t) → i < t
-      past = ⊎-elim (λ e. omega arith) (λ e. omega arith)
-
--- ---- elements that are plainly wrong
 
 -- The tables of a vocabulary that was read.
 pub rules-kept : (s : List ℕ) (D : Vocabulary) (t : Tables) → Describes s D t → RulesKept D (t .attributes) (t .contents)

@@ -23,7 +23,8 @@ use Rattle.patterns.specs.Given.{contents}
 use Rattle.patterns.specs.Rounds.{Sets, anyTemplate}
 use Rattle.patterns.specs.Reached.{contentsOf}
 use Rattle.patterns.specs.Shows.{onlyIf, lowestMark}
-use Rattle.reach.specs.declared.Walked.{Walked}
+use Rattle.reach.specs.declared.WalkedElement.{WalkedElement}
+use Rattle.reach.specs.declared.WalkedItems.{WalkedItems}
 use Rattle.reach.specs.Outlines.{Outline}
 use Rattle.reach.specs.PlainlyWrong.{plainlyUnder, plainlyWrong}
 use Rattle.reach.specs.Promises.{GraphKept}
@@ -55,21 +56,29 @@ abbrev pub TellsOutside : ℕ → ℕ → ℕ → ℕ → ℕ → ℕ → Type 0
 TellsOutside at named allowed inside held r = (φs : List Items) (G : Summary) (C : Sets) (n : ℕ) (R : Rule) (δ : List Attribute) (φ : Items)
     → Compared φs G C n R δ φ named allowed inside held → wrongOf r ≡ onlyIf (plainlyUnder φs G C R n δ φ) at
 
--- What is told of a list of items; of elements, where those that have a rule are read alone.
-pub record IsWalked (ruled : ℕ → Bool) (allowed held brings : List ℕ) (φ : Items) (end : ℕ) (r : Walked) : Type 0 where
+-- The lowest element of some items that is plainly wrong, where elements that have a rule are read alone.
+abbrev pub FindsWrong : (ℕ → Bool) → List ℕ → List ℕ → List ℕ → Items → ℕ → Type 0
+FindsWrong ruled allowed held brings φ wrong = (φs : List Items) (G : Summary) (C : Sets) (n : ℕ) (D : Vocabulary) → RulesKept D allowed held
+    → Brings φs G C n brings → ((e : ℕ) → ruled e ≡ true → declared (D .rules) e ≡ true)
+    → wrongOf wrong ≡ lowestMark (λ e mark δ χ. plainlyWrong φs G C D n e δ χ) φ
+
+-- What is told of an element, and of a list of items.
+pub record ElementWalked (ruled : ℕ → Bool) (allowed held brings : List ℕ) (i : Item) (end : ℕ) (r : WalkedElement) : Type 0 where
+  pub ends : r .next .at ≡ end
+  pub finds : FindsWrong ruled allowed held brings (one i) (r .wrong)
+
+pub record ItemsWalked (ruled : ℕ → Bool) (allowed held brings : List ℕ) (φ : Items) (end : ℕ) (r : WalkedItems) : Type 0 where
   pub ends : r .next .at ≡ end
   pub outline : Outline φ (r .inside) (r .gaps)
-  pub finds : (φs : List Items) (G : Summary) (C : Sets) (n : ℕ) (D : Vocabulary) → RulesKept D allowed held → Brings φs G C n brings
-      → ((e : ℕ) → ruled e ≡ true → declared (D .rules) e ≡ true)
-      → wrongOf (r .wrong) ≡ lowestMark (λ e mark δ χ. plainlyWrong φs G C D n e δ χ) φ
+  pub finds : FindsWrong ruled allowed held brings φ (r .wrong)
 
-abbrev pub WalksItem : List ℕ → List ℕ → List ℕ → List ℕ → ℕ → Walked → Type 0
-WalksItem s allowed held brings at r = (ruled : ℕ → Bool) (f depth end : ℕ) (i : Item) → item f Template ruled s depth at ≡ whole i end
-    → IsWalked ruled allowed held brings (one i) end r
+abbrev pub WalksElement : List ℕ → List ℕ → List ℕ → List ℕ → ℕ → WalkedElement → Type 0
+WalksElement s allowed held brings at r = (ruled : ℕ → Bool) (f depth end : ℕ) (i : Item) → item f Template ruled s depth at ≡ whole i end
+    → ElementWalked ruled allowed held brings i end r
 
-abbrev pub WalksItems : List ℕ → List ℕ → List ℕ → List ℕ → ℕ → Walked → Type 0
+abbrev pub WalksItems : List ℕ → List ℕ → List ℕ → List ℕ → ℕ → WalkedItems → Type 0
 WalksItems s allowed held brings at r = (ruled : ℕ → Bool) (f depth end : ℕ) (φ : Items) → items f Template ruled s depth at ≡ whole φ end
-    → IsWalked ruled allowed held brings φ end r
+    → ItemsWalked ruled allowed held brings φ end r
 
 -- The words have the contents that can stand in the pages of each template.
 abbrev pub ContentsKept : List Items → Sets → List ℕ → Type 0

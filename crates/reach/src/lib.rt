@@ -1,24 +1,19 @@
 // Which templates are reached in a show, which contents can stand in the pages of each, and the elements that are wrong by the names
 // of their attributes or by their contents.
 ghost use mathlib.Core.Path.{_≡_};
-ghost use mathlib.Core.List.{List};
 ghost use mathlib.Core.Bool.{_&&_, _||_};
 ghost use Prim.Native.Nat.{ℕ, _^_, _≤_, _<_};
 ghost use lib.Dec.{eqb};
 ghost use lib.ListN.{length};
 ghost use Rattle.sets.specs.Sets.{member};
-ghost use Rattle.commands.specs.Commands.{byte, allowed};
-ghost use Rattle.pages.specs.Items.{Items};
+ghost use Rattle.commands.specs.Commands.{byte};
 ghost use Rattle.summaries.specs.Summaries.{Summary};
 ghost use Rattle.judging.specs.Promises.{wrongOf};
 ghost use Rattle.patterns.specs.Shows as Shows;
 ghost use Rattle.entries.specs.Words.{Keeps};
-ghost use Rattle.entries.specs.Gaps.{ItemsStand, StartsAt};
 ghost use Rattle.reach.specs.Closures.{United, Closure};
-ghost use Rattle.reach.specs.Outlines.{Outline};
-ghost use Rattle.reach.specs.Promises.{TellsYielding, edgesBy, EdgeTable, TellsReached, OutlinesTo, LedContents, TellsContents};
-ghost use Rattle.reach.specs.Walking.{NamesAt, TellsOutside, WalksItem, WalksItems, TellsBrings, TellsWrongIn, TellsPlainlyWrong};
-use commands::Context;
+ghost use Rattle.reach.specs.Promises.{TellsYielding, edgesBy, EdgeTable, TellsReached, LedContents, TellsContents};
+ghost use Rattle.reach.specs.Walking.{NamesAt, TellsOutside, WalksElement, WalksItems, TellsBrings, TellsWrongIn, TellsPlainlyWrong};
 use commands::Position;
 use judging::Named;
 
@@ -133,19 +128,19 @@ pub fn reached(words: &[u64; 544], gaps: &[u64; 32], count: usize, yields: u64) 
     closure(pattern_sets::common(words[0], yields), &edges)
 }
 
-// Items of a template that were walked over: the contents and the gaps that stand among the outer ones, the position after them, and
-// the lowest element in them, at any depth, that is plainly wrong, as its offset and 1, or 0 if none is.
-pub struct Walked {
-    pub inside: u64,
-    pub gaps: u64,
+// An element of a template that was walked over: the position after it, and the lowest element in it, itself one of them, that is plainly
+// wrong, as its offset and 1, or 0 if none is.
+pub struct WalkedElement {
     pub next: Position,
     pub wrong: usize,
 }
 
-fn is_attribute(code: u8) -> bool
-    ensures { λ r. ⌜ r ≡ allowed Context.TemplateAttributes code ⌝ }
-{
-    code == 0x24 || code == 0x25
+// The same of a list of items, with the contents and the gaps that stand among the outer ones.
+pub struct WalkedItems {
+    pub inside: u64,
+    pub gaps: u64,
+    pub next: Position,
+    pub wrong: usize,
 }
 
 // The names of the attributes straight after `23 e`.
@@ -155,13 +150,7 @@ pub fn names_at(s: &[u8], here: Position) -> Named
 {
     let mut at = here.at;
     let mut names: u64 = 0;
-    while at < s.len() {
-        if !is_attribute(s[at]) {
-            return Named {
-                names,
-                next: Position { at },
-            };
-        }
+    while languages::is_attribute(s, at) {
         names = sets::with(names, commands::byte_at(s, at + 1) % 64);
         at += 3;
     }
@@ -192,23 +181,20 @@ fn walk_element(
     contents: &[u64; 64],
     brings: &[u64; 8],
     here: Position,
-) -> Walked
+) -> WalkedElement
     requires { ⌜ (here .at < length (now s)) × (byte (now s) (here .at) ≡ 0x23) ⌝ }
     ensures forward { λ r. ⌜ here .at < r .next .at ⌝ }
-    ensures walked { λ r. ⌜ WalksItem (now (s .entry)) (now (attributes .entry)) (now (contents .entry)) (now (brings .entry)) (here .at) r ⌝ }
+    ensures walked { λ r. ⌜ WalksElement (now (s .entry)) (now (attributes .entry)) (now (contents .entry)) (now (brings .entry)) (here .at) r ⌝ }
 {
     let at = here.at;
-    let e = commands::byte_at(s, at + 1) % 64;
-    let k = e as usize;
+    let e = (commands::byte_at(s, at + 1) % 64) as usize;
     let named = names_at(s, Position { at: at + 2 });
     let start = named.next;
     let list = walk_items(s, attributes, contents, brings, start);
     let inside = union_of(list.inside, list.gaps, brings);
-    let wrong = outside_at(at, named.names, attributes[k], inside, contents[k]);
+    let wrong = outside_at(at, named.names, attributes[e], inside, contents[e]);
     let next = list.next;
-    Walked {
-        inside: sets::with(0, e),
-        gaps: 0,
+    WalkedElement {
         next,
         wrong: lower(wrong, list.wrong),
     }
@@ -221,7 +207,7 @@ fn walk_items(
     contents: &[u64; 64],
     brings: &[u64; 8],
     here: Position,
-) -> Walked
+) -> WalkedItems
     ensures forward { λ r. ⌜ here .at ≤ r .next .at ⌝ }
     ensures walked { λ r. ⌜ WalksItems (now (s .entry)) (now (attributes .entry)) (now (contents .entry)) (now (brings .entry)) (here .at) r ⌝ }
 {
@@ -240,15 +226,14 @@ fn walk_items(
                 at += 2;
             }
             0x23 => {
+                inside = sets::with(inside, commands::byte_at(s, at + 1) % 64);
                 let element = walk_element(s, attributes, contents, brings, Position { at });
-                inside = sets::union(inside, element.inside);
-                gaps = sets::union(gaps, element.gaps);
                 wrong = lower(wrong, element.wrong);
                 let next = element.next;
                 at = next.at;
             }
             _ => {
-                return Walked {
+                return WalkedItems {
                     inside,
                     gaps,
                     next: Position { at: at + 1 },
@@ -257,46 +242,12 @@ fn walk_items(
             }
         }
     }
-    Walked {
+    WalkedItems {
         inside,
         gaps,
         next: Position { at },
         wrong,
     }
-}
-
-// The outline of every template: the contents and the gaps that stand among its outer items.
-pub struct Outlines {
-    pub contents: [u64; 32],
-    pub gaps: [u64; 32],
-}
-
-// The outline of the template whose items stand at an offset.
-fn outline_at(s: &[u8], at: usize) -> Walked
-    ensures { λ r. ⌜ ((φ : Items) → ItemsStand (now (s .entry)) at φ → Outline φ (r .inside) (r .gaps)) ⌝ }
-{
-    let rules = [0u64; 64];
-    let brings = [0u64; 8];
-    walk_items(s, &rules, &rules, &brings, Position { at })
-}
-
-// The outline of every template. Template 0 has none.
-pub fn outlines_of(s: &[u8], starts: &[usize; 32], count: usize) -> Outlines
-    ensures { λ r. ⌜ ((φs : List Items) → StartsAt (now (s .entry)) φs (now (starts .entry)) → count ≡ length φs → OutlinesTo φs count (r .contents) (r .gaps)) ⌝ }
-{
-    let mut contents = [0u64; 32];
-    let mut gaps = [0u64; 32];
-    let mut t = 1;
-    while t < 32 {
-        if count < t {
-            return Outlines { contents, gaps };
-        }
-        let outline = outline_at(s, starts[t]);
-        contents[t] = outline.inside;
-        gaps[t] = outline.gaps;
-        t += 1;
-    }
-    Outlines { contents, gaps }
 }
 
 // The contents among the outer items of the templates that template n leads to, itself one of them, if pages come of it.

@@ -23,7 +23,8 @@ fn read_record(buffer: &mut [u8]) -> bool {
     let Slice::Kept(n) = slice else {
         return false;
     };
-    let job = jobs::read_job(&buffer[..n]);
+    let mut heads = [0usize; 256];
+    let job = jobs::read_job(&buffer[..n], &mut heads);
     let part = job.part;
     records::print_verdict(verdicts::numbers_of(read_verdict(part)));
     true

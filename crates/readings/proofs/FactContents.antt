@@ -1,25 +1,21 @@
 -- The contents of a clause's facts as a set; other contents have no flag.
-use Prim.Native.Nat.{ℕ, _+_, _%_, _^_, _<_, _≤_}
+use Prim.Native.Nat.{ℕ, _+_, _%_, _<_, _≤_}
 use mathlib.Core.Path.{_≡_, refl, sym, ap, _∙_}
-use mathlib.Core.List.{List, [], _∷_}
 use mathlib.Core.Bool.{Bool, true, false, _||_, false≢true}
 use native.Mathlib.Decide.{ℕ-discrete}
 use native.Mathlib.Omega.{arith}
 use lib.ListN.{length, getD}
-use lib.Bits.{bitAnd}
 use lib.Dec.{eqb, ltb}
 use borrow.Author.Tests.{eq-eqb, ltb-true, ltb-false}
 use Rattle.sets.specs.Sets.{member}
 use Rattle.vocabularies.specs.declared.Facts.{Facts}
 use Rattle.vocabularies.specs.Facts.{Fact, present}
-use Rattle.vocabularies.specs.Promises.{Stored, Represents}
 use Rattle.patterns.specs.Morphisms as Morphisms
-use Rattle.patterns.specs.Patterns.{patternOf}
 use Rattle.patterns.proofs.Tests.{or-left, or-right}
 use Rattle.readings.specs.declared.Reading.{Reading}
-use Rattle.readings.specs.Readings.{placeOf, ReadsFacts, Reads, of-facts, of-root}
-use Rattle.readings.specs.Promises.{OfFacts, AddsContent, HasContents, ReadsOne, TellsContents}
-use Rattle.readings.proofs.FactPlaces.{place-le, fact-placed}
+use Rattle.readings.specs.Readings.{placeOf, of-facts, of-root}
+use Rattle.readings.specs.Promises.{OfFacts, AddsContent, HasContents, TellsContents}
+use Rattle.readings.proofs.FactPlaces.{fact-placed}
 use Rattle.readings.proofs.Placing.{few-count}
 use Rattle.readings.proofs.Joining.{absent-none}
 

@@ -1,5 +1,5 @@
 -- The operations of a reading as the code works them out.
-use Prim.Native.Nat.{ℕ, zero, suc, _+_, _*_, _%_, _^_, _<_, _≤_}
+use Prim.Native.Nat.{ℕ, zero, _+_, _*_, _%_, _^_, _<_, _≤_}
 use mathlib.Core.Path.{_≡_, refl, sym, ap, _∙_}
 use mathlib.Core.List.{List, [], _∷_}
 use mathlib.Core.Bool.{Bool, true, false, cond, _&&_, _||_, and-false, and-comm, or-false, or-comm, false≢true}
@@ -12,22 +12,23 @@ use borrow.Author.Tests.{eq-eqb, ne-eqb, ltb-true, ltb-false}
 use Rattle.sets.specs.Sets.{member}
 use Rattle.sets.proofs.Laws.{member-and, member-or, member-zero, member-high, member-single}
 use Rattle.vocabularies.specs.Vocabulary.{isIn}
+use Rattle.vocabularies.specs.declared.Facts.{Facts}
 use Rattle.vocabularies.specs.Facts.{Fact, present, ordered, valued, sameFact}
 use Rattle.judging.specs.Judgement.{precedes, holdsValue}
 use Rattle.patterns.specs.Patterns.{flagged, numbered, patternOf, flagIn, joinedFlag, join}
 use Rattle.patterns.specs.Morphisms as Morphisms
-use Rattle.patterns.specs.Morphisms.{factMorphism, rootMorphism, kindOf, joinKinds}
+use Rattle.patterns.specs.Morphisms.{kindOf}
 use Rattle.patterns.proofs.Clauses.{numbered-below}
 use Rattle.patterns.proofs.Bits.{pattern-of-nothing}
 use Rattle.readings.specs.declared.Reading.{Reading}
-use Rattle.readings.specs.Readings.{Distinct, placeOf, beforeOf, afterOf, ReadsFacts, Reads, of-facts, of-root}
-use Rattle.readings.specs.Promises.{OfReading, ReadsOne, Joins, Spreads, Places}
+use Rattle.readings.specs.Readings.{placeOf, beforeOf, afterOf, ReadsFacts, Reads, of-facts, of-root}
+use Rattle.readings.specs.Promises.{TellsPresent, ContentPattern, ReadsOne, Joins, Spreads, Places}
 use Rattle.pattern_sets.specs.Images.{flagAt, joinedBy, Apart}
 use Rattle.pattern_sets.proofs.Booleans.{or-absent}
 use Rattle.pattern_sets.proofs.Flags.{pattern-below, pattern-bit, pattern-high, pattern-is, pattern-same}
 use Rattle.readings.proofs.Numbers.{numbered-is}
 use Rattle.readings.proofs.FactPlaces.{flag-placed, fact-placed, place-le, place-at, same-place}
-use Rattle.readings.proofs.Placing.{few-count, content-written}
+use Rattle.readings.proofs.Placing.{few-count, content-written, From, place-none, place-last, place-found, from-next}
 
 -- ---- the facts of a clause
 
@@ -226,6 +227,27 @@ module _ (r : Reading) (plain : r .rooted ≡ false) where
       → Joins r x y (bitOr (bitOr x y) (bitAnd sx sy))
   joins-flags x y sx sy ex ey b R (of-facts {fs} h) p q = joined-spread r fs h x y p q sx sy ex ey b
   joins-flags x y sx sy ex ey b R (of-root e) p q = absurd (not-root e)
+
+-- The search for the place of a content.
+module _ (kinds firsts : List ℕ) (count c : ℕ) where
+  -- The fact that the content is present stands at no place before this one.
+  abbrev pub Later : ℕ → Type 0
+  Later i = (t : Facts) → t .kinds ≡ kinds → t .firsts ≡ firsts → t .count ≡ count → From t 0 c 0 i
+
+  module _ (i : ℕ) (later : Later i) where
+    pub pattern-none : i ≤ 8 → count ≤ i → ContentPattern kinds firsts count c 0
+    pattern-none b l r plain k f n = single-absent r plain c i (omega arith) (place-none (r .facts) 0 c 0 i b (omega arith) (later (r .facts) k f n))
+
+    pub pattern-last : 8 ≤ i → ContentPattern kinds firsts count c 0
+    pattern-last l r plain k f n = single-nowhere r plain c 8 (omega arith) (place-last (r .facts) 0 c 0 i l (later (r .facts) k f n))
+
+    module _ (b : i < 8) (here : i < count) (told : Bool) (tells : TellsPresent kinds firsts i c told) where
+      pub pattern-found : told ≡ true → ContentPattern kinds firsts count c ((1 * 2 ^ i) % 2 ^ 8)
+      pattern-found e r plain k f n =
+          single-found r plain c i b (omega arith) (place-found (r .facts) 0 c 0 i b (omega arith) (later (r .facts) k f n) told (tells (r .facts) k f) e)
+
+      pub later-next : told ≡ false → Later (i + 1)
+      later-next e t k f n = from-next t 0 c 0 i b (omega arith) (later t k f n) told (tells t k f) e
 
 -- What a morphism has that is read.
 module _ {r : Reading} where

@@ -6,12 +6,14 @@ use mathlib.Core.Bool.{Bool, true, false, false≢true}
 use native.Mathlib.Nat.{le-antisymm}
 use native.Mathlib.Omega.{arith}
 use lib.ListN.{length, getD, List·getD-eq-default}
+use lib.Dec.{eqb}
 use Rattle.vocabularies.specs.declared.Facts.{Facts}
 use Rattle.vocabularies.specs.Facts.{Fact, present, ordered, valued, sameFact}
 use Rattle.vocabularies.specs.Promises.{Written, Represents, TellsSame}
+use Rattle.vocabularies.proofs.FactLists.{differs-in-kind}
 use Rattle.patterns.proofs.Facts.{same-fact, fact-same}
 use Rattle.readings.specs.Readings.{placeOf, beforeOf, afterOf}
-use Rattle.readings.specs.Promises.{OfFacts, Places, PlacesBefore, PlacesAfter}
+use Rattle.readings.specs.Promises.{OfFacts, Places, PlacesBefore, PlacesAfter, TellsPresent}
 use Rattle.readings.proofs.FactPlaces.{place-le, place-first, fact-placed}
 
 -- A table that keeps at most eight facts keeps as many as it says.
@@ -72,6 +74,28 @@ module _ (t : Facts) (kind first second : ℕ) where
         let low : i ≤ placeOf x fs = before fs h few x w in
         let ne : placeOf x fs ≡ i → ⊥ = not-here fs h few x w e in
         omega arith
+
+-- Where a content is looked for, a fact is told by its kind and its first operand.
+module _ (kinds firsts : List ℕ) (i c : ℕ) where
+  pub no-content : (getD kinds i 0 ≡ 0 → ⊥) → TellsPresent kinds firsts i c false
+  no-content n t k f x y w w′ = differs-in-kind x y _ _ _ _ _ _ w w′ (λ e. n (sym (ap (λ (l : List ℕ). getD l i 0) k) ∙ e))
+
+  pub by-first : getD kinds i 0 ≡ 0 → TellsPresent kinds firsts i c (eqb c (getD firsts i 0))
+  by-first e t k f x y w w′ = go x y w w′
+    where
+      kind : getD (t .kinds) i 0 ≡ 0
+      kind = ap (λ (l : List ℕ). getD l i 0) k ∙ e
+
+      first : getD (t .firsts) i 0 ≡ getD firsts i 0
+      first = ap (λ (l : List ℕ). getD l i 0) f
+
+      go : (x y : Fact) → Written x 0 c 0 → Written y (getD (t .kinds) i 0) (getD (t .firsts) i 0) (getD (t .seconds) i 0)
+          → eqb c (getD firsts i 0) ≡ sameFact x y
+      go (present a) (present b) w w′ = rw (w .has-first, sym first ∙ w′ .has-first)
+      go (present a) (ordered b d) w w′ = absurd (omega (arith, kind, w′ .has-kind))
+      go (present a) (valued b m) w w′ = absurd (omega (arith, kind, w′ .has-kind))
+      go (ordered a b) y w w′ = absurd (omega (arith, w .has-kind))
+      go (valued a m) y w w′ = absurd (omega (arith, w .has-kind))
 
 -- A content as three numbers.
 pub content-written : (c : ℕ) → Written (present c) 0 c 0

@@ -1,11 +1,9 @@
 -- Sets whose patterns are joined are the product.
-use Prim.Native.Nat.{ℕ, _^_, _<_, _≤_}
+use Prim.Native.Nat.{ℕ, _<_, _≤_}
 use mathlib.Core.Path.{_≡_, refl, sym, ap, subst, _∙_}
 use mathlib.Core.List.{List}
-use mathlib.Core.Bool.{Bool, true, false, _&&_, _||_, false≢true}
-use mathlib.Core.Logic.{_⊎_, inl, inr, ⊎-elim}
+use mathlib.Core.Bool.{Bool, true, false, _&&_, false≢true}
 use native.Mathlib.Omega.{arith}
-use lib.ListN.{length}
 use lib.Dec.{eqb, ltb}
 use borrow.Author.Tests.{eq-eqb, eqb-true, ltb-true, ltb-false}
 use Rattle.vocabularies.specs.Facts.{Fact}
@@ -13,9 +11,9 @@ use Rattle.patterns.specs.Patterns.{join}
 use Rattle.patterns.specs.Morphisms as Morphisms
 use Rattle.patterns.specs.Morphisms.{factMorphism, joinKinds}
 use Rattle.patterns.specs.Rounds.{Set, anyBelow, product}
-use Rattle.patterns.proofs.Tests.{or-left, or-right, or-cases, and-both, and-left, and-right, same-test, failed, any-below, below-any}
+use Rattle.patterns.proofs.Tests.{and-both, and-left, and-right, same-test, failed, any-below, below-any}
 use Rattle.readings.specs.declared.Reading.{Reading}
-use Rattle.pattern_sets.specs.PatternSets.{holds, First}
+use Rattle.pattern_sets.specs.PatternSets.{holds}
 use Rattle.pattern_sets.specs.Images.{joinedBy, Apart, Joined}
 use Rattle.readings.specs.Readings.{ReadsFacts, Reads, of-facts, of-root, Is}
 use Rattle.readings.specs.Promises.{Below, Multiplies}

@@ -9,7 +9,7 @@ use Rattle.sets.specs.Sets.{member}
 use Rattle.vocabularies.specs.declared.Facts.{Facts}
 use Rattle.vocabularies.specs.Facts.{Fact, present}
 use Rattle.vocabularies.specs.VocabularyReading.{mostFacts}
-use Rattle.vocabularies.specs.Promises.{Written, Stored, Represents}
+use Rattle.vocabularies.specs.Promises.{Written, Stored, Represents, TellsSame}
 use Rattle.patterns.specs.Morphisms as Morphisms
 use Rattle.patterns.specs.Rounds.{Set, product}
 use Rattle.readings.specs.declared.Reading.{Reading}
@@ -47,6 +47,15 @@ OfReading r P = (R : Morphisms.Morphism) → Reads r R → P R
 -- The pattern of a word of one content.
 abbrev pub ReadsOne : Reading → ℕ → ℕ → Type 0
 ReadsOne r c p = OfReading r (λ R. p ≡ R .of (c ∷ []))
+
+-- Whether the fact at a place is that a content is present, and the pattern of a word of that content, by the kinds of facts and their
+-- first operands.
+abbrev pub TellsPresent : List ℕ → List ℕ → ℕ → ℕ → Bool → Type 0
+TellsPresent kinds firsts i c r = (t : Facts) → t .kinds ≡ kinds → t .firsts ≡ firsts → TellsSame t 0 c 0 i r
+
+abbrev pub ContentPattern : List ℕ → List ℕ → ℕ → ℕ → ℕ → Type 0
+ContentPattern kinds firsts count c p = (r : Reading) → r .rooted ≡ false → r .facts .kinds ≡ kinds → r .facts .firsts ≡ firsts
+    → r .facts .count ≡ count → ReadsOne r c p
 
 -- A set with the content of the fact at a place.
 pub record AddsContent (t : Facts) (i set r : ℕ) : Type 0 where

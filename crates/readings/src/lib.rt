@@ -7,7 +7,7 @@ ghost use Rattle.patterns.specs.Morphisms.{joinKinds, rootMorphism};
 ghost use Rattle.pattern_sets.specs.PatternSets.{holds};
 ghost use Rattle.pattern_sets.specs.Images.{Joined};
 ghost use Rattle.readings.specs.Readings.{Reads};
-ghost use Rattle.readings.specs.Promises.{Places, PlacesBefore, PlacesAfter, AllBefores, AllAfters, KeepsFacts, ReadsOne, AddsContent, HasContents, TellsContents, Spreads, Joins, HasMore, BothHaveMore, Multiplies};
+ghost use Rattle.readings.specs.Promises.{Places, PlacesBefore, PlacesAfter, AllBefores, AllAfters, KeepsFacts, TellsPresent, ContentPattern, ReadsOne, AddsContent, HasContents, TellsContents, Spreads, Joins, HasMore, BothHaveMore, Multiplies};
 use vocabularies::Facts;
 use vocabularies::ORDERED;
 use vocabularies::PRESENT;
@@ -25,14 +25,15 @@ pub struct Reading {
 // No pattern has a flag there.
 const NOWHERE: u8 = 8;
 
-const EMPTY: u8 = 0;
+// The pattern of the empty word.
+pub const EMPTY: u8 = 0;
 
 const ALONE: u8 = 1;
 
 const OTHER: u8 = 2;
 
-fn wide(x: u8) -> u64
-    ensures { λ r. ⌜ r ≡ x ⌝ }
+pub fn wide(x: u8) -> u64
+    ensures { λ r. ⌜ (r ≡ x) × (r < 256) ⌝ }
 {
     x as u64
 }
@@ -151,6 +152,35 @@ pub fn root_reading(root: u8) -> Reading
     }
 }
 
+// Whether the fact at a place is that content c is present.
+fn is_present(kinds: [u8; 8], firsts: [u8; 8], i: usize, c: u8) -> bool
+    requires { ⌜ i < 8 ⌝ }
+    ensures { λ r. ⌜ TellsPresent kinds firsts i c r ⌝ }
+{
+    if kinds[i] != PRESENT {
+        return false;
+    }
+    c == firsts[i]
+}
+
+// The pattern of a word of one content, by the kinds of facts and what they are about.
+pub fn content_pattern(kinds: [u8; 8], firsts: [u8; 8], count: usize, c: u8) -> u8
+    ensures { λ p. ⌜ ContentPattern kinds firsts count c p ⌝ }
+{
+    let mut i: u8 = 0;
+    while i < 8 {
+        let k = i as usize;
+        if count <= k {
+            return 0;
+        }
+        if is_present(kinds, firsts, k, c) {
+            return 1u8 << i;
+        }
+        i += 1;
+    }
+    0
+}
+
 // The pattern of a word of one content.
 pub fn single(r: Reading, c: u8) -> u8
     ensures { λ p. ⌜ ReadsOne r c p ⌝ }
@@ -162,13 +192,9 @@ pub fn single(r: Reading, c: u8) -> u8
         return OTHER;
     }
     let facts = r.facts;
-    let place = place_of(facts, PRESENT, c as u64, 0);
-    if place < 8 {
-        if (place as usize) < facts.count {
-            return 1u8 << place;
-        }
-    }
-    0
+    let kinds = facts.kinds;
+    let firsts = facts.firsts;
+    content_pattern(kinds, firsts, facts.count, c)
 }
 
 // A set of contents, with that of the fact at a place.

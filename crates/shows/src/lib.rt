@@ -1,6 +1,7 @@
 // The shows of a job (document 01, "Verdicts", 11 and 12): what a point shows, and what is wrong in the pages of its language.
 ghost use mathlib.Core.Path.{_≡_};
 ghost use Prim.Native.Nat.{_<_};
+ghost use lib.ListN.{replicate};
 ghost use Rattle.shows.specs.Promises.{TellsShow, KeepsGraph, TabledBy, DecidesShow, isOther, LowestRoot, IsBelow, wrongAt, LowestWrong, WrongElements};
 use commands::Position;
 use vocabularies::Tables;
@@ -32,26 +33,27 @@ pub fn is_show(s: &[u8], place: usize) -> bool
     commands::byte_at(s, place) == 0x37
 }
 
-// The words of the graph that a point shows, whose statement stands at an offset: the shown variable's entry there, closed.
-pub fn shown_words(s: &[u8], heads: &[usize; 256], place: usize, p: usize) -> [u64; 544]
-    ensures { λ r. ⌜ KeepsGraph (now (s .entry)) (now (heads .entry)) place p r ⌝ }
+// The words of the graph that a point shows, whose statement stands at an offset: the shown variable's entry there, closed. They go
+// into an array that is lent with zeros.
+pub fn shown_words(s: &[u8], heads: &[usize; 256], place: usize, p: usize, words: &mut [u64; 544])
+    requires { ⌜ now words ≡ replicate 544 0 ⌝ }
+    ensures { λ _. ⌜ KeepsGraph (now (s .entry)) (now (heads .entry)) place p (now (words .exit)) ⌝ }
 {
     let here = Position { at: place };
     let x = here.operand(s, 1) as usize;
-    let mut words = entries::load(s, covering::template_head(heads, p, x));
-    languages::close(&mut words);
-    words
+    entries::load(s, covering::template_head(heads, p, x), words);
+    languages::close(words);
 }
 
 // What is worked out of the templates, whose gaps are given, once for all shows.
 pub fn tables_of(s: &[u8], gaps: [u64; 32], starts: &[usize; 32], count: usize) -> TemplateTables
     ensures { λ r. ⌜ TabledBy (now (s .entry)) gaps (now (starts .entry)) count r ⌝ }
 {
-    let outlines = reach::outlines_of(s, starts, count);
+    let mut occurrences = [0u64; 192];
+    let outlines = occurrences::of_templates(s, starts, count, &mut occurrences);
     let contents = outlines.contents;
     let outer = outlines.gaps;
-    let lone = languages::lone_elements(s, starts, count);
-    let occurrences = occurrences::of_templates(s, starts, count);
+    let lone = outlines.lone;
     TemplateTables {
         gaps,
         lone,

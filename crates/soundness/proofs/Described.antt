@@ -3,15 +3,13 @@
 use Prim.Native.Nat.{ℕ}
 use mathlib.Core.Path.{_≡_, refl, sym, ap, subst, _∙_}
 use mathlib.Core.List.{List, [], _∷_}
-use mathlib.Core.Bool.{Bool, true, false, cond, _&&_, _||_}
-use lib.Dec.{eqb}
-use Rattle.pages.specs.Items.{Value, string, open-gap, Attribute, Item, text, gap, element, Items, none, more, one, _⋈_, gapIn, gapInItem, attributeGapIn, attributeGapInItem, openIn, isOpenGap}
+use mathlib.Core.Bool.{true}
+use Rattle.pages.specs.Items.{Value, string, open-gap, Attribute, Item, text, gap, element, Items, none, more, one, _⋈_}
 use Rattle.programs.specs.Program.{templateAt}
 use Rattle.programs.specs.Runs.{replaced, replacedItem, filled, filledValue}
-use Rattle.summaries.specs.Proposal.{Claim, root, edge, gapFrom, attributeGapFrom}
+use Rattle.summaries.specs.Proposal.{edge, gapFrom, attributeGapFrom}
 use Rattle.summaries.specs.Proposal as Proposal
 use Rattle.summaries.specs.Summaries.{Summary}
-use Rattle.summaries.specs.Languages.{AttributesDerive, Derives, ItemDerives}
 use Rattle.summaries.specs.Languages as Languages
 
 module _ (S : Summary) where

@@ -6,7 +6,6 @@ use mathlib.Core.Bool.{Bool, true, false}
 use native.Mathlib.Omega.{arith}
 use lib.ListN.{length}
 use lib.Dec.{leb, ltb}
-use Rattle.verdicts.specs.declared.Form.{Form}
 use Rattle.verdicts.specs.declared.Form.the-variants.{TooLong, NotAllowed}
 use Rattle.verdicts.specs.declared.Verdict.{Verdict}
 use Rattle.verdicts.specs.declared.Verdict.the-variants.{Accepted}
@@ -22,7 +21,7 @@ use Rattle.programs.specs.Runs.{Choice}
 use Rattle.summaries.specs.Proposal.{Head}
 use Rattle.summaries.specs.ProposalReading.{proposal}
 use Rattle.jobs.specs.Job.{Job, job}
-use Rattle.jobs.specs.JobVerdict.{JobVerdict, accepted, AllCovered, ShowHolds}
+use Rattle.jobs.specs.JobVerdict.{JobVerdict, accepted}
 use Rattle.jobs.specs.Guarantee.{Guarantee, ShowsOnlyRightPages}
 use Rattle.soundness.proofs.Run.{InRange, all-right}
 use Rattle.soundness.proofs.Ranges.{program-in-range}

@@ -1,6 +1,6 @@
 -- The variables that a program names are 0 to 3 wherever the program can be read.
 use Prim.Native.Nat.{ℕ, zero, suc, _+_, _<_, _≤_}
-use mathlib.Core.Path.{_≡_, refl, sym, ap, subst, _∙_}
+use mathlib.Core.Path.{_≡_, refl, sym, ap, subst}
 use mathlib.Core.List.{List, [], _∷_, map}
 use mathlib.Core.Bool.{Bool, true, false, cond, _&&_, _||_, false≢true}
 use mathlib.Core.Option.{Option, some, none}
@@ -13,7 +13,7 @@ use Rattle.verdicts.specs.declared.Form.the-variants.{TooMany, Missing}
 use Rattle.commands.specs.Commands.{byte, operandsOf, allInRange}
 use Rattle.commands.specs.Reading.{Read, whole, refused, andThen, when}
 use Rattle.commands.proofs.Laws.{moved, andThen-whole, onCommand-whole, when-whole}
-use Rattle.programs.specs.Program.{Act, copyTemplate, setTemplate, copyString, setString, anyString, plug, plugString, show, Statement, step, stop, Variable, templates, strings, actNames, statementNames, named}
+use Rattle.programs.specs.Program.{copyTemplate, setTemplate, copyString, setString, anyString, plug, plugString, show, Statement, step, stop, Variable, templates, strings, statementNames, named}
 use Rattle.programs.specs.ProgramReading.{Placed, statementOf, statementRead, statementContext, statements, strayed, unlessStrayed, program, templatesThere, mostPoints}
 use Rattle.soundness.proofs.Tests.{or-cases}
 use Rattle.soundness.proofs.Run.{InRange}

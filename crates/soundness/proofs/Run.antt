@@ -1,23 +1,23 @@
 -- The values of a run are always described by a covering summary, and so every page shown is right.
 use Prim.Native.Nat.{ℕ, zero, suc, _+_, _-_, _<_}
-use mathlib.Core.Path.{_≡_, refl, sym, ap, subst, _∙_}
-use mathlib.Core.List.{List, [], _∷_, _++_, List·Memᴰ·append-cases, List·Memᴰ·eq-of-singleton, List·Memᴰ·not-nil}
-use mathlib.Core.Bool.{Bool, true, false, cond, _&&_, _||_, false≢true}
+use mathlib.Core.Path.{_≡_, refl, sym, ap, subst}
+use mathlib.Core.List.{List, [], _∷_, List·Memᴰ·append-cases, List·Memᴰ·eq-of-singleton, List·Memᴰ·not-nil}
+use mathlib.Core.Bool.{Bool, true, false, cond, _||_, false≢true}
 use mathlib.Core.Option.{some}
-use mathlib.Core.Logic.{_⊎_, inl, inr, ⊎-elim}
+use mathlib.Core.Logic.{_⊎_, ⊎-elim}
 use native.Mathlib.Omega.{arith}
 use borrow.Author.Tests.{lt-ltb, le-ltb, eq-eqb}
 use lib.Dec.{eqb, ltb}
 use Rattle.pages.specs.Items.{Items, none}
 use Rattle.pages.specs.RightPages.{Right, _∈_}
-use Rattle.programs.specs.Program.{Act, copyTemplate, setTemplate, copyString, setString, anyString, plug, plugString, show, Statement, step, stop, Variable, templates, strings, actNames, statementNames, named, statementAt, templateAt}
-use Rattle.programs.specs.Runs.{Choice, State, start, update, actTemplates, actStrings, actPages, after, stepped, runFrom, shown, closed}
+use Rattle.programs.specs.Program.{Act, copyTemplate, setTemplate, copyString, setString, anyString, plug, plugString, show, Statement, step, stop, Variable, templates, strings, actNames, statementNames, named, statementAt}
+use Rattle.programs.specs.Runs.{Choice, State, start, actTemplates, actStrings, actPages, after, stepped, runFrom, shown, closed}
 use Rattle.summaries.specs.ProposalReading.{variableOf}
 use Rattle.summaries.specs.Summaries.{Summary, Strings, Environment, transferTemplate, transferString, transfer, entries, fragment}
-use Rattle.summaries.specs.Covering.{WithinAt, StartCovered, StepCovered, startEnvironment}
-use Rattle.summaries.specs.Languages.{closedSummary, graphShown, graphOf, statementShows, actShows}
+use Rattle.summaries.specs.Covering.{WithinAt, StepCovered, startEnvironment}
+use Rattle.summaries.specs.Languages.{closedSummary, graphShown, graphOf, statementShows}
 use Rattle.jobs.specs.Job.{Job}
-use Rattle.jobs.specs.JobVerdict.{AllCovered, ShowHolds, StartHolds, StepHolds, StatementHolds}
+use Rattle.jobs.specs.JobVerdict.{AllCovered, ShowHolds, StatementHolds}
 use Rattle.soundness.proofs.Tests.{or-left, or-right}
 use Rattle.soundness.proofs.Described.{Describes, nothing}
 use Rattle.soundness.proofs.Statements.{Holds, within-holds, set-template, plug-holds, plug-string-holds}

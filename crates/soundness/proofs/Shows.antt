@@ -1,19 +1,18 @@
 -- A shown page is in the language of its show: a described value, closed as a show closes it, is derived from the closed graph.
 use Prim.Native.Nat.{ℕ}
-use mathlib.Core.Path.{_≡_, refl, sym, ap, subst, _∙_}
+use mathlib.Core.Path.{_≡_, refl, sym, ap, subst}
 use mathlib.Core.List.{List, [], _∷_}
-use mathlib.Core.Bool.{Bool, true, false, _&&_, _||_, false≢true}
-use lib.Dec.{eqb}
-use Rattle.pages.specs.Items.{Value, string, open-gap, Attribute, Item, text, gap, element, Items, none, more, one, _⋈_}
+use mathlib.Core.Bool.{true, false, false≢true}
+use Rattle.pages.specs.Items.{string, Attribute, Item, text, gap, element, Items, none, one}
 use Rattle.programs.specs.Program.{templateAt}
 use Rattle.programs.specs.Runs.{closed, closingString}
-use Rattle.summaries.specs.Proposal.{Claim, root, edge, gapFrom, attributeGapFrom}
+use Rattle.summaries.specs.Proposal.{root, edge, gapFrom, attributeGapFrom}
 use Rattle.summaries.specs.Proposal as Proposal
 use Rattle.summaries.specs.Summaries.{Summary}
 use Rattle.summaries.specs.Languages.{closedSummary, AttributesDerive, Derives, ItemDerives, Language}
 use Rattle.summaries.specs.Languages as Languages
-use Rattle.soundness.proofs.Tests.{or-left, or-right, and-both}
-use Rattle.soundness.proofs.Described.{Fills, takes, stays, AttributesDescribed, no-attribute, fixed, holds, Describes, nothing, item-then, DescribesItem, text-stays, gap-stays, gap-takes, element-keeps, described-replaced}
+use Rattle.soundness.proofs.Tests.{or-left, or-right}
+use Rattle.soundness.proofs.Described.{takes, stays, AttributesDescribed, no-attribute, fixed, holds, Describes, nothing, item-then, DescribesItem, text-stays, gap-stays, gap-takes, element-keeps, described-replaced}
 use Rattle.soundness.proofs.Statements.{Holds}
 
 -- The closed graph with no gap that may stay open.

@@ -1,20 +1,19 @@
 -- Each statement keeps values described: what its transfer function makes of the summaries describes what a run makes of the values.
 use Prim.Native.Nat.{ℕ}
-use mathlib.Core.Path.{_≡_, refl, sym, ap, subst, _∙_}
+use mathlib.Core.Path.{_≡_, refl, ap, subst, _∙_}
 use mathlib.Core.List.{List, [], _∷_}
 use mathlib.Core.Bool.{Bool, true, false, cond, _&&_, _||_}
 use lib.Dec.{eqb}
-use borrow.Author.Tests.{eq-eqb, eqb-true, ne-eqb}
+use borrow.Author.Tests.{eq-eqb}
 use Rattle.pages.specs.Items.{Value, string, open-gap, Attribute, Item, text, gap, element, Items, none, more, one, _⋈_, gapIn, gapInItem, attributeGapIn, attributeGapInItem, openIn, isOpenGap}
 use Rattle.programs.specs.Program.{templateAt}
-use Rattle.programs.specs.Runs.{replaced, replacedItem, filled, filledValue, stay, plugged, pluggedString, closed}
+use Rattle.programs.specs.Runs.{replaced, replacedItem, filled, filledValue, stay, plugged, pluggedString}
 use Rattle.summaries.specs.Proposal.{Claim, root, edge, gapFrom, attributeGapFrom}
 use Rattle.summaries.specs.Proposal as Proposal
 use Rattle.summaries.specs.Summaries.{Summary, Strings, fragment, plugSummary, plugStringSummary}
-use Rattle.summaries.specs.Languages.{closedSummary, AttributesDerive, Derives, ItemDerives, DerivedFrom, Language}
 use Rattle.summaries.specs.Languages as Languages
 use Rattle.soundness.proofs.Tests.{or-left, or-right, and-both}
-use Rattle.soundness.proofs.Described.{Fills, takes, stays, AttributesDescribed, no-attribute, fixed, holds, Describes, nothing, item-then, DescribesItem, text-stays, gap-stays, gap-takes, element-keeps, ⋈-none, described-replaced}
+use Rattle.soundness.proofs.Described.{Fills, takes, stays, AttributesDescribed, no-attribute, fixed, holds, Describes, nothing, item-then, DescribesItem, text-stays, gap-stays, gap-takes, element-keeps, described-replaced}
 
 -- A value is described where some root's template derives it, with gaps left open.
 pub record Holds (S : Summary) (φs : List Items) (v : Items) : Type 0 where

@@ -24,7 +24,6 @@ use Rattle.commands.proofs.Laws.{MovedOver, moved}
 use Rattle.vocabularies.specs.Promises.{partOf}
 use Rattle.programs.specs.Program.{templates, strings}
 use Rattle.programs.proofs.Laws.{nth, entry-low, WholeAs, agrees-map, agrees-whole, agrees-refused, enough-enough, enough-after, fewer-left, Stay}
-use Rattle.summaries.specs.declared.ProposalRead.{ProposalRead}
 use Rattle.summaries.specs.Proposal.{Fact, Head}
 use Rattle.summaries.specs.ProposalReading.{facts, variableOf, factContext, proposal}
 use Rattle.summaries.specs.Summaries.{sameVariable, under}
@@ -60,13 +59,14 @@ same-number p a q b la lb = rw (same-variable a b) (by-tests (eqb p q) (eqb a b)
 pub record Unwritten (least : ℕ) (heads : List ℕ) : Type 0 where
   pub zero-at : (k : ℕ) → least ≤ k → getD heads k 0 ≡ 0
 
-zeros : (n k : ℕ) → _≡_ {A = ℕ} (getD (replicate n 0) k 0) 0
+-- A list of zeros.
+pub zeros : (n k : ℕ) → _≡_ {A = ℕ} (getD (replicate n 0) k 0) 0
 zeros zero k = refl
 zeros (suc n) zero = refl
 zeros (suc n) (suc k) = zeros n k
 
-pub none-written : Unwritten 0 (replicate 256 0)
-none-written = record { zero-at = λ k l. zeros 256 k }
+pub none-written : (heads : List ℕ) → heads ≡ replicate 256 0 → Unwritten 0 heads
+none-written heads e = record { zero-at = λ k l. rw e (zeros 256 k) }
 
 pub unwritten-after : (least n at : ℕ) (heads : List ℕ) → least ≤ n → Unwritten least heads → Unwritten (n + 1) (set heads n at)
 unwritten-after least n at heads l u = record { zero-at = λ k h. getD-set-other heads n k at 0 (λ e. omega arith) ∙ u .zero-at k (omega arith) }
@@ -116,15 +116,15 @@ module _ (count points : ℕ) (s : List ℕ) (least at : ℕ) where
       by-decoded (Moved code next) = by-tests f code next (eqb code 0x4F) (ltb (byte s (at + 1)) points) (leb least number) refl
       by-decoded (Refused form n) = refl
 
-  pub heads-refused : (d : Decoded) (form : Form) (n : ℕ) (r : ProposalRead) → d ≡ headHere points s least at → d ≡ Refused form n → r .part ≡ partOf d
-      → ProposalReads count points s least at r
-  heads-refused d form n r d-is e p zero h = absurd (omega arith)
-  heads-refused d form n r d-is e p (suc f) h = rw (reads-here f, ← d-is, p, e) (refl, refl)
+  pub heads-refused : (d : Decoded) (form : Form) (n : ℕ) (heads : List ℕ) (r : Part) → d ≡ headHere points s least at → d ≡ Refused form n → r ≡ partOf d
+      → ProposalReads count points s least at heads r
+  heads-refused d form n heads r d-is e p zero h = absurd (omega arith)
+  heads-refused d form n heads r d-is e p (suc f) h = rw (reads-here f, ← d-is, p, e) (refl, refl)
 
   -- `4F` ends the heads.
   pub heads-end : (d : Decoded) (code : ℕ) (next : Position) (heads : List ℕ) → d ≡ headHere points s least at → d ≡ Moved code next → code ≡ 0x4F
       → Unwritten least heads
-      → ProposalReads count points s least at (record { part = Parts.Whole next; heads = heads })
+      → ProposalReads count points s least at heads (Parts.Whole next)
   unfolding under
   heads-end d code next heads d-is e c z zero h = absurd (omega arith)
   heads-end d code next heads d-is e c z (suc f) h = rw (reads-here f, ← d-is, e, eq-eqb code 0x4F c) (
@@ -141,12 +141,12 @@ module _ (count points : ℕ) (s : List ℕ) (least at : ℕ) where
         andThen (proposal f count points s (number + 1) after) λ hs end. whole (made φs ∷ hs) end)
     reads-items f = reads-here f ∙ rw (← d-is, e, ne-eqb code 0x4F on)
 
-    pub items-refused : (part : Part) (form : Form) (n : ℕ) (r : ProposalRead) → FactsRead (factContext (variableOf (byte s (at + 2)))) count s 0 (next .at) part
-        → part ≡ Parts.Refused form n → r .part ≡ part → ProposalReads count points s least at r
-    items-refused part form n r read q p zero h = absurd (omega arith)
-    items-refused part form n r read q p (suc f) h =
-        rw (reads-items f, p)
-        (agrees-refused (λ φs end. next .at ≤ end) (λ hs end. Kept count s least (r .heads) hs) (facts f (factContext (variableOf (byte s (at + 2)))) count s 0 (next .at))
+    pub items-refused : (part : Part) (form : Form) (n : ℕ) (heads : List ℕ) → FactsRead (factContext (variableOf (byte s (at + 2)))) count s 0 (next .at) part
+        → part ≡ Parts.Refused form n → ProposalReads count points s least at heads part
+    items-refused part form n heads read q zero h = absurd (omega arith)
+    items-refused part form n heads read q (suc f) h =
+        rw (reads-items f)
+        (agrees-refused (λ φs end. next .at ≤ end) (λ hs end. Kept count s least heads hs) (facts f (factContext (variableOf (byte s (at + 2)))) count s 0 (next .at))
         (λ φs after. andThen (proposal f count points s (number + 1) after) λ hs end. whole (made φs ∷ hs) end) part form n q
         (read f (enough-after Heads s at code next (m .read) f h)))
 
@@ -227,8 +227,8 @@ module _ (count points : ℕ) (s : List ℕ) (least at : ℕ) (d : Decoded) (cod
   read-there : FactsRead context count s 0 (next .at) part
   read-there = rw (x-is, v-is) at read
 
-  pub items-refuse : (form : Form) (k : ℕ) (r : ProposalRead) → part ≡ Parts.Refused form k → r .part ≡ part → ProposalReads count points s least at r
-  items-refuse form k r q p = items-refused count points s least at d code next d-is e on m part form k r read-there q p
+  pub items-refuse : (form : Form) (k : ℕ) (heads : List ℕ) → part ≡ Parts.Refused form k → ProposalReads count points s least at heads part
+  items-refuse form k heads q = items-refused count points s least at d code next d-is e on m part form k heads read-there q
 
   module _ (after : Position) (is-whole : part ≡ Parts.Whole after) where
     items : (f : ℕ) → Enough s (next .at) f → WholeAs (λ φs end. next .at ≤ end) (facts f context count s 0 (next .at)) after
@@ -241,30 +241,30 @@ module _ (count points : ℕ) (s : List ℕ) (least at : ℕ) (d : Decoded) (cod
     fewer-after = let l = fewer-left Heads s at code next (m .read) in let l′ = forward in omega arith
 
     module _ (n : ℕ) (n-is : n ≡ byte s (at + 1) * 8 + byte s (at + 2)) (heads : List ℕ) (w : length heads ≡ 256) (low : n < 256) (unwritten : Unwritten least heads)
-        (r : ProposalRead) (stay : Stay (n + 1) (set heads n (next .at)) (r .heads)) where
-      here : getD (r .heads) n 0 ≡ next .at
+        (heads′ : List ℕ) (stay : Stay (n + 1) (set heads n (next .at)) heads′) where
+      here : getD heads′ n 0 ≡ next .at
       here = stay .same n (omega arith) ∙ getD-set-same heads n (next .at) 0 (omega arith)
 
-      passed : (k : ℕ) → least ≤ k → k < n → getD (r .heads) k 0 ≡ 0
+      passed : (k : ℕ) → least ≤ k → k < n → getD heads′ k 0 ≡ 0
       passed k l h = (stay .same k (omega arith) ∙ getD-set-other heads n k (next .at) 0 (λ q. omega arith)) ∙ unwritten .zero-at k l
 
       kept-more : (φs : List Fact) → ((f : ℕ) → Enough s (next .at) f → (end : ℕ) × (facts f context count s 0 (next .at) ≡ whole φs end))
-          → (hs : List Head) → Kept count s (n + 1) (r .heads) hs → Kept count s least (r .heads) (made count points s least at φs ∷ hs)
+          → (hs : List Head) → Kept count s (n + 1) heads′ hs → Kept count s least heads′ (made count points s least at φs ∷ hs)
       kept-more φs stand hs K =
-          kept-first count s least (byte s (at + 1)) (byte s (at + 2)) (next .at) φs hs (r .heads) (variable-there points s least at code next m on) (m .rises)
+          kept-first count s least (byte s (at + 1)) (byte s (at + 2)) (next .at) φs hs heads′ (variable-there points s least at code next m on) (m .rises)
           (rw n-is at here) (let l = over points s least at code next m on .forward in omega arith)
           (λ k l h. passed k l (omega arith)) stand (rw n-is at K)
 
-      pub heads-go-on : ProposalReads count points s (n + 1) (after .at) r → ProposalReads count points s least at r
-      heads-go-on later zero h = absurd (omega arith)
-      heads-go-on later (suc f) h =
+      pub heads-go-on : (r : Part) → ProposalReads count points s (n + 1) (after .at) heads′ r → ProposalReads count points s least at heads′ r
+      heads-go-on r later zero h = absurd (omega arith)
+      heads-go-on r later (suc f) h =
           let fuel = enough-after Heads s at code next (m .read) f h in
           let W = items f fuel in
-          let rest : AgreesAs (λ hs end. Kept count s (n + 1) (r .heads) hs) (proposal f count points s (byte s (at + 1) * 8 + byte s (at + 2) + 1) (W .end)) (r .part)
+          let rest : AgreesAs (λ hs end. Kept count s (n + 1) heads′ hs) (proposal f count points s (byte s (at + 1) * 8 + byte s (at + 2) + 1) (W .end)) r
           = rw (← n-is, ← (W .ends)) (later f (let l = forward in omega arith)) in
           rw (reads-items count points s least at d code next d-is e on m f, W .reads)
-          (agrees-map (λ hs end. Kept count s (n + 1) (r .heads) hs) (λ hs end. Kept count s least (r .heads) hs) (λ hs. made count points s least at (W .tree) ∷ hs)
-          (proposal f count points s (byte s (at + 1) * 8 + byte s (at + 2) + 1) (W .end)) (r .part)
+          (agrees-map (λ hs end. Kept count s (n + 1) heads′ hs) (λ hs end. Kept count s least heads′ hs) (λ hs. made count points s least at (W .tree) ∷ hs)
+          (proposal f count points s (byte s (at + 1) * 8 + byte s (at + 2) + 1) (W .end)) r
           (λ hs end. kept-more (W .tree) (λ g k. (W .end, facts-same context count s 0 (next .at) g f k fuel ∙ W .reads)) hs) rest)
 
 pub number-low : (points : ℕ) (s : List ℕ) (least at code : ℕ) (next : Position) (n : ℕ) → HeadStands points s least at code next → (code ≡ 0x4F → ⊥) → points ≤ 32

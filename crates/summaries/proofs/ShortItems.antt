@@ -1,25 +1,23 @@
 -- Items that are seen at once to be whole, in range and of templates that are there.
-use Prim.Native.Nat.{ℕ, suc, _+_, _*_, _-_, _^_, _≤_, _<_}
-use mathlib.Core.Path.{_≡_, refl, sym, ap, _∙_}
+use Prim.Native.Nat.{ℕ, _+_, _*_, _-_, _≤_, _<_}
+use mathlib.Core.Path.{_≡_, refl, sym, _∙_}
 use mathlib.Core.List.{List, [], _∷_}
-use mathlib.Core.Bool.{Bool, true, false, not}
+use mathlib.Core.Bool.{true}
 use native.Mathlib.Omega.{arith}
 use lib.ListN.{length}
-use lib.Dec.{leb}
 use borrow.Author.Tests.{le-leb, lt-ltb}
 use Rattle.verdicts.specs.declared.Form.the-variants.{NotRising}
 use Rattle.commands.specs.declared.Context.{Context}
 use Rattle.commands.specs.declared.Context.the-variants.{Heads, TemplateFacts, StringFacts}
-use Rattle.commands.specs.declared.Position.{Position}
 use Rattle.commands.specs.declared.Decoded.the-variants.{Moved, Refused}
 use Rattle.commands.specs.declared.Part.{Part}
 use Rattle.commands.specs.declared.Part.the-variants as Parts
 use Rattle.commands.specs.Commands.{byte, Operand, gap, string, template, operandsOf, operandBytes, widths, inRange, allInRange, allowed, command}
 use Rattle.commands.proofs.Laws.{moved, moves, MovedOver}
-use Rattle.summaries.specs.ProposalReading.{factAt, factThere, rank}
-use Rattle.summaries.specs.Promises.{presentAt, Ranked, testedFact, factHere, FactsRead, StepsOver, Short, testedHead, headHere}
+use Rattle.summaries.specs.ProposalReading.{factAt, factThere}
+use Rattle.summaries.specs.Promises.{presentAt, Ranked, factHere, FactsRead, StepsOver, Short, headHere}
 use Rattle.summaries.proofs.Items.{ranked}
-use Rattle.summaries.proofs.Here.{FactStands, fact-not-rising, fact-moves}
+use Rattle.summaries.proofs.Here.{fact-not-rising, fact-moves}
 use Rattle.summaries.proofs.Reading.{facts-refused, facts-go-on}
 
 -- ---- one item

@@ -1,10 +1,9 @@
 -- Covering (document 01, "Covering, and the language of a show"): the entries at point 0 cover the start, and those of every next
 -- point cover each step, for the variables that some statement names. Points are covered whether a run can reach them or not.
-use Prim.Native.Nat.{ℕ, _<_}
+use Prim.Native.Nat.{ℕ}
 use mathlib.Core.Path.{_≡_}
 use mathlib.Core.List.{List}
-use mathlib.Core.Bool.{Bool, true, false}
-use lib.ListN.{length}
+use mathlib.Core.Bool.{true}
 use lib.Dec.{eqb}
 use Rattle.commands.specs.Commands.{emptyString}
 use Rattle.pages.specs.Items.{Items}

@@ -3,14 +3,14 @@
 use Prim.Native.Nat.{ℕ}
 use mathlib.Core.Path.{_≡_}
 use mathlib.Core.List.{List, [], _∷_}
-use mathlib.Core.Bool.{Bool, true, false, _&&_, _||_}
+use mathlib.Core.Bool.{true, _&&_, _||_}
 use mathlib.Core.Option.{Option, some, none}
 use lib.Dec.{eqb}
-use Rattle.pages.specs.Items.{Value, open-gap, Attribute, Item, text, gap, element, Items, more, one, _⋈_}
+use Rattle.pages.specs.Items.{open-gap, Attribute, Item, text, gap, element, Items, more, one, _⋈_}
 use Rattle.pages.specs.Items as Items
-use Rattle.programs.specs.Program.{Act, copyTemplate, setTemplate, copyString, setString, anyString, plug, plugString, show, Statement, step, stop, templates, statementAt, templateAt}
+use Rattle.programs.specs.Program.{Act, copyTemplate, setTemplate, copyString, setString, anyString, plug, plugString, show, Statement, step, stop, statementAt, templateAt}
 use Rattle.programs.specs.Runs.{closingString}
-use Rattle.summaries.specs.Proposal.{Claim, root, edge, string, gapFrom, attributeGapFrom, Head}
+use Rattle.summaries.specs.Proposal.{root, edge, string, gapFrom, attributeGapFrom, Head}
 use Rattle.summaries.specs.Summaries.{Summary, entries}
 
 -- close: each origin of a gap also gets an edge to template 0, each origin of an attribute gap also string 0.

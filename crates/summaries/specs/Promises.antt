@@ -14,7 +14,6 @@ use Rattle.commands.specs.declared.Part.{Part}
 use Rattle.commands.specs.Commands.{byte, command}
 use Rattle.commands.specs.Reading.{whole}
 use Rattle.commands.specs.Parts.{AgreesAs, Enough}
-use Rattle.summaries.specs.declared.ProposalRead.{ProposalRead}
 use Rattle.summaries.specs.Proposal.{Head}
 use Rattle.summaries.specs.ProposalReading.{factAt, factThere, rank, facts, variableOf, factContext, proposal}
 use Rattle.summaries.specs.Summaries.{under}
@@ -31,9 +30,9 @@ pub record Kept (count : ℕ) (s : List ℕ) (least : ℕ) (heads : List ℕ) (h
   pub others : (p v : ℕ) → v < 8 → p * 8 + v < least → under hs p (variableOf v) ≡ []
 
 -- At every fuel that is enough.
-abbrev pub ProposalReads : ℕ → ℕ → List ℕ → ℕ → ℕ → ProposalRead → Type 0
-ProposalReads count points s least at r =
-    (f : ℕ) → Enough s at f → AgreesAs (λ hs end. Kept count s least (r .heads) hs) (proposal f count points s least at) (r .part)
+abbrev pub ProposalReads : ℕ → ℕ → List ℕ → ℕ → ℕ → List ℕ → Part → Type 0
+ProposalReads count points s least at heads r =
+    (f : ℕ) → Enough s at f → AgreesAs (λ hs end. Kept count s least heads hs) (proposal f count points s least at) r
 
 -- The steps on the way. An operand of a command that has n of them:
 abbrev pub presentAt : List ℕ → ℕ → ℕ → ℕ → ℕ

@@ -2,12 +2,12 @@
 -- command, then operands; each is compared as one number.
 use Prim.Native.Nat.{ℕ, zero, suc, _+_, _*_, _-_}
 use mathlib.Core.List.{List, [], _∷_}
-use mathlib.Core.Bool.{Bool, true, false, cond, _&&_}
+use mathlib.Core.Bool.{Bool, true, cond, _&&_}
 use lib.Dec.{leb, ltb, eqb}
 use Rattle.verdicts.specs.declared.Form.the-variants.{NotRising, Missing}
 use Rattle.commands.specs.declared.Context.{Context}
 use Rattle.commands.specs.declared.Context.the-variants.{Heads, TemplateFacts, StringFacts}
-use Rattle.commands.specs.Commands.{byte, spelt, operandBytes, allowed}
+use Rattle.commands.specs.Commands.{byte, operandBytes, allowed}
 use Rattle.commands.specs.Reading.{Read, whole, refused, unfinished, andThen, onCommand, when}
 use Rattle.programs.specs.Program.{Variable, templates, strings}
 use Rattle.summaries.specs.Proposal.{Claim, root, edge, string, gapFrom, attributeGapFrom, Fact, claim, anyAt, oneString, anyString, Head}

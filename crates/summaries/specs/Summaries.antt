@@ -1,14 +1,14 @@
 -- Summaries and their transfer functions (source 000, sections 3 to 5, as document 01, "Covering, and the language of a show", reads
 -- them). A summary of a template variable is a summary graph (R, E, α) with the gap track τ of its gaps, given by what it holds;
 -- `string n h s` says that string s is in α(n, h), and • holds every string. A summary of a string variable is the set of its strings.
-use Prim.Native.Nat.{ℕ, zero, suc}
+use Prim.Native.Nat.{ℕ}
 use mathlib.Core.Path.{_≡_}
 use mathlib.Core.List.{List, [], _∷_}
 use mathlib.Core.Bool.{Bool, true, false, cond, _&&_, _||_}
 use lib.Dec.{eqb}
 use Rattle.pages.specs.Items.{Items, gapIn, attributeGapIn}
 use Rattle.programs.specs.Program.{Act, copyTemplate, setTemplate, copyString, setString, anyString, plug, plugString, show, Variable, templates, strings, templateAt}
-use Rattle.programs.specs.Runs.{update, closingString}
+use Rattle.programs.specs.Runs.{update}
 use Rattle.summaries.specs.Proposal.{Claim, root, edge, string, gapFrom, attributeGapFrom, Fact, claim, anyAt, oneString, Head}
 use Rattle.summaries.specs.Proposal as Proposal
 

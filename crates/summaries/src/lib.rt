@@ -2,7 +2,7 @@
 ghost use mathlib.Core.Path.{_≡_};
 ghost use mathlib.Core.Bool.{true};
 ghost use Prim.Native.Nat.{ℕ, _+_, _*_, _≤_, _<_};
-ghost use lib.ListN.{length};
+ghost use lib.ListN.{length, replicate};
 ghost use lib.Dec.{leb};
 ghost use Rattle.commands.specs.Commands.{byte};
 ghost use Rattle.summaries.specs.ProposalReading.{factAt, factThere, variableOf, factContext};
@@ -13,13 +13,6 @@ use commands::Part;
 use commands::Position;
 use verdicts::Form;
 use vocabularies::part_of;
-
-// What reading a proposal keeps: for each point p and variable v, as `40` numbers it, the offset of the first item under its
-// head, at p * 8 + v; 0 where it has no head.
-pub struct ProposalRead {
-    pub part: Part,
-    pub heads: [usize; 256],
-}
 
 // An operand of a command that has `count` of them; 0 where it has none there.
 fn present(s: &[u8], here: Position, count: usize, i: usize) -> u64
@@ -293,33 +286,34 @@ fn context_of(v: u8) -> Context
     Context::StringFacts
 }
 
-// The proposal from here on, up to `4F`, of a job with these numbers of templates and points.
-pub fn read_proposal(s: &[u8], here: Position, templates: usize, points: usize) -> ProposalRead
-    requires { ⌜ points ≤ 32 ⌝ }
-    ensures { λ r. ⌜ ProposalReads templates points (now (s .entry)) 0 (here .at) r ⌝ }
+// The proposal from here on, up to `4F`, of a job with these numbers of templates and points. An array that is lent with zeros gets,
+// for each point p and variable v, as `40` numbers it, the offset of the first item under its head, at p * 8 + v; where it has no
+// head, 0 stays.
+pub fn read_proposal(
+    s: &[u8],
+    here: Position,
+    templates: usize,
+    points: usize,
+    heads: &mut [usize; 256],
+) -> Part
+    requires { ⌜ (points ≤ 32) × (now heads ≡ replicate 256 0) ⌝ }
+    ensures { λ r. ⌜ ProposalReads templates points (now (s .entry)) 0 (here .at) (now (heads .exit)) r ⌝ }
 {
     let mut at = here;
     let mut least = 0;
-    let mut heads = [0usize; 256];
     loop {
         let d = head_here(s, at, points, least);
         let Decoded::Moved(code, next) = d else {
-            return ProposalRead {
-                part: part_of(d),
-                heads,
-            };
+            return part_of(d);
         };
         if code == 0x4F {
-            return ProposalRead {
-                part: Part::Whole(next),
-                heads,
-            };
+            return Part::Whole(next);
         }
         let number = head_number(s, at);
         heads[number] = next.at;
         let items = read_facts(s, next, context_of(at.operand(s, 2)), templates);
         let Part::Whole(after) = items else {
-            return ProposalRead { part: items, heads };
+            return items;
         };
         least = number + 1;
         at = after;

@@ -1,22 +1,21 @@
 -- Formulas that are seen at once to be whole, with facts that are not too many.
 use Prim.Native.Nat.{ℕ, zero, suc, _+_, _*_, _/_, _%_, _≤_, _<_}
-use mathlib.Core.Path.{_≡_, refl, sym, ap, subst, subst₂, _∙_}
+use mathlib.Core.Path.{_≡_, refl, sym, ap, _∙_}
 use mathlib.Core.List.{List, [], _∷_, _++_}
-use mathlib.Core.Bool.{Bool, true, false, cond, _&&_, and-true}
+use mathlib.Core.Bool.{Bool, true, false, cond, _&&_}
 use native.Mathlib.Omega.{arith}
 use lib.ListN.{length, length-append}
 use lib.Dec.{leb, ltb, eqb}
-use borrow.Author.Tests.{le-leb, lt-leb, lt-ltb, le-ltb, eq-eqb, ne-eqb, ltb-true, ltb-false, eqb-true, eqb-false, leb-true}
+use borrow.Author.Tests.{le-leb, lt-ltb, ne-eqb, eqb-true, eqb-false, leb-true}
 use Rattle.commands.specs.declared.Context.the-variants.{Formulas}
-use Rattle.commands.specs.declared.Position.{Position}
 use Rattle.commands.specs.declared.Decoded.the-variants.{Moved}
-use Rattle.commands.specs.Commands.{byte, setAt, Operand, attribute, content, strings-set, operandsOf, operandBytes, widths, inRange, allInRange, allowed, command}
-use Rattle.commands.specs.Reading.{whole, andThen}
+use Rattle.commands.specs.Commands.{byte, setAt, Operand, attribute, content, strings-set, operandsOf, widths, inRange, allInRange, allowed}
+use Rattle.commands.specs.Reading.{whole}
 use Rattle.commands.specs.Parts.{Enough}
 use Rattle.commands.proofs.Laws.{moved, moves-as, MovedOver}
 use Rattle.vocabularies.specs.Vocabulary.{Formula, conj, disj, neg, truth, attr, order, value}
 use Rattle.vocabularies.specs.Vocabulary as Formulas
-use Rattle.vocabularies.specs.Facts.{Fact, present, ordered, valued, isAmong, add, withFacts, factsOf}
+use Rattle.vocabularies.specs.Facts.{Fact, present, ordered, isAmong, add, withFacts}
 use Rattle.vocabularies.specs.VocabularyReading.{Shape, binary, unary, leaf, shapeAt, formulaNesting, mostFacts, formula}
 use Rattle.vocabularies.specs.Promises.{StepsOver, AddsMost, Short}
 use Rattle.vocabularies.proofs.Formulas.{shaped, step, one-shape, two-shape, leaf-shape, formula-ends}

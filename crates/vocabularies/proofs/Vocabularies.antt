@@ -25,7 +25,7 @@ use Rattle.vocabularies.specs.declared.Tables.{Tables}
 use Rattle.vocabularies.specs.declared.VocabularyRead.{VocabularyRead}
 use Rattle.vocabularies.specs.Vocabulary.{Rule, Vocabulary, declared}
 use Rattle.vocabularies.specs.VocabularyReading.{ruleBody, rules, vocabulary}
-use Rattle.vocabularies.specs.Promises.{partOf, RuleTables, RuleReads, DescribesRules, AddsRule, Describes, rooted, VocabularyReads}
+use Rattle.vocabularies.specs.Promises.{partOf, RuleTables, RuleReads, DescribesRules, AddsRule, Describes, VocabularyReads}
 use Rattle.vocabularies.proofs.Parts.{agrees-whole, agrees-refused, plenty, is-plenty, Finished, andThen-finishes}
 use Rattle.vocabularies.proofs.Rules.{rule-element, rule-fuel, rule-finishes}
 
@@ -158,28 +158,28 @@ module _ (s : List ℕ) (place : Position) (t : Tables) (on : RulesContinue s (p
     declared-as : (b : Bool) → member (t .declared) e ≡ b → declared (on .given) (byte s (place .at + 1)) ≡ b
     declared-as b k = rw (← named) (sym (on .describes .declares e) ∙ k)
 
-    pub rules-rooted : code ≡ 0x05 → (r : VocabularyRead) → r ≡ rooted t e (place .at) next → VocabularyReads s r
-    rules-rooted k r y = rw y (by-rule (member (t .declared) e) refl)
-      where
-        whole-tables : Tables
-        whole-tables = record { declared = t .declared; attributes = t .attributes; contents = t .contents; clauses = t .clauses; root = e }
-
-        found : member (t .declared) e ≡ true → (f : ℕ) → Enough s (place .at) f → AgreesAs (λ D end. Describes s D whole-tables) (rules f s (on .given) (place .at)) (Whole next)
-        found z zero h = absurd (omega arith)
-        found z (suc f) h = rw (step-root f s (on .given) (place .at) code next (sym c ∙ q) k (declared-as true z))
-            (refl, record { declares = on .describes .declares; names-root = named; rule = on .describes .rule })
-
-        lacking : member (t .declared) e ≡ false → (f : ℕ) → Enough s (place .at) f → AgreesAs (λ D end. Describes s D t) (rules f s (on .given) (place .at)) (Refused Missing (place .at))
-        lacking z zero h = absurd (omega arith)
-        lacking z (suc f) h = rw (step-missing f s (on .given) (place .at) code next (sym c ∙ q) k (declared-as false z)) (refl, refl)
-
-        by-rule : (b : Bool) → member (t .declared) e ≡ b → VocabularyReads s (cond b (record { part = Whole next; tables = whole-tables }) (record { part = Refused Missing (place .at); tables = t }))
-        by-rule true z = on .continues (record { part = Whole next; tables = whole-tables }) (found z)
-        by-rule false z = on .continues (record { part = Refused Missing (place .at); tables = t }) (lacking z)
-
     module _ (known : Bool) (told : known ≡ member (t .declared) e) where
       is-declared : (b : Bool) → known ≡ b → declared (on .given) (byte s (place .at + 1)) ≡ b
       is-declared b k = declared-as b (sym told ∙ k)
+
+      pub rules-unrooted : code ≡ 0x05 → not known ≡ true → VocabularyReads s (record { part = Refused Missing (place .at); tables = t })
+      rules-unrooted k z = on .continues (record { part = Refused Missing (place .at); tables = t }) λ f h. agrees f h
+        where
+          agrees : (f : ℕ) → Enough s (place .at) f → AgreesAs (λ D end. Describes s D t) (rules f s (on .given) (place .at)) (Refused Missing (place .at))
+          agrees zero h = absurd (omega arith)
+          agrees (suc f) h = rw (step-missing f s (on .given) (place .at) code next (sym c ∙ q) k (is-declared false (not-true known z))) (refl, refl)
+
+      pub rules-rooted : code ≡ 0x05 → not known ≡ false
+          → VocabularyReads s (record { part = Whole next; tables = record { declared = t .declared; attributes = t .attributes; contents = t .contents; clauses = t .clauses; root = e } })
+      rules-rooted k z = on .continues (record { part = Whole next; tables = rooted }) λ f h. agrees f h
+        where
+          rooted : Tables
+          rooted = record { declared = t .declared; attributes = t .attributes; contents = t .contents; clauses = t .clauses; root = e }
+
+          agrees : (f : ℕ) → Enough s (place .at) f → AgreesAs (λ D end. Describes s D rooted) (rules f s (on .given) (place .at)) (Whole next)
+          agrees zero h = absurd (omega arith)
+          agrees (suc f) h = rw (step-root f s (on .given) (place .at) code next (sym c ∙ q) k (is-declared true (not-false known z)))
+              (refl, record { declares = on .describes .declares; names-root = named; rule = on .describes .rule })
 
       pub rules-twice : (code ≡ 0x05 → ⊥) → known ≡ true → VocabularyReads s (record { part = Refused NotRising (place .at); tables = t })
       rules-twice k z = on .continues (record { part = Refused NotRising (place .at); tables = t }) λ f h. agrees f h
@@ -228,12 +228,3 @@ module _ (s : List ℕ) (place : Position) (t : Tables) (on : RulesContinue s (p
 
           pub rules-fall : length s - end .at < length s - place .at
           rules-fall = let r = the-rule in let w = rule-element (plenty s (next .at)) s e (next .at) (r .0) (end .at) (r .1) in omega (arith, m)
-
--- The two answers to `05 e`.
-module _ (t : Tables) (e at : ℕ) (next : Position) (known : Bool) (told : known ≡ member (t .declared) e) where
-  pub root-missing : not known ≡ true → record { part = Refused Missing at; tables = t } ≡ rooted t e at next
-  root-missing k = rw (sym told ∙ not-true known k)
-
-  pub root-found : not known ≡ false
-      → record { part = Whole next; tables = record { declared = t .declared; attributes = t .attributes; contents = t .contents; clauses = t .clauses; root = e } } ≡ rooted t e at next
-  root-found k = rw (sym told ∙ not-false known k)

@@ -2,7 +2,7 @@
 -- `16` and distinct (a, m) of `17`, in the order in which they first stand in the formula; the order has no meaning of its own. `16 c d` names the contents c, d and the pair.
 use Prim.Native.Nat.{ℕ}
 use mathlib.Core.List.{List, [], _∷_, _++_}
-use mathlib.Core.Bool.{Bool, true, false, cond, _&&_, _||_}
+use mathlib.Core.Bool.{Bool, false, cond, _&&_, _||_}
 use lib.Dec.{eqb}
 use Rattle.vocabularies.specs.Vocabulary.{Formula, conj, disj, neg, truth, attr, content, order, value}
 

@@ -5,11 +5,9 @@ use mathlib.Core.List.{List, [], _∷_, _++_}
 use mathlib.Core.Option.{some}
 use mathlib.Core.Bool.{Bool, false, cond}
 use lib.ListN.{length, getD}
-use Rattle.verdicts.specs.declared.Form.the-variants.{Missing}
 use Rattle.sets.specs.Sets.{member}
 use Rattle.commands.specs.declared.Context.{Context}
 use Rattle.commands.specs.declared.Context.the-variants.{Formulas}
-use Rattle.commands.specs.declared.Position.{Position}
 use Rattle.commands.specs.declared.Part.{Part}
 use Rattle.commands.specs.declared.Part.the-variants.{Whole, Refused}
 use Rattle.commands.specs.declared.Decoded.{Decoded}
@@ -142,15 +140,6 @@ DescribesRules s rs t = Describes s (record { rules = rs; root = t .root }) t
 abbrev pub AddsRule : Tables → ℕ → RuleRead → Tables → Type 0
 AddsRule t e x r = (s : List ℕ) (rs : List Rule) (rule : Rule) → DescribesRules s rs t → declared rs e ≡ false → rule .element ≡ e
     → RuleTables s rule (x .attributes) (x .contents) (x .clauses) → DescribesRules s (rs ++ (rule ∷ [])) r
-
--- What `05 e` at an offset makes of the tables.
-abbrev pub rooted : Tables → ℕ → ℕ → Position → VocabularyRead
-rooted t e at next = cond (member (t .declared) e)
-    (record {
-      part = Whole next;
-      tables = record { declared = t .declared; attributes = t .attributes; contents = t .contents; clauses = t .clauses; root = e };
-    })
-    (record { part = Refused Missing at; tables = t })
 
 abbrev pub VocabularyReads : List ℕ → VocabularyRead → Type 0
 VocabularyReads s r = AgreesAs (λ D end. Describes s D (r .tables)) (vocabulary s) (r .part)

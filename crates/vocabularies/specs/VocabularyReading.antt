@@ -2,7 +2,7 @@
 -- rule ends at the first command that is none of its own.
 use Prim.Native.Nat.{ℕ, zero, suc, _+_}
 use mathlib.Core.List.{List, [], _∷_, _++_}
-use mathlib.Core.Bool.{Bool, true, false, cond, not}
+use mathlib.Core.Bool.{cond, not}
 use lib.ListN.{length}
 use lib.Dec.{leb, ltb, eqb}
 use Rattle.verdicts.specs.declared.Form.the-variants.{TooLong, NotAllowed, NotRising, TooMany, TooManyFacts, Missing}

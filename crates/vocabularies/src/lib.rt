@@ -6,7 +6,7 @@ ghost use mathlib.Core.Logic.{_⊎_};
 ghost use lib.ListN.{length};
 ghost use Rattle.commands.specs.Commands.{byte, setAt, Single};
 ghost use Rattle.vocabularies.specs.Vocabulary.{order};
-ghost use Rattle.vocabularies.specs.Promises.{partOf, StepsOver, AddsMost, Short, FormulaReads, Represents, TellsSame, TellsAmong, Adds, FactsWith, LeafAdds, Gathers, NamesRead, ClausesRead, RuleReads, Long, DescribesRules, rooted, VocabularyReads};
+ghost use Rattle.vocabularies.specs.Promises.{partOf, StepsOver, AddsMost, Short, FormulaReads, Represents, TellsSame, TellsAmong, Adds, FactsWith, LeafAdds, Gathers, NamesRead, ClausesRead, RuleReads, Long, DescribesRules, VocabularyReads};
 use commands::Context;
 use commands::Decoded;
 use commands::Part;
@@ -485,25 +485,6 @@ fn no_tables() -> Tables
     }
 }
 
-// What `05 e` makes of the rules that were read: `e` is the root, if it has a rule.
-fn with_root(tables: Tables, e: u8, at: usize, next: Position) -> VocabularyRead
-    requires { ⌜ e < 64 ⌝ }
-    ensures { λ r. ⌜ r ≡ rooted tables e at next ⌝ }
-{
-    if !sets::has(tables.declared, e) {
-        return VocabularyRead {
-            part: Part::Refused(Form::Missing, at),
-            tables,
-        };
-    }
-    let mut whole = tables;
-    whole.root = e;
-    VocabularyRead {
-        part: Part::Whole(next),
-        tables: whole,
-    }
-}
-
 // The vocabulary that bytes begin with.
 pub fn read_vocabulary(s: &[u8]) -> VocabularyRead
     ensures { λ r. ⌜ VocabularyReads (now (s .entry)) r ⌝ }
@@ -521,7 +502,17 @@ pub fn read_vocabulary(s: &[u8]) -> VocabularyRead
         };
         let e = byte_at(s, at + 1);
         if code == 0x05 {
-            return with_root(tables, e, at, next);
+            if !sets::has(tables.declared, e) {
+                return VocabularyRead {
+                    part: Part::Refused(Form::Missing, at),
+                    tables,
+                };
+            }
+            tables.root = e;
+            return VocabularyRead {
+                part: Part::Whole(next),
+                tables,
+            };
         }
         if sets::has(tables.declared, e) {
             return VocabularyRead {

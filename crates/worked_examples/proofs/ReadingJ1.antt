@@ -6,11 +6,11 @@ use lib.ListN.{take}
 use Rattle.verdicts.specs.declared.Form.{Form}
 use Rattle.verdicts.specs.declared.Form.the-variants.{Ended, NotAllowed}
 use Rattle.commands.specs.Commands.{command}
-use Rattle.commands.specs.Reading.{Read, whole, refused}
-use Rattle.vocabularies.specs.Vocabulary.{Vocabulary, Rule, content, order, ruleOf}
+use Rattle.commands.specs.Reading.{whole, refused}
+use Rattle.vocabularies.specs.Vocabulary.{Rule, content, order, ruleOf}
 use Rattle.vocabularies.specs.Facts.{withFacts}
-use Rattle.pages.specs.Items.{Items, text, gap, element, none, more, one}
-use Rattle.programs.specs.Program.{Variable, templates, Statement, step, stop, setTemplate, plug, show}
+use Rattle.pages.specs.Items.{Items, text, gap, element, one}
+use Rattle.programs.specs.Program.{templates, step, stop, setTemplate, plug, show}
 use Rattle.summaries.specs.Proposal.{Claim, root, edge, gapFrom, Fact, claim, Head}
 use Rattle.jobs.specs.Job.{Job, job}
 use Rattle.worked_examples.specs.J1.{j1}

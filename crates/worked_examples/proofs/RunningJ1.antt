@@ -1,16 +1,14 @@
 -- J1's run over four choices shows its one page, and that page is of the language of its show.
-use Prim.Native.Nat.{ℕ}
 use mathlib.Core.Path.{_≡_, refl}
-use mathlib.Core.List.{List, [], _∷_}
-use mathlib.Core.Bool.{false, true}
+use mathlib.Core.List.{[], _∷_}
+use mathlib.Core.Bool.{false}
 use mathlib.Core.Option.{some}
 use Rattle.pages.specs.Items.{Items, text, element, one, _⋈_}
 use Rattle.programs.specs.Program.{statementAt, templateAt}
 use Rattle.programs.specs.Runs.{Choice, shown, closed, plugged}
-use Rattle.summaries.specs.Proposal.{root, edge, string, gapFrom, attributeGapFrom}
+use Rattle.summaries.specs.Proposal.{string}
 use Rattle.summaries.specs.Summaries.{Summary, sameNumbers, held, under, entries}
 use Rattle.summaries.specs.Languages.{Language, closedSummary, graphShown, nothing, item-then, text-stays, gap-takes, element-keeps, no-attribute}
-use Rattle.jobs.specs.Job.{Job}
 use Rattle.worked_examples.proofs.ReadingJ1.{j1-job}
 
 abbrev first : Choice

@@ -23,16 +23,16 @@ enum-known-part c = search needs
 unreadable-requires : tie.Need-unreadable-requires
 unreadable-requires c κs = search needs
 
-found : (c : tie.After-check-read) → JobVerdict (c .before .before .before .before .before .args .job .now) (c .check-read .result)
+found : (c : tie.After-check-read) → JobVerdict (c .before .before .before .before .before .before .before .args .job .now) (c .check-read .result)
 found c =
-    read-whole _ (c .before .before .before .read-job .result) (c .before .before .before .read-job .ensures) _ (c .before .enum-told .given .1) (c .check-read .result) (λ j end reads K. c .check-read .ensures j end reads K)
+    read-whole _ _ (c .before .before .before .before .read-job .result) (c .before .before .before .before .read-job .ensures) _ (c .before .before .enum-told .given .1) (c .check-read .result) (λ j end reads K. c .check-read .ensures j end reads K)
 
 returns : tie.Need-returns
 returns c = (the-verdict _ _ (found c), (refl, guarantee _ _ (found c)))
 
-refuses : (c : tie.After-unreadable) → JobVerdict (c .before .before .before .before .before .before .args .job .now) (c .unreadable .result)
+refuses : (c : tie.After-unreadable) → JobVerdict (c .before .before .before .before .before .before .before .args .job .now) (c .unreadable .result)
 refuses c =
-    refused _ (c .before .before .before .before .read-job .result) (c .before .before .before .before .read-job .ensures) _ _ (c .before .before .part .given .1) (c .unreadable .result) (c .unreadable .ensures)
+    refused _ _ (c .before .before .before .before .read-job .result) (c .before .before .before .before .read-job .ensures) _ _ (c .before .before .part .given .1) (c .unreadable .result) (c .unreadable .ensures)
 
 returns-2 : tie.Need-returns-2
 returns-2 c = (the-verdict _ _ (refuses c), (refl, guarantee _ _ (refuses c)))

@@ -45,13 +45,12 @@ enum-told-2 c = search needs
 
 returns : tie.Need-returns Inv-loop μ-loop
 returns c j R covered =
-    let l = c .before .before .before .before .before .before .before .before .before .before .loop in
-    let h = c .before .before .before .before .before .before .before .before .before .loop-test .taken in
-    let show = c .before .before .before .before .before .before .before .is-show in
-    let words = c .before .before .before .before .before .shown-words in
+    let l = c .before .before .before .before .before .before .before .before .before .before .before .loop in
+    let h = c .before .before .before .before .before .before .before .before .before .before .loop-test .taken in
+    let show = c .before .before .before .before .before .before .before .before .is-show in
     let decide = c .before .before .before .decide in
     shows-fail j (l .p) (l .inv j R) (decide .result)
-    (shows-graph _ _ _ _ _ _ _ _ j R (l .p) _ h (place-is _ _ (c .before .before .before .before .before .before .before .before .before .before .before .before .args .places .now) (R .parts .few-points) h) (show .result) (show .ensures) (c .before .before .before .before .before .before .if1 .taken) (words .result) (words .ensures) (decide .result) (decide .ensures))
+    (shows-graph _ _ _ _ _ _ _ _ j R (l .p) _ h (place-is _ _ (c .before .before .before .before .before .before .before .before .before .before .before .before .before .args .places .now) (R .parts .few-points) h) (show .result) (show .ensures) (c .before .before .before .before .before .before .before .if1 .taken) _ (c .before .before .before .before .before .shown-words .ensures) (decide .result) (decide .ensures))
     (c .before .before .fault-at .result) (c .before .before .fault-at .ensures) _ (c .enum-told2 .given .1) _ (R .end) (R .reads) covered
 
 add-other-show : tie.Need-add-other-show Inv-loop μ-loop
@@ -61,21 +60,22 @@ other-show-requires : tie.Need-other-show-requires Inv-loop μ-loop
 other-show-requires c κs = search needs
 
 loop-less : tie.Need-loop-less Inv-loop μ-loop
-loop-less c = omega (arith, c .other-show .ensures .forward, c .before .before .before .before .before .before .before .before .before .before .before .loop-test .taken)
+loop-less c = omega (arith, c .other-show .ensures .forward, c .before .before .before .before .before .before .before .before .before .before .before .before .loop-test .taken)
 
 loop-again : tie.Need-loop-again Inv-loop μ-loop
 loop-again c j R =
-    let l = c .before .before .before .before .before .before .before .before .before .before .before .before .loop in
-    let h = c .before .before .before .before .before .before .before .before .before .before .before .loop-test .taken in
-    let is = place-is _ (l .p) (c .before .before .before .before .before .before .before .before .before .before .before .before .before .before .args .places .now) (R .parts .few-points) h in
-    let show = c .before .before .before .before .before .before .before .before .before .is-show in
-    let words = c .before .before .before .before .before .before .before .shown-words in
+    let l = c .before .before .before .before .before .before .before .before .before .before .before .before .before .loop in
+    let h = c .before .before .before .before .before .before .before .before .before .before .before .before .loop-test .taken in
+    let is = place-is _ (l .p) (c .before .before .before .before .before .before .before .before .before .before .before .before .before .before .before .args .places .now) (R .parts .few-points) h in
+    let show = c .before .before .before .before .before .before .before .before .before .before .is-show in
+    let taken = c .before .before .before .before .before .before .before .before .before .if1 .taken in
+    let keeps = c .before .before .before .before .before .before .before .shown-words .ensures in
     let decide = c .before .before .before .before .before .decide in
     let right = accepts-right (l .p) (decide .result) (c .before .before .before .before .fault-at .result) (c .before .before .before .before .fault-at .ensures) (c .before .before .enum-told .given .1) in
     shows-pass j (l .p) (l .inv j R)
-    (subst (ShowFound j (l .p)) right (shows-graph _ _ _ _ _ _ _ _ j R (l .p) _ h is (show .result) (show .ensures) (c .before .before .before .before .before .before .before .before .if1 .taken) (words .result) (words .ensures) (decide .result) (decide .ensures)))
+    (subst (ShowFound j (l .p)) right (shows-graph _ _ _ _ _ _ _ _ j R (l .p) _ h is (show .result) (show .ensures) taken _ keeps (decide .result) (decide .ensures)))
     (c .other-show .result)
-    (c .other-show .ensures .hold _ _ _ _ j R (right-words _ _ _ _ _ _ _ _ j R (l .p) _ h is (show .result) (show .ensures) (c .before .before .before .before .before .before .before .before .if1 .taken) (words .result) (words .ensures) (decide .result) (decide .ensures) right))
+    (c .other-show .ensures .hold _ _ _ _ j R (right-words _ _ _ _ _ _ _ _ j R (l .p) _ h is (show .result) (show .ensures) taken _ keeps (decide .result) (decide .ensures) right))
 
 add-p : tie.Need-add-p Inv-loop μ-loop
 add-p c = search needs

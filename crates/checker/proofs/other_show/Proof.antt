@@ -1,6 +1,5 @@
 -- The shows of the points passed by hold: they show nothing, or have the words.
 use Prim.Native.Nat.{_-_}
-use native.Mathlib.Omega.{arith}
 use mathlib.Core.Logic.{⊎-elim}
 use borrow.Author.Tests.{not-false}
 use borrow.Author.Needs.{needs}
@@ -34,7 +33,7 @@ same-words-requires : tie.Need-same-words-requires Inv-loop μ-loop
 same-words-requires c κs = search needs
 
 returns : tie.Need-returns Inv-loop μ-loop
-returns c = c .before .before .before .before .before .before .before .before .loop .inv
+returns c = c .before .before .before .before .before .before .before .before .before .loop .inv
 
 add-q : tie.Need-add-q Inv-loop μ-loop
 add-q c = search needs
@@ -51,7 +50,7 @@ loop-again c =
     passed-more _ _ _ _ _ _ (l .q) (l .inv) (λ rules templates count starts j R right.
     let is = place-is _ (l .q) places (R .parts .few-points) h in
     ⊎-elim
-    (λ m. same-graph _ _ _ _ _ _ _ _ j R (l .q) _ h is (show .result) (show .ensures) (m .0 .taken) (m .1 .result) (m .1 .ensures) _ right (m .3 .ensures (not-false _ (m .4 .left))))
+    (λ m. same-graph _ _ _ _ _ _ _ _ j R (l .q) _ h is (show .result) (show .ensures) (m .0 .taken) _ (m .2 .ensures) _ right (m .4 .ensures (not-false _ (m .5 .left))))
     (λ m. shows-nothing _ _ _ _ _ _ _ _ j R (l .q) _ h is (show .result) (show .ensures) (m .left))
     (c .if1 .came))
 

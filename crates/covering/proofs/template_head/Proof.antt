@@ -1,7 +1,7 @@
 -- In range the remainders are the numbers.
 use borrow.Author.Needs.{needs}
-use Prim.Native.Nat.{ℕ, _+_, _*_, _%_, _<_}
-use mathlib.Core.Path.{_≡_, refl, sym, ap, _∙_}
+use Prim.Native.Nat.{_%_}
+use mathlib.Core.Path.{_≡_}
 use native.Mathlib.Omega.{arith}
 use Rattle.covering.proofs.template_head.Statement.{statement}
 use Rattle.covering.proofs.template_head.Tie as tie

@@ -1,32 +1,54 @@
--- No fact is about contents, or the attributes have the pattern of nothing; else the product.
+-- No fact is about contents, or none about attributes; else both are joined.
 use borrow.Author.Needs.{needs}
+use Rattle.elements.specs.ClauseWords.{clauseIn}
+use Rattle.elements.proofs.ClauseWords.{is-plain, is-not-plain}
 use Rattle.elements.proofs.Searches.{plain-patterns, inner-patterns, both-patterns}
 use Rattle.elements.proofs.element_patterns.Statement.{statement}
 use Rattle.elements.proofs.element_patterns.Tie as tie
 
+element-copy-out-if1 : tie.Need-element-copy-out-if1
+element-copy-out-if1 c = search needs
+
+attribute-patterns-requires : tie.Need-attribute-patterns-requires
+attribute-patterns-requires c κs = search needs
+
 returns : tie.Need-returns
-returns c = plain-patterns (c .before .args .clause) (c .before .args .outer) (c .before .args .inner) (c .if1 .taken)
+returns c =
+    let args = c .before .before .before .before .args in
+    plain-patterns (args .s .now) (args .start .at) (clauseIn (args .clause .now)) (args .words .now) (args .n) (args .inner) (is-plain (args .clause .now) (c .before .if1 .taken))
+    (c .attribute-patterns .result) (c .attribute-patterns .ensures)
 
-only-requires : tie.Need-only-requires
-only-requires c κs = search needs
-
-same-requires : tie.Need-same-requires
-same-requires c κs = search needs
+element-copy-out-if2 : tie.Need-element-copy-out-if2
+element-copy-out-if2 c = search needs
 
 returns-2 : tie.Need-returns-2
+unfolding clauseIn
 returns-2 c =
-    let args = c .before .before .before .before .args in
-    let unit = c .before .before .only in
-    inner-patterns (args .clause) (args .outer) (args .inner) (c .before .before .before .if1 .left) (unit .result) (unit .ensures) _ (c .if2 .taken) (c .before .same .ensures)
+    let args = c .before .before .before .before .before .args in
+    inner-patterns (args .s .now) (args .start .at) (clauseIn (args .clause .now)) (args .words .now) (args .n) (args .inner) (is-not-plain (args .clause .now) (c .before .before .if1 .left)) (c .if2 .taken)
 
-product-requires : tie.Need-product-requires
-product-requires c κs = search needs
+attribute-patterns-requires-2 : tie.Need-attribute-patterns-requires-2
+attribute-patterns-requires-2 c κs = search needs
+
+followed-requires : tie.Need-followed-requires
+followed-requires c κs = search needs
 
 returns-3 : tie.Need-returns-3
 returns-3 c =
-    let args = c .before .before .before .before .before .before .args in
-    both-patterns (args .clause) (args .outer) (args .inner) (c .before .before .before .before .before .if1 .left) (c .product .result) (c .product .ensures)
+    let args = c .before .before .before .before .before .before .before .args in
+    let outer = c .before .attribute-patterns2 in
+    both-patterns (args .s .now) (args .start .at) (clauseIn (args .clause .now)) (args .words .now) (args .n) (args .inner) (is-not-plain (args .clause .now) (c .before .before .before .before .if1 .left))
+    (outer .result) (outer .ensures) (c .followed .result) (c .followed .ensures)
 
 pub element-patterns-spec : {M : Type 1} → statement M
 element-patterns-spec =
-    tie.close (tie.spec returns only-requires same-requires returns-2 product-requires returns-3)
+    tie.close
+    (tie.spec
+    element-copy-out-if1
+    attribute-patterns-requires
+    returns
+    element-copy-out-if2
+    returns-2
+    attribute-patterns-requires-2
+    followed-requires
+    returns-3)

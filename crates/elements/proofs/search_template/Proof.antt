@@ -1,5 +1,6 @@
--- What the gaps of the template take, and its items.
+-- From what its gaps take.
 use borrow.Author.Needs.{needs}
+use Rattle.elements.specs.ClauseWords.{clauseIn}
 use Rattle.elements.proofs.Templates.{template-searched}
 use Rattle.elements.proofs.search_template.Statement.{statement}
 use Rattle.elements.proofs.search_template.Tie as tie
@@ -14,7 +15,7 @@ returns : tie.Need-returns
 returns c =
     let args = c .before .before .before .before .args in
     let gaps = c .before .before .takes-of in
-    template-searched (args .s .now) (args .from) (args .clause) (args .words .now) (args .rows .now) (args .n) (gaps .result) (gaps .ensures)
+    template-searched (args .s .now) (args .from) (clauseIn (args .clause .now)) (args .words .now) (args .rows .now) (args .n) (gaps .result) (gaps .ensures)
     (c .search-items .result) (c .search-items .ensures .1)
 
 pub search-template-spec : {M : Type 1} → statement M

@@ -2,12 +2,13 @@
 use Prim.Native.Nat.{_-_}
 use native.Mathlib.Omega.{arith}
 use borrow.Author.Needs.{needs}
+use Rattle.elements.specs.ClauseWords.{clauseIn}
 use Rattle.elements.proofs.Templates.{Turning, turning-begin, turning-more, turning-counted, turning-all}
 use Rattle.elements.proofs.search_templates.Statement.{statement}
 use Rattle.elements.proofs.search_templates.Tie as tie
 
 abbrev Inv-loop : tie.InvT-loop
-Inv-loop s clause words gaps lone starts count chosen rows lowest₀ t₀ lowest t = Turning s clause words gaps lone starts count chosen lowest₀ t lowest
+Inv-loop s clause words gaps lone starts count chosen rows lowest₀ t₀ lowest t = Turning s (clauseIn clause) words gaps lone starts count chosen lowest₀ t lowest
 
 abbrev μ-loop : tie.MeasureT-loop
 μ-loop s clause words gaps lone starts count chosen rows lowest₀ t₀ lowest t = 64 - t
@@ -21,7 +22,7 @@ first-member-requires c κs = search needs
 loop-holds : tie.Need-loop-holds Inv-loop μ-loop
 loop-holds c =
     let args = c .before .before .before .args in
-    turning-begin (args .s .now) (args .clause) (args .words .now) (args .gaps .now) (args .lone .now) (args .starts .now) (args .count) (args .chosen) (args .table) (c .first-member .result) (search needs) (c .first-member .ensures)
+    turning-begin (args .s .now) (clauseIn (args .clause .now)) (args .words .now) (args .gaps .now) (args .lone .now) (args .starts .now) (args .count) (args .chosen) (args .table) (c .first-member .result) (search needs) (c .first-member .ensures)
 
 cast-n : tie.Need-cast-n Inv-loop μ-loop
 cast-n c = omega arith
@@ -30,7 +31,7 @@ returns : tie.Need-returns Inv-loop μ-loop
 returns c =
     let args = c .before .before .before .before .before .before .args in
     let l = c .before .before .loop in
-    turning-counted (args .s .now) (args .clause) (args .words .now) (args .gaps .now) (args .lone .now) (args .starts .now) (args .count) (args .chosen) (args .table) (l .t) (l .lowest) (l .inv) (c .if1 .taken)
+    turning-counted (args .s .now) (clauseIn (args .clause .now)) (args .words .now) (args .gaps .now) (args .lone .now) (args .starts .now) (args .count) (args .chosen) (args .table) (l .t) (l .lowest) (l .inv) (c .if1 .taken)
 
 mul-search-template : tie.Need-mul-search-template Inv-loop μ-loop
 mul-search-template c = search needs
@@ -71,7 +72,7 @@ loop-again c =
     let l = c .before .before .before .before .before .before .before .loop in
     let rows = c .before .before .before .before .before .before .before .before .before .rows-of in
     let found = c .before .before .search-template in
-    turning-more (args .s .now) (args .clause) (args .words .now) (args .gaps .now) (args .lone .now) (args .starts .now) (args .count) (args .chosen) (args .table) (l .t) (l .lowest) (l .inv)
+    turning-more (args .s .now) (clauseIn (args .clause .now)) (args .words .now) (args .gaps .now) (args .lone .now) (args .starts .now) (args .count) (args .chosen) (args .table) (l .t) (l .lowest) (l .inv)
     (c .before .before .before .before .before .before .loop-test .taken) (c .before .before .before .before .before .if1 .left) (rows .result) (rows .ensures)
     (found .result) (found .ensures) (c .before .lower .result) (c .before .lower .ensures) (c .first-member2 .result) (c .first-member2 .ensures)
 
@@ -79,7 +80,7 @@ returns-2 : tie.Need-returns-2 Inv-loop μ-loop
 returns-2 c =
     let args = c .before .before .before .before .before .args in
     let l = c .before .loop in
-    turning-all (args .s .now) (args .clause) (args .words .now) (args .gaps .now) (args .lone .now) (args .starts .now) (args .count) (args .chosen) (args .table) (l .t) (l .lowest) (l .inv) (c .loop-test .left)
+    turning-all (args .s .now) (clauseIn (args .clause .now)) (args .words .now) (args .gaps .now) (args .lone .now) (args .starts .now) (args .count) (args .chosen) (args .table) (l .t) (l .lowest) (l .inv) (c .loop-test .left)
 
 pub search-templates-spec : {M : Type 1} → statement M
 search-templates-spec =

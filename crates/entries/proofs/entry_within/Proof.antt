@@ -16,7 +16,7 @@ copy-holds-requires : tie.Need-copy-holds-requires
 copy-holds-requires c κs = search needs
 
 returns-2 : tie.Need-returns-2
-returns-2 c xs ys l m = c .copy-holds .ensures xs _ l (c .before .before .load .ensures ys m)
+returns-2 c xs ys l m = c .copy-holds .ensures xs _ l (c .before .before .load .ensures .keeps ys m)
 
 pub entry-within-spec : {M : Type 1} → statement M
 entry-within-spec =

@@ -16,7 +16,7 @@ fragment-holds-requires : tie.Need-fragment-holds-requires
 fragment-holds-requires c κs = search needs
 
 returns-2 : tie.Need-returns-2
-returns-2 c φ ys g f m = c .fragment-holds .ensures φ _ g f (c .before .before .load .ensures ys m)
+returns-2 c φ ys g f m = c .fragment-holds .ensures φ _ g f (c .before .before .load .ensures .keeps ys m)
 
 pub fragment-within-spec : {M : Type 1} → statement M
 fragment-within-spec =

@@ -1,9 +1,9 @@
 -- The gaps of the commands passed are gathered.
-use Prim.Native.Nat.{ℕ, _+_, _-_, _%_, _≤_, _<_}
-use mathlib.Core.Path.{_≡_, refl, sym, ap, _∙_}
-use mathlib.Core.Bool.{true, false}
+use Prim.Native.Nat.{_-_, _<_}
+use mathlib.Core.Path.{_≡_, sym, _∙_}
+use mathlib.Core.Bool.{true}
 use native.Mathlib.Omega.{arith}
-use lib.ListN.{length, getD}
+use lib.ListN.{length}
 use borrow.Author.Needs.{needs}
 use Rattle.commands.specs.Commands.{byte, between}
 use Rattle.entries.proofs.GapWords.{GapsWalked, inner-inside, gaps-begin, gaps-go, gaps-end}

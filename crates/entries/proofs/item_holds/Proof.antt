@@ -5,88 +5,62 @@ use Rattle.entries.specs.Passing.{passed, Decides}
 use Rattle.entries.proofs.Items.{edge-case, string-case, any-case, gap-case, attribute-case, root-case}
 use Rattle.entries.proofs.item_holds.Statement.{statement}
 use Rattle.entries.proofs.item_holds.Tie as tie
-use Rattle.entries.proofs.item_holds.Reads as reads
-use Rattle.entries.proofs.item_holds.Lts as lts
-use Rattle.commands.proofs.Position.operand.Reads as operand-reads
-use Rattle.commands.proofs.byte_at.Reads as byte-at-reads
-use Rattle.entries.proofs.any_holds.Reads as any-holds-reads
-use Rattle.entries.proofs.attribute_holds.Reads as attribute-holds-reads
-use Rattle.entries.proofs.edge_holds.Reads as edge-holds-reads
-use Rattle.entries.proofs.gap_holds.Reads as gap-holds-reads
-use Rattle.entries.proofs.root_holds.Reads as root-holds-reads
-use Rattle.entries.proofs.string_holds.Reads as string-holds-reads
 
--- src/lib.rt:205:9
 operand-requires : tie.Need-operand-requires
 operand-requires c κs = search needs
 
--- src/lib.rt:206:9
 operand-requires-2 : tie.Need-operand-requires-2
 operand-requires-2 c κs = search needs
 
--- src/lib.rt:207:9
 operand-requires-3 : tie.Need-operand-requires-3
 operand-requires-3 c κs = search needs
 
--- src/lib.rt:208:11
 byte-at-requires : tie.Need-byte-at-requires
 byte-at-requires c κs = search needs
 
--- src/lib.rt:209:17
 edge-holds-requires : tie.Need-edge-holds-requires
 edge-holds-requires c κs = search needs
 
--- src/lib.rt:210:17
 string-holds-requires : tie.Need-string-holds-requires
 string-holds-requires c κs = search needs
 
--- src/lib.rt:211:17
 any-holds-requires : tie.Need-any-holds-requires
 any-holds-requires c κs = search needs
 
--- src/lib.rt:212:17
 gap-holds-requires : tie.Need-gap-holds-requires
 gap-holds-requires c κs = search needs
 
--- src/lib.rt:213:17
 attribute-holds-requires : tie.Need-attribute-holds-requires
 attribute-holds-requires c κs = search needs
 
--- src/lib.rt:214:14
 root-holds-requires : tie.Need-root-holds-requires
 root-holds-requires c κs = search needs
 
--- src/lib.rt:201:1
 returns : tie.Need-returns
 returns c y R i k =
     edge-case (c .before .before .before .before .before .before .before .args .s .now) (c .before .before .before .before .before .before .before .args .at) _ _ _ (c .before .before .byte-at .ensures) (c .before .before .before .before .before .operand .ensures) (c .before .before .before .before .operand2 .ensures)
     (λ x. Decides (c .edge-holds .result) (Within (passed (c .before .before .before .before .before .before .before .args .how) (saysClaim x)) R)) _ (c .before .match .keys1) (c .before .before .before .operand3 .ensures) (λ f. c .edge-holds .ensures R k f) y i
 
--- src/lib.rt:201:1
 returns-2 : tie.Need-returns-2
 returns-2 c y R i k =
     string-case (c .before .before .before .before .before .before .before .args .s .now) (c .before .before .before .before .before .before .before .args .at) _ _ _ (c .before .before .byte-at .ensures) (c .before .before .before .before .before .operand .ensures) (c .before .before .before .before .operand2 .ensures)
     (λ x. Decides (c .string-holds .result) (Within (passed (c .before .before .before .before .before .before .before .args .how) (saysClaim x)) R)) _ (c .before .match .keys2) (c .before .before .before .operand3 .ensures) (λ f. c .string-holds .ensures R k f) y i
 
--- src/lib.rt:201:1
 returns-3 : tie.Need-returns-3
 returns-3 c y R i k =
     any-case (c .before .before .before .before .before .before .before .args .s .now) (c .before .before .before .before .before .before .before .args .at) _ _ _ (c .before .before .byte-at .ensures) (c .before .before .before .before .before .operand .ensures) (c .before .before .before .before .operand2 .ensures)
     (λ x. Decides (c .any-holds .result) (Within (passed (c .before .before .before .before .before .before .before .args .how) (saysClaim x)) R)) (c .before .match .keys3) (λ f. c .any-holds .ensures R k f) y i
 
--- src/lib.rt:201:1
 returns-4 : tie.Need-returns-4
 returns-4 c y R i k =
     gap-case (c .before .before .before .before .before .before .before .args .s .now) (c .before .before .before .before .before .before .before .args .at) _ _ _ (c .before .before .byte-at .ensures) (c .before .before .before .before .before .operand .ensures) (c .before .before .before .before .operand2 .ensures)
     (λ x. Decides (c .gap-holds .result) (Within (passed (c .before .before .before .before .before .before .before .args .how) (saysClaim x)) R)) (c .before .match .keys4) (λ f. c .gap-holds .ensures R k f) y i
 
--- src/lib.rt:201:1
 returns-5 : tie.Need-returns-5
 returns-5 c y R i k =
     attribute-case (c .before .before .before .before .before .before .before .args .s .now) (c .before .before .before .before .before .before .before .args .at) _ _ _ (c .before .before .byte-at .ensures) (c .before .before .before .before .before .operand .ensures) (c .before .before .before .before .operand2 .ensures)
     (λ x. Decides (c .attribute-holds .result) (Within (passed (c .before .before .before .before .before .before .before .args .how) (saysClaim x)) R)) (c .before .match .keys5) (λ f. c .attribute-holds .ensures R k f) y i
 
--- src/lib.rt:201:1
 returns-6 : tie.Need-returns-6
 returns-6 c y R i k =
     let others = c .before .match .rest in

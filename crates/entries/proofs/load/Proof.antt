@@ -1,22 +1,16 @@
-use Prim.Native.Nat.{ℕ, _-_, _<_}
-use mathlib.Core.Path.{_≡_, refl, sym, _∙_}
-use mathlib.Core.Bool.{true, false}
+-- What the items passed say is in the words.
+use Prim.Native.Nat.{_-_, _<_}
+use mathlib.Core.Path.{_≡_, sym, _∙_}
+use mathlib.Core.Bool.{true}
 use native.Mathlib.Omega.{arith}
 use lib.ListN.{length, length-set}
 use borrow.Author.Needs.{needs}
 use Rattle.commands.specs.declared.Context.the-variants.{TemplateFacts}
 use Rattle.commands.specs.Commands.{byte, allowed}
 use Rattle.entries.proofs.Walks.{inside, no-item, Walked}
-use Rattle.entries.proofs.Loading.{Loaded, Wide, zeros, load-begins, wide-begins, load-goes, load-wide, load-ends}
+use Rattle.entries.proofs.Loading.{Loaded, Wide, load-begins, wide-begins, load-goes, load-wide, load-ends}
 use Rattle.entries.proofs.load.Statement.{statement}
 use Rattle.entries.proofs.load.Tie as tie
-use Rattle.entries.proofs.load.Reads as reads
-use Rattle.entries.proofs.load.Lts as lts
-use Rattle.commands.proofs.byte_at.Reads as byte-at-reads
-use Rattle.entries.proofs.is_item.Reads as is-item-reads
-use Rattle.entries.proofs.over.Reads as over-reads
-use Rattle.entries.proofs.slot_of.Reads as slot-of-reads
-use Rattle.sets.proofs.with.Reads as with-reads
 
 abbrev Inv-loop : tie.InvT-loop
 Inv-loop s from words₀ at₀ words at = Wide words × Walked TemplateFacts s from at (Loaded words)
@@ -32,56 +26,45 @@ stands : (c : tie.Then1 Inv-loop μ-loop) → c .before .before .loop .at < leng
 stands c = inside TemplateFacts (c .before .before .before .before .args .s .now) (c .before .before .loop .at) no-item (item c)
 
 loop-holds : tie.Need-loop-holds Inv-loop μ-loop
-loop-holds c = (wide-begins _ refl (zeros 544), load-begins (c .before .args .s .now) (c .before .args .from) _ (zeros 544))
+loop-holds c = (wide-begins _ (c .before .pre), load-begins _ (c .before .pre) _ _)
 
--- src/lib.rt:108:11
 is-item-requires : tie.Need-is-item-requires Inv-loop μ-loop
 is-item-requires c κs = search needs
 
--- src/lib.rt:109:13
 slot-of-requires : tie.Need-slot-of-requires Inv-loop μ-loop
 slot-of-requires c κs = search needs
 
--- src/lib.rt:111:31
 mul-with : tie.Need-mul-with Inv-loop μ-loop
 mul-with c = search needs
 
--- src/lib.rt:111:31
-array-read-with : tie.Need-array-read-with Inv-loop μ-loop
-array-read-with c = search needs
+element-copy-out-with : tie.Need-element-copy-out-with Inv-loop μ-loop
+element-copy-out-with c = search needs
 
--- src/lib.rt:111:20
 with-requires : tie.Need-with-requires Inv-loop μ-loop
 with-requires c κs = search needs
 
--- src/lib.rt:111:9
 mul-words : tie.Need-mul-words Inv-loop μ-loop
 mul-words c = search needs
 
--- src/lib.rt:111:9
-array-write-words : tie.Need-array-write-words Inv-loop μ-loop
-array-write-words c = search needs
+element-write-words : tie.Need-element-write-words Inv-loop μ-loop
+element-write-words c = search needs
 
--- src/lib.rt:112:9
 over-requires : tie.Need-over-requires Inv-loop μ-loop
-over-requires c κs = stands (c .before .before)
+over-requires c κs = stands (c .before .before .before)
 
--- src/lib.rt:108:5
 loop-less : tie.Need-loop-less Inv-loop μ-loop
-loop-less c = omega (arith, stands (c .before .before .before), c .over .ensures)
+loop-less c = omega (arith, stands (c .before .before .before .before), c .over .ensures)
 
--- src/lib.rt:108:5
 loop-again : tie.Need-loop-again Inv-loop μ-loop
 loop-again c =
-    let inv = c .before .before .before .before .before .loop .inv in
-    let slot = c .before .before .slot-of .ensures in
-    let at-item = item (c .before .before .before) in
+    let inv = c .before .before .before .before .before .before .loop .inv in
+    let slot = c .before .before .before .slot-of .ensures in
+    let at-item = item (c .before .before .before .before) in
     rw (c .over .ensures) (
-      load-wide _ (c .before .before .before .before .before .before .before .args .from) _ _ _ _ _ slot (inv .0) (c .before .with .ensures) (search needs) (simp length-set (inv .0 .count)),
+      load-wide _ (c .before .before .before .before .before .before .before .before .args .from) _ _ _ _ _ slot (inv .0) (c .before .with .ensures) (search needs) (simp length-set (inv .0 .count)),
       load-goes _ _ _ _ _ _ _ slot (inv .0) (c .before .with .ensures) at-item (inv .1),
     )
 
--- src/lib.rt:103:1
 returns : tie.Need-returns Inv-loop μ-loop
 returns c =
     let inv = c .before .before .loop .inv in
@@ -97,10 +80,10 @@ load-spec =
     is-item-requires
     slot-of-requires
     mul-with
-    array-read-with
+    element-copy-out-with
     with-requires
     mul-words
-    array-write-words
+    element-write-words
     over-requires
     loop-less
     loop-again

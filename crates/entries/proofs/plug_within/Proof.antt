@@ -10,7 +10,7 @@ plug-holds-requires : tie.Need-plug-holds-requires
 plug-holds-requires c κs = search needs
 
 returns : tie.Need-returns
-returns c xs ys zs l m n = c .plug-holds .ensures xs ys _ l m (c .before .before .load .ensures zs n)
+returns c xs ys zs l m n = c .plug-holds .ensures xs ys _ l m (c .before .before .load .ensures .keeps zs n)
 
 pub plug-within-spec : {M : Type 1} → statement M
 plug-within-spec = tie.close (tie.spec load-requires plug-holds-requires returns)

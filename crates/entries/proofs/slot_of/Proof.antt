@@ -2,85 +2,61 @@ use borrow.Author.Needs.{needs}
 use Rattle.entries.proofs.Items.{slot-edge, slot-string, slot-any, slot-gap, slot-attribute, slot-root}
 use Rattle.entries.proofs.slot_of.Statement.{statement}
 use Rattle.entries.proofs.slot_of.Tie as tie
-use Rattle.entries.proofs.slot_of.Reads as reads
-use Rattle.entries.proofs.slot_of.Lts as lts
-use Rattle.commands.proofs.Position.operand.Reads as operand-reads
-use Rattle.commands.proofs.byte_at.Reads as byte-at-reads
-use Rattle.entries.proofs.word_at.Reads as word-at-reads
 
--- src/lib.rt:64:9
 operand-requires : tie.Need-operand-requires
 operand-requires c κs = search needs
 
--- src/lib.rt:65:9
 operand-requires-2 : tie.Need-operand-requires-2
 operand-requires-2 c κs = search needs
 
--- src/lib.rt:66:11
 byte-at-requires : tie.Need-byte-at-requires
 byte-at-requires c κs = search needs
 
--- src/lib.rt:68:19
 word-at-requires : tie.Need-word-at-requires
 word-at-requires c κs = search needs
 
--- src/lib.rt:69:18
 operand-requires-3 : tie.Need-operand-requires-3
 operand-requires-3 c κs = search needs
 
--- src/lib.rt:72:19
 word-at-requires-2 : tie.Need-word-at-requires-2
 word-at-requires-2 c κs = search needs
 
--- src/lib.rt:73:18
 operand-requires-4 : tie.Need-operand-requires-4
 operand-requires-4 c κs = search needs
 
--- src/lib.rt:76:24
 cast-t15 : tie.Need-cast-t15
 cast-t15 c = search needs
 
--- src/lib.rt:76:19
 add-t16 : tie.Need-add-t16
 add-t16 c = search needs
 
--- src/lib.rt:80:23
 cast-t19 : tie.Need-cast-t19
 cast-t19 c = search needs
 
--- src/lib.rt:80:19
 add-t20 : tie.Need-add-t20
 add-t20 c = search needs
 
--- src/lib.rt:84:23
 cast-t23 : tie.Need-cast-t23
 cast-t23 c = search needs
 
--- src/lib.rt:84:19
 add-t24 : tie.Need-add-t24
 add-t24 c = search needs
 
--- src/lib.rt:60:1
 returns : tie.Need-returns
 returns c = search slot-edge
 
--- src/lib.rt:60:1
 returns-2 : tie.Need-returns-2
 returns-2 c = search slot-string
 
--- src/lib.rt:60:1
 returns-3 : tie.Need-returns-3
 returns-3 c = search slot-any
 
--- src/lib.rt:60:1
 returns-4 : tie.Need-returns-4
 returns-4 c = search slot-gap
 
--- src/lib.rt:60:1
 returns-5 : tie.Need-returns-5
 returns-5 c = search slot-attribute
 
--- src/lib.rt:60:1
 returns-6 : tie.Need-returns-6
 returns-6 c = search slot-root
 

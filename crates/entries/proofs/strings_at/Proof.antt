@@ -2,36 +2,25 @@ use borrow.Author.Needs.{needs}
 use Rattle.entries.proofs.StringSets.{strings-held}
 use Rattle.entries.proofs.strings_at.Statement.{statement}
 use Rattle.entries.proofs.strings_at.Tie as tie
-use Rattle.entries.proofs.strings_at.Reads as reads
-use Rattle.entries.proofs.strings_at.Lts as lts
-use Rattle.entries.proofs.is_set.Reads as is-set-reads
-use Rattle.entries.proofs.word_at.Reads as word-at-reads
 
--- src/lib.rt:144:9
 word-at-requires : tie.Need-word-at-requires
 word-at-requires c κs = search needs
 
--- src/lib.rt:146:16
 mul-t5 : tie.Need-mul-t5
 mul-t5 c = search needs
 
--- src/lib.rt:146:16
 element-copy-out-t8 : tie.Need-element-copy-out-t8
 element-copy-out-t8 c = search needs
 
--- src/lib.rt:147:33
 cast-is-set : tie.Need-cast-is-set
 cast-is-set c = search needs
 
--- src/lib.rt:147:28
 add-is-set : tie.Need-add-is-set
 add-is-set c = search needs
 
--- src/lib.rt:147:14
 is-set-requires : tie.Need-is-set-requires
 is-set-requires c κs = search needs
 
--- src/lib.rt:141:1
 returns : tie.Need-returns
 returns c f g t =
     strings-held (c .before .before .before .args .words .now) _ _ _ _ f g (c .before .before .word-at .ensures .1) (c .is-set .ensures) t

@@ -50,7 +50,7 @@ unread-requires-3 : tie.Need-unread-requires-3
 unread-requires-3 c κs = search needs
 
 returns-3 : tie.Need-returns-3
-returns-3 c = templates-refuse (vocabulary-there (c .before .before .before .before .before)) _ (c .before .before .before .read-templates .ensures) _ _ _ (c .before .enum-told2 .given .1) (c .unread3 .ensures)
+returns-3 c = templates-refuse (vocabulary-there (c .before .before .before .before .before)) _ (c .before .before .before .read-templates .ensures) _ _ _ _ (c .before .enum-told2 .given .1) (c .unread3 .ensures)
 
 read-program-requires : tie.Need-read-program-requires
 read-program-requires c κs = search needs
@@ -65,10 +65,10 @@ unread-requires-4 : tie.Need-unread-requires-4
 unread-requires-4 c κs = search needs
 
 returns-4 : tie.Need-returns-4
-returns-4 c = program-refuses (templates-there (c .before .before .before .before)) _ (c .before .before .before .read-program .ensures) _ _ _ (c .before .enum-told3 .given .1) (c .unread4 .ensures)
+returns-4 c = program-refuses (templates-there (c .before .before .before .before)) _ (c .before .before .before .read-program .ensures) _ _ _ _ (c .before .enum-told3 .given .1) (c .unread4 .ensures)
 
 read-proposal-requires : tie.Need-read-proposal-requires
-read-proposal-requires c κs = points-low (program-there c)
+read-proposal-requires c κs = (points-low (program-there (c .before)), search needs)
 
 enum-known-part : tie.Need-enum-known-part
 enum-known-part c = search needs
@@ -80,16 +80,16 @@ unread-requires-5 : tie.Need-unread-requires-5
 unread-requires-5 c κs = search needs
 
 returns-5 : tie.Need-returns-5
-returns-5 c = proposal-refuses (program-there (c .before .before .before .before)) _ (c .before .before .before .read-proposal .ensures) _ _ _ (c .before .enum-told4 .given .1) (c .unread5 .ensures)
+returns-5 c = proposal-refuses (program-there (c .before .before .before .before .before)) _ _ (c .before .before .before .read-proposal .ensures) _ _ _ (c .before .enum-told4 .given .1) (c .unread5 .ensures)
 
 unread-requires-6 : tie.Need-unread-requires-6
 unread-requires-6 c κs = search needs
 
 returns-6 : tie.Need-returns-6
-returns-6 c = more-follows (program-there (c .before .before .before .before .before .before .before)) _ (c .before .before .before .before .before .before .read-proposal .ensures) _ (c .before .before .before .before .part .given .1) _ (c .before .if2 .taken) (c .unread6 .ensures)
+returns-6 c = more-follows (program-there (c .before .before .before .before .before .before .before .before)) _ _ (c .before .before .before .before .before .before .read-proposal .ensures) _ (c .before .before .before .before .part .given .1) _ (c .before .if2 .taken) (c .unread6 .ensures)
 
 returns-7 : tie.Need-returns-7
-returns-7 c = nothing-follows (program-there (c .before .before .before .before .before .before)) _ (c .before .before .before .before .before .read-proposal .ensures) _ (c .before .before .before .part .given .1) (c .if2 .left)
+returns-7 c = nothing-follows (program-there (c .before .before .before .before .before .before .before)) _ _ (c .before .before .before .before .before .read-proposal .ensures) _ (c .before .before .before .part .given .1) (c .if2 .left)
 
 pub read-job-spec : {M : Type 1} → statement M
 read-job-spec =

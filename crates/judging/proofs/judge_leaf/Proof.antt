@@ -1,7 +1,6 @@
 -- The element's attributes, its text, and the tests of its rule.
 use mathlib.Core.Path.{refl, sym, _∙_}
 use native.Mathlib.Omega.{arith}
-use borrow.Author.Needs.{needs}
 use Rattle.judging.proofs.ItemLaws.{stands-inside, element-item}
 use Rattle.judging.proofs.Lists.{texts-listed}
 use Rattle.judging.proofs.judge_leaf.Statement.{statement}

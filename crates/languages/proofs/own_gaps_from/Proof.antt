@@ -1,6 +1,5 @@
 -- The gaps before the loop's have their sets in the table.
 use Prim.Native.Nat.{_-_}
-use mathlib.Core.Path.{refl}
 use native.Mathlib.Omega.{arith}
 use Rattle.languages.proofs.GapSets.{GapsTo, gaps-none, gaps-more, gap-sets-are}
 use borrow.Author.Needs.{needs}
@@ -17,7 +16,7 @@ first-member-requires : tie.Need-first-member-requires Inv-loop μ-loop
 first-member-requires c κs = search needs
 
 loop-holds : tie.Need-loop-holds Inv-loop μ-loop
-loop-holds c = gaps-none _ _ _ _ _ _ (c .first-member .ensures) refl
+loop-holds c = gaps-none _ _ _ _ _ _ (c .first-member .ensures) (c .before .before .pre .1)
 
 cast-i : tie.Need-cast-i Inv-loop μ-loop
 cast-i c = search needs
@@ -40,9 +39,6 @@ element-copy-out-union-of c = search needs
 union-of-requires : tie.Need-union-of-requires Inv-loop μ-loop
 union-of-requires c κs = search needs
 
-slice-aggregate-put-four : tie.Need-slice-aggregate-put-four Inv-loop μ-loop
-slice-aggregate-put-four c = search needs
-
 mul-put-four : tie.Need-mul-put-four Inv-loop μ-loop
 mul-put-four c = search needs
 
@@ -60,11 +56,14 @@ loop-less c = omega (arith, c .first-member2 .ensures .after)
 
 loop-again : tie.Need-loop-again Inv-loop μ-loop
 loop-again c =
-    let l = c .before .before .before .before .before .before .before .loop in
-    rw (c .before .before .put-four .ensures .0) (gaps-more _ _ _ _ (l .g) _ (l .takes) (c .before .before .before .before .union-of .result) (c .before .before .before .before .before .before .loop-test .taken) (c .first-member2 .ensures) (search needs) (c .before .before .before .before .union-of .ensures) (l .inv))
+    let l = c .before .before .before .before .before .before .before .before .loop in
+    rw (c .before .before .before .put-four .ensures .0) (gaps-more _ _ _ _ (l .g) _ (l .takes) (c .before .before .before .before .before .union-of .result) (c .before .before .before .before .before .before .before .loop-test .taken) (c .first-member2 .ensures) (search needs) (c .before .before .before .before .before .union-of .ensures) (l .inv))
+
+same-length : tie.Need-same-length Inv-loop μ-loop
+same-length c = search needs
 
 returns : tie.Need-returns Inv-loop μ-loop
-returns c φs G M X small bounded keeps are = gap-sets-are _ _ _ _ _ _ (c .before .before .before .pre) (c .before .loop .inv) (c .loop-test .left) φs G M X small bounded keeps are
+returns c φs G M X small bounded keeps are = gap-sets-are _ _ _ _ _ _ (c .before .before .before .before .pre .0) (c .before .loop .inv) (c .loop-test .left) φs G M X small bounded keeps are
 
 pub own-gaps-from-spec : {M : Type 1} → statement M
 own-gaps-from-spec =
@@ -81,11 +80,11 @@ own-gaps-from-spec =
     mul-union-of-2
     element-copy-out-union-of
     union-of-requires
-    slice-aggregate-put-four
     mul-put-four
     put-four-requires
     add-first-member
     first-member-requires-2
     loop-less
     loop-again
+    same-length
     returns)

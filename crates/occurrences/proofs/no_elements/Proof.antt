@@ -1,6 +1,6 @@
 -- The table keeps its length.
 use Prim.Native.Nat.{_-_}
-use mathlib.Core.Path.{_≡_, refl}
+use mathlib.Core.Path.{_≡_}
 use native.Mathlib.Omega.{arith}
 use lib.ListN.{length, length-set}
 use borrow.Author.Needs.{needs}
@@ -14,13 +14,13 @@ abbrev μ-loop : tie.MeasureT-loop
 μ-loop table₀ i₀ table i = 128 - i
 
 loop-holds : tie.Need-loop-holds Inv-loop μ-loop
-loop-holds c = refl
+loop-holds c = c .pre
 
 mul-table : tie.Need-mul-table Inv-loop μ-loop
 mul-table c = search needs
 
-array-write-table : tie.Need-array-write-table Inv-loop μ-loop
-array-write-table c = omega (arith, c .before .loop .inv)
+element-write-table : tie.Need-element-write-table Inv-loop μ-loop
+element-write-table c = omega (arith, c .before .loop .inv)
 
 add-i : tie.Need-add-i Inv-loop μ-loop
 add-i c = search needs
@@ -42,7 +42,7 @@ no-elements-spec =
     μ-loop
     loop-holds
     mul-table
-    array-write-table
+    element-write-table
     add-i
     loop-less
     loop-again

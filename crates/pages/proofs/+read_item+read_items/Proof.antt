@@ -14,7 +14,8 @@ use Rattle.commands.specs.declared.Part.{Part}
 use Rattle.commands.specs.Commands.{byte, command}
 use Rattle.commands.proofs.Laws.{moved}
 use Rattle.pages.specs.ItemReading.{endOf}
-use Rattle.pages.specs.Promises.{partOf, ItemsRead, ItemRead}
+use Rattle.vocabularies.specs.Promises.{partOf}
+use Rattle.pages.specs.Promises.{ItemsRead, ItemRead}
 use Rattle.pages.proofs.Laws.{Onward, element-range, element-end, ended-inside}
 use Rattle.pages.proofs.Agreement.{items-end, items-refused, items-next, item-refused, item-leaf, item-missing, item-deep, item-attributes-refused, item-element, element-permitted}
 use Rattle.pages.proofs.Trees.{attributes-onward, item-onward}
@@ -30,7 +31,7 @@ use Rattle.pages.proofs.after_leaves.Reads as after-leaves-reads
 use Rattle.pages.proofs.end_of.Reads as end-of-reads
 use Rattle.pages.proofs.item_context.Reads as item-context-reads
 use Rattle.pages.proofs.most_nested.Reads as most-nested-reads
-use Rattle.pages.proofs.part_of.Reads as part-of-reads
+use Rattle.vocabularies.proofs.part_of.Reads as part-of-reads
 use Rattle.pages.proofs.read_attributes.Reads as read-attributes-reads
 use Rattle.sets.proofs.has.Reads as has-reads
 use Rattle.pages.proofs.+read_item+read_items.{statement}

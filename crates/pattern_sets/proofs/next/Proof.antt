@@ -1,5 +1,5 @@
 -- The loop passes a word at a time; the patterns before its place are not in the set.
-use Prim.Native.Nat.{_-_, _/_, _%_}
+use Prim.Native.Nat.{_-_}
 use native.Mathlib.Omega.{arith}
 use borrow.Author.Needs.{needs}
 use Rattle.pattern_sets.proofs.Laws.{Passed, passed-none, passed-all, passed-more, found}

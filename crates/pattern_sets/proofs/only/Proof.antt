@@ -1,20 +1,24 @@
--- A pattern is the one given, or is in the empty set.
-use mathlib.Core.Path.{_∙_, ap}
-use mathlib.Core.Bool.{Bool, _||_}
-use lib.Dec.{eqb}
+-- The word in which it stands has its bit, the others none.
+use native.Mathlib.Omega.{arith}
 use borrow.Author.Needs.{needs}
-use Rattle.pattern_sets.proofs.Booleans.{or-absent}
+use Rattle.pattern_sets.proofs.Laws.{only-pattern}
 use Rattle.pattern_sets.proofs.only.Statement.{statement}
 use Rattle.pattern_sets.proofs.only.Tie as tie
-
-empty-requires : tie.Need-empty-requires
-empty-requires c κs = search needs
 
 with-requires : tie.Need-with-requires
 with-requires c κs = search needs
 
 returns : tie.Need-returns
-returns c = λ y. c .with .ensures y ∙ or-absent (eqb y (c .before .before .args .x)) (c .before .empty .ensures y)
+returns c = only-pattern (c .before .before .args .x) (c .before .with .result) (c .before .with .ensures) 0 (omega arith) (c .match .keys1)
+
+returns-2 : tie.Need-returns-2
+returns-2 c = only-pattern (c .before .before .args .x) (c .before .with .result) (c .before .with .ensures) 1 (omega arith) (c .match .keys2)
+
+returns-3 : tie.Need-returns-3
+returns-3 c = only-pattern (c .before .before .args .x) (c .before .with .result) (c .before .with .ensures) 2 (omega arith) (c .match .keys3)
+
+returns-4 : tie.Need-returns-4
+returns-4 c = only-pattern (c .before .before .args .x) (c .before .with .result) (c .before .with .ensures) 3 (omega arith) (omega arith)
 
 pub only-spec : {M : Type 1} → statement M
-only-spec = tie.close (tie.spec empty-requires with-requires returns)
+only-spec = tie.close (tie.spec with-requires returns returns-2 returns-3 returns-4)

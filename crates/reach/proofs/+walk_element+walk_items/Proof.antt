@@ -4,8 +4,8 @@ use Prim.Native.Nat.{ℕ, _<_, _+_, _-_}
 use native.Mathlib.Omega.{arith}
 use lib.ListN.{length}
 use borrow.Author.Needs.{needs}
-use Rattle.reach.proofs.ItemWalks.{element-item}
-use Rattle.reach.proofs.ListWalks.{Going, adds-all, list-ends, list-past, list-text, list-gap, list-more}
+use Rattle.reach.proofs.ItemWalks.{text-item, gap-item, element-item, element-walked}
+use Rattle.reach.proofs.ListWalks.{Going, adds-all, list-ends, list-past, list-more}
 use borrow.Fn.Kinds.{In}
 use borrow.Fn.PlainCycle.{Measures, is, falls, and}
 use Rattle.reach.proofs.walk_element.Reads as walk-element
@@ -19,7 +19,6 @@ use Rattle.reach.proofs.lower.Reads as lower-reads
 use Rattle.reach.proofs.names_at.Reads as names-at-reads
 use Rattle.reach.proofs.outside_at.Reads as outside-at-reads
 use Rattle.reach.proofs.union_of.Reads as union-of-reads
-use Rattle.sets.proofs.union.Reads as union-reads
 use Rattle.sets.proofs.with.Reads as with-reads
 use Rattle.reach.proofs.+walk_element+walk_items.{statement}
 use Rattle.reach.proofs.+walk_element+walk_items.Tie.{close}
@@ -51,10 +50,10 @@ walk-items-below t =
     and 4 walk-items-kinds.ps (falls 4 walk-items-kinds.ps _<_ μ-walk-items t) walk-items.Pre
 
 abbrev element-told : ℕ → walk-element-lts.Claims
-element-told t = (byte-at-reads.Asked, byte-at-reads.Learnt, names-at-reads.Asked, names-at-reads.Learnt, walk-items-below t, walk-items.Post, union-of-reads.Asked, union-of-reads.Learnt, outside-at-reads.Asked, outside-at-reads.Learnt, with-reads.Asked, with-reads.Learnt, lower-reads.Asked, lower-reads.Learnt)
+element-told t = (byte-at-reads.Asked, byte-at-reads.Learnt, names-at-reads.Asked, names-at-reads.Learnt, walk-items-below t, walk-items.Post, union-of-reads.Asked, union-of-reads.Learnt, outside-at-reads.Asked, outside-at-reads.Learnt, lower-reads.Asked, lower-reads.Learnt)
 
 abbrev items-told : ℕ → walk-items-lts.Claims
-items-told t = (with-reads.Asked, with-reads.Learnt, byte-at-reads.Asked, byte-at-reads.Learnt, walk-element-below t, walk-element.Post, union-reads.Asked, union-reads.Learnt, lower-reads.Asked, lower-reads.Learnt)
+items-told t = (with-reads.Asked, with-reads.Learnt, byte-at-reads.Asked, byte-at-reads.Learnt, walk-element-below t, walk-element.Post, lower-reads.Asked, lower-reads.Learnt)
 
 walk-element-add-byte-at : (t : ℕ) → walk-element-lts.Need-add-byte-at (element-told t) (walk-element-at t) walk-element.Post
 walk-element-add-byte-at t c = omega (arith, c .before .pre .1 .0)
@@ -62,8 +61,8 @@ walk-element-add-byte-at t c = omega (arith, c .before .pre .1 .0)
 walk-element-byte-at-requires : (t : ℕ) → walk-element-lts.Need-byte-at-requires (element-told t) (walk-element-at t) walk-element.Post
 walk-element-byte-at-requires t c κs = tt
 
-walk-element-cast-k : (t : ℕ) → walk-element-lts.Need-cast-k (element-told t) (walk-element-at t) walk-element.Post
-walk-element-cast-k t c = search needs
+walk-element-cast-e : (t : ℕ) → walk-element-lts.Need-cast-e (element-told t) (walk-element-at t) walk-element.Post
+walk-element-cast-e t c = search needs
 
 walk-element-add-outside-at : (t : ℕ) → walk-element-lts.Need-add-outside-at (element-told t) (walk-element-at t) walk-element.Post
 walk-element-add-outside-at t c = omega (arith, c .before .before .pre .1 .0)
@@ -92,25 +91,22 @@ walk-element-element-copy-out-outside-at-2 t c = search needs
 walk-element-outside-at-requires : (t : ℕ) → walk-element-lts.Need-outside-at-requires (element-told t) (walk-element-at t) walk-element.Post
 walk-element-outside-at-requires t c κs = omega (arith, c .before .before .before .before .before .before .before .before .before .pre .1 .0, c .before .before .before .before .before .before .before .before .before .good .0 .1)
 
-walk-element-with-requires : (t : ℕ) → walk-element-lts.Need-with-requires (element-told t) (walk-element-at t) walk-element.Post
-walk-element-with-requires t c κs = omega arith
-
 walk-element-lower-requires : (t : ℕ) → walk-element-lts.Need-lower-requires (element-told t) (walk-element-at t) walk-element.Post
 walk-element-lower-requires t c κs = tt
 
 walk-element-returns : (t : ℕ) → walk-element-lts.Need-returns (element-told t) (walk-element-at t) walk-element.Post
 walk-element-returns t c =
-    let first = c .before .before .before .before .before .before .before .before .before .before .before .before .before in
+    let first = c .before .before .before .before .before .before .before .before .before .before .before .before in
     let a = first .args in
-    let b = c .before .before .before .before .before .before .before .before .before .before .before .byte-at in
-    let n = c .before .before .before .before .before .before .before .before .before .before .names-at in
-    let l = c .before .before .before .before .before .before .before .before .walk-items in
-    let u = c .before .before .before .before .before .before .union-of in
-    let o = c .before .before .before .outside-at in (
+    let b = c .before .before .before .before .before .before .before .before .before .before .byte-at in
+    let n = c .before .before .before .before .before .before .before .before .before .names-at in
+    let l = c .before .before .before .before .before .before .before .walk-items in
+    let u = c .before .before .before .before .before .union-of in
+    let o = c .before .before .outside-at in (
       omega (arith, l .ensures .0, n .ensures .0),
-      element-item (a .s .now) (a .attributes .now) (a .contents .now) (a .brings .now) _ (b .result) (b .ensures) (first .pre .1 .1)
-          (n .result) (n .ensures .1) (l .result) (l .ensures .1) (u .result) (o .result) (c .lower .result) (c .before .with .result) (omega (arith, c .before .before .before .before .before .before .before .union-of-arg .given))
-          (u .ensures) (o .ensures) (c .lower .ensures) (c .before .with .ensures),
+      element-walked (a .s .now) (a .attributes .now) (a .contents .now) (a .brings .now) _ (b .result) (b .ensures) (first .pre .1 .1)
+          (n .result) (n .ensures .1) (l .result) (l .ensures .1) (u .result) (o .result) (c .lower .result) (omega (arith, c .before .before .before .before .before .before .union-of-arg .given))
+          (u .ensures) (o .ensures) (c .lower .ensures),
     )
 
 abbrev walk-items-Inv-loop : walk-items-lts.InvT-loop
@@ -139,7 +135,7 @@ walk-items-loop-again t c =
     let l = c .before .before .before .before .loop in
     record {
       forward = omega (arith, l .inv .forward);
-      goes = λ r A. l .inv .goes r (list-text _ _ _ _ _ _ _ _ (c .before .match .keys1) _ (c .with .ensures) r A);
+      goes = λ r A. l .inv .goes r (list-more _ _ _ _ _ _ _ _ _ _ _ _ (rw (c .before .match .keys1)) (text-item _ _ _ _ _ _ _ _ (c .before .match .keys1) _ (c .with .ensures)) r A);
     }
 
 walk-items-add-byte-at : (t : ℕ) → walk-items-lts.Need-add-byte-at (items-told t) (walk-items-at t) walk-items.Post walk-items-Inv-loop walk-items-μ-loop
@@ -163,35 +159,41 @@ walk-items-loop-again-2 t c =
     let b = c .before .byte-at in
     record {
       forward = omega (arith, l .inv .forward);
-      goes = λ r A. l .inv .goes r (list-gap _ _ _ _ _ _ _ _ (c .before .before .match .keys2) (b .result) _ (b .ensures) (c .with2 .ensures) r A);
+      goes = λ r A. l .inv .goes r (list-more _ _ _ _ _ _ _ _ _ _ _ _ (rw (c .before .before .match .keys2)) (gap-item _ _ _ _ _ _ _ _ (c .before .before .match .keys2) (b .result) _ (b .ensures) (c .with2 .ensures)) r A);
     }
 
+walk-items-add-byte-at-2 : (t : ℕ) → walk-items-lts.Need-add-byte-at-2 (items-told t) (walk-items-at t) walk-items.Post walk-items-Inv-loop walk-items-μ-loop
+walk-items-add-byte-at-2 t c = omega arith
+
+walk-items-byte-at-requires-2 : (t : ℕ) → walk-items-lts.Need-byte-at-requires-2 (items-told t) (walk-items-at t) walk-items.Post walk-items-Inv-loop walk-items-μ-loop
+walk-items-byte-at-requires-2 t c κs = tt
+
+walk-items-with-requires-3 : (t : ℕ) → walk-items-lts.Need-with-requires-3 (items-told t) (walk-items-at t) walk-items.Post walk-items-Inv-loop walk-items-μ-loop
+walk-items-with-requires-3 t c κs = omega arith
+
 walk-items-walk-element-requires : (t : ℕ) → walk-items-lts.Need-walk-element-requires (items-told t) (walk-items-at t) walk-items.Post walk-items-Inv-loop walk-items-μ-loop
-walk-items-walk-element-requires t c κs = (omega arith, (omega arith, c .match .keys3))
-
-walk-items-union-requires : (t : ℕ) → walk-items-lts.Need-union-requires (items-told t) (walk-items-at t) walk-items.Post walk-items-Inv-loop walk-items-μ-loop
-walk-items-union-requires t c κs = tt
-
-walk-items-union-requires-2 : (t : ℕ) → walk-items-lts.Need-union-requires-2 (items-told t) (walk-items-at t) walk-items.Post walk-items-Inv-loop walk-items-μ-loop
-walk-items-union-requires-2 t c κs = tt
+walk-items-walk-element-requires t c κs = (omega arith, (omega arith, c .before .before .match .keys3))
 
 walk-items-lower-requires : (t : ℕ) → walk-items-lts.Need-lower-requires (items-told t) (walk-items-at t) walk-items.Post walk-items-Inv-loop walk-items-μ-loop
 walk-items-lower-requires t c κs = tt
 
 walk-items-loop-less-3 : (t : ℕ) → walk-items-lts.Need-loop-less-3 (items-told t) (walk-items-at t) walk-items.Post walk-items-Inv-loop walk-items-μ-loop
-walk-items-loop-less-3 t c = omega (arith, c .before .before .before .before .walk-element .ensures .0)
+walk-items-loop-less-3 t c = omega (arith, c .before .before .walk-element .ensures .0)
 
 walk-items-loop-again-3 : (t : ℕ) → walk-items-lts.Need-loop-again-3 (items-told t) (walk-items-at t) walk-items.Post walk-items-Inv-loop walk-items-μ-loop
 walk-items-loop-again-3 t c =
     let l = c .before .before .before .before .before .before .before .before .loop in
-    let e = c .before .before .before .before .walk-element in
+    let b = c .before .before .before .before .byte-at2 in
+    let e = c .before .before .walk-element in
+    let code = c .before .before .before .before .before .match .keys3 in
     record {
       forward = omega (arith, l .inv .forward, e .ensures .0);
-      goes = λ r A. l .inv .goes r (list-more _ _ _ _ _ _ _ _ (e .result) _ _ _ (omega arith) (e .ensures .1) (c .before .before .before .union .ensures) (c .before .before .union2 .ensures) (c .before .lower .ensures) r A);
+      goes = λ r A. l .inv .goes r (list-more _ _ _ _ _ _ _ _ _ _ _ _ (rw code)
+          (element-item _ _ _ _ _ _ _ _ code (b .result) _ (b .ensures) (c .before .before .before .with3 .ensures) (e .result) (e .ensures .1) _ (c .before .lower .ensures)) r A);
     }
 
-walk-items-add-t21 : (t : ℕ) → walk-items-lts.Need-add-t21 (items-told t) (walk-items-at t) walk-items.Post walk-items-Inv-loop walk-items-μ-loop
-walk-items-add-t21 t c = omega arith
+walk-items-add-t24 : (t : ℕ) → walk-items-lts.Need-add-t24 (items-told t) (walk-items-at t) walk-items.Post walk-items-Inv-loop walk-items-μ-loop
+walk-items-add-t24 t c = omega arith
 
 walk-items-returns : (t : ℕ) → walk-items-lts.Need-returns (items-told t) (walk-items-at t) walk-items.Post walk-items-Inv-loop walk-items-μ-loop
 walk-items-returns t c =
@@ -210,7 +212,7 @@ pub +walk-element+walk-items-spec : {M : Type 1} → statement M
     walk-element.Post
     (walk-element-add-byte-at t)
     (walk-element-byte-at-requires t)
-    (walk-element-cast-k t)
+    (walk-element-cast-e t)
     (walk-element-add-outside-at t)
     (walk-element-names-at-requires t)
     (walk-element-walk-items-requires t)
@@ -220,7 +222,6 @@ pub +walk-element+walk-items-spec : {M : Type 1} → statement M
     (walk-element-mul-outside-at-2 t)
     (walk-element-element-copy-out-outside-at-2 t)
     (walk-element-outside-at-requires t)
-    (walk-element-with-requires t)
     (walk-element-lower-requires t)
     (walk-element-returns t))
     λ t. walk-items-lts.spec (items-told t)
@@ -240,12 +241,13 @@ pub +walk-element+walk-items-spec : {M : Type 1} → statement M
     (walk-items-add-at-2 t)
     (walk-items-loop-less-2 t)
     (walk-items-loop-again-2 t)
+    (walk-items-add-byte-at-2 t)
+    (walk-items-byte-at-requires-2 t)
+    (walk-items-with-requires-3 t)
     (walk-items-walk-element-requires t)
-    (walk-items-union-requires t)
-    (walk-items-union-requires-2 t)
     (walk-items-lower-requires t)
     (walk-items-loop-less-3 t)
     (walk-items-loop-again-3 t)
-    (walk-items-add-t21 t)
+    (walk-items-add-t24 t)
     (walk-items-returns t)
     (walk-items-returns-2 t)

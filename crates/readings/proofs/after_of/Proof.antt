@@ -21,7 +21,7 @@ place-of-requires : tie.Need-place-of-requires
 place-of-requires c κs = search needs
 
 returns-2 : tie.Need-returns-2
-returns-2 c = after-pair (c .before .before .before .before .before .before .args .t1) (c .before .before .before .before .before .before .args .i) (omega arith) (omega arith) (c .before .before .before .if2 .taken) (c .place-of .result) (c .before .wide .result) (c .before .wide .ensures) (c .place-of .ensures)
+returns-2 c = after-pair (c .before .before .before .before .before .before .args .t1) (c .before .before .before .before .before .before .args .i) (omega arith) (omega arith) (c .before .before .before .if2 .taken) (c .place-of .result) (c .before .wide .result) (c .before .wide .ensures .0) (c .place-of .ensures)
 
 returns-3 : tie.Need-returns-3
 returns-3 c = after-single (c .before .before .before .args .t1) (c .before .before .before .args .i) (omega arith) (omega arith) (c .if2 .left)

@@ -18,7 +18,7 @@ wide-requires : tie.Need-wide-requires
 wide-requires c κs = search needs
 
 returns-2 : tie.Need-returns-2
-returns-2 c x y w w′ = differs-in-first x y _ _ _ _ _ _ w w′ (λ e. c .if2 .taken (c .before .wide .ensures ∙ e))
+returns-2 c x y w w′ = differs-in-first x y _ _ _ _ _ _ w w′ (λ e. c .if2 .taken (c .before .wide .ensures .0 ∙ e))
 
 mul-result : tie.Need-mul-result
 mul-result c = search needs
@@ -28,7 +28,7 @@ element-copy-out-result c = search needs
 
 returns-3 : tie.Need-returns-3
 returns-3 c x y w w′ =
-    same-by-second x y _ _ _ _ _ _ w w′ (c .before .before .before .before .if1 .left) (sym (c .before .before .wide .ensures) ∙ c .before .if2 .left)
+    same-by-second x y _ _ _ _ _ _ w w′ (c .before .before .before .before .if1 .left) (sym (c .before .before .wide .ensures .0) ∙ c .before .if2 .left)
 
 pub stands-at-spec : {M : Type 1} → statement M
 stands-at-spec =

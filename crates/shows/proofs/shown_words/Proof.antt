@@ -21,10 +21,10 @@ close-requires c κs = search needs
 
 returns : tie.Need-returns
 returns c =
-    let args = c .before .before .before .before .before .before .args in
-    let load = c .before .before .load in
-    keeps-graph (args .s .now) (args .heads .now) (args .place) (args .p) (c .before .before .before .before .operand .result) (c .before .before .before .template-head .result) (c .before .before .before .before .operand .ensures)
-    (c .before .before .before .template-head .ensures) (load .result) (load .ensures) _ (c .close .ensures)
+    let args = c .before .before .before .before .before .before .before .args in
+    let x = c .before .before .before .before .before .operand in
+    let head = c .before .before .before .before .template-head in
+    keeps-graph (args .s .now) (args .heads .now) (args .place) (args .p) (x .result) (head .result) (x .ensures) (head .ensures) _ (c .before .before .load .ensures .keeps) _ (c .close .ensures)
 
 pub shown-words-spec : {M : Type 1} → statement M
 shown-words-spec = tie.close (tie.spec operand-requires cast-x template-head-requires load-requires close-requires returns)

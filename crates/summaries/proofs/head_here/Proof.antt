@@ -1,6 +1,5 @@
 -- A yes is what the tests lead to.
 use mathlib.Core.Path.{sym}
-use native.Mathlib.Omega.{arith}
 use borrow.Author.Needs.{needs}
 use Rattle.summaries.proofs.head_here.Statement.{statement}
 use Rattle.summaries.proofs.head_here.Tie as tie

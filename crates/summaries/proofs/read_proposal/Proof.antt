@@ -1,11 +1,12 @@
 -- What is kept so far and what reads on from here make up the whole; each head moves the position on.
-use Prim.Native.Nat.{_-_, _≤_}
+use Prim.Native.Nat.{ℕ, _-_, _≤_}
 use mathlib.Core.Path.{_≡_, refl}
+use mathlib.Core.List.{List}
 use native.Mathlib.Omega.{arith}
 use lib.ListN.{length, length-set}
 use borrow.Author.Needs.{needs}
 use Rattle.programs.proofs.Laws.{Stay, stay-below}
-use Rattle.summaries.specs.declared.ProposalRead.{ProposalRead}
+use Rattle.commands.specs.declared.Part.{Part}
 use Rattle.summaries.specs.Promises.{ProposalReads}
 use Rattle.summaries.proofs.Here.{HeadStands, head-stands}
 use Rattle.summaries.proofs.Heads.{Unwritten, none-written, unwritten-after, heads-refused, heads-end, items-refuse, number-low, fewer-after, heads-go-on}
@@ -13,16 +14,16 @@ use Rattle.summaries.proofs.read_proposal.Statement.{statement}
 use Rattle.summaries.proofs.read_proposal.Tie as tie
 
 abbrev Inv-loop : tie.InvT-loop
-Inv-loop s templates points at₀ least₀ heads₀ at least heads =
+Inv-loop s templates points heads₀ at₀ least₀ heads at least =
     (length heads ≡ 256)
     × Unwritten least heads
-    × ((r : ProposalRead) → Stay least heads (r .heads) → ProposalReads templates points s least (at .at) r → ProposalReads templates points s 0 (at₀ .at) r)
+    × ((kept : List ℕ) (r : Part) → Stay least heads kept → ProposalReads templates points s least (at .at) kept r → ProposalReads templates points s 0 (at₀ .at) kept r)
 
 abbrev μ-loop : tie.MeasureT-loop
-μ-loop s templates points at₀ least₀ heads₀ at least heads = length s - at .at
+μ-loop s templates points heads₀ at₀ least₀ heads at least = length s - at .at
 
 loop-holds : tie.Need-loop-holds Inv-loop μ-loop
-loop-holds c = (refl, none-written, λ r k h. h)
+loop-holds c = let e = c .before .pre .1 in (rw e, none-written _ e, λ kept r k h. h)
 
 head-here-requires : tie.Need-head-here-requires Inv-loop μ-loop
 head-here-requires c κs = search needs
@@ -37,10 +38,10 @@ part-of-requires : tie.Need-part-of-requires Inv-loop μ-loop
 part-of-requires c κs = search needs
 
 returns : tie.Need-returns Inv-loop μ-loop
-returns c = c .before .before .before .before .loop .inv .2 _ (record { same = λ i l. refl }) (search heads-refused)
+returns c = c .before .before .before .before .loop .inv .2 _ _ (record { same = λ i l. refl }) (search heads-refused)
 
 returns-2 : tie.Need-returns-2 Inv-loop μ-loop
-returns-2 c = c .before .before .before .before .before .loop .inv .2 _ (record { same = λ i l. refl }) (search heads-end)
+returns-2 c = c .before .before .before .before .before .loop .inv .2 _ _ (record { same = λ i l. refl }) (search heads-end)
 
 head-number-requires : tie.Need-head-number-requires Inv-loop μ-loop
 head-number-requires c κs = search needs
@@ -53,11 +54,11 @@ stands c = head-stands _ _ _ _ _ _ _ (c .before .before .before .before .before 
 rises : (c : tie.After-head-number Inv-loop μ-loop) → c .before .before .before .before .before .before .loop .least ≤ c .head-number .result
 rises c = rw (c .head-number .ensures) (stands c .rises)
 
-array-write-heads : tie.Need-array-write-heads Inv-loop μ-loop
-array-write-heads c = number-low _ _ _ _ _ _ _ (stands c) (c .before .if1 .left) (c .before .before .before .before .before .before .before .before .pre) (c .head-number .ensures)
+element-write-heads : tie.Need-element-write-heads Inv-loop μ-loop
+element-write-heads c = number-low _ _ _ _ _ _ _ (stands c) (c .before .if1 .left) (c .before .before .before .before .before .before .before .before .pre .0) (c .head-number .ensures)
 
 mul-heads : tie.Need-mul-heads Inv-loop μ-loop
-mul-heads c = let l = array-write-heads c in omega arith
+mul-heads c = let l = element-write-heads c in omega arith
 
 operand-requires : tie.Need-operand-requires Inv-loop μ-loop
 operand-requires c κs = search needs
@@ -76,12 +77,12 @@ enum-told-2 c = search needs
 
 returns-3 : tie.Need-returns-3 Inv-loop μ-loop
 returns-3 c =
-    c .before .before .before .before .before .before .before .before .before .before .before .loop .inv .2 _
+    c .before .before .before .before .before .before .before .before .before .before .before .loop .inv .2 _ _
     (stay-below _ _ _ (c .before .before .before .before .before .before .before .before .before .before .before .loop .heads) _ (rises (c .before .before .before .before .before)) (record { same = λ i l. refl }))
-    (items-refuse _ _ _ _ _ _ _ _ (c .before .before .before .before .before .before .before .before .before .before .head-here .ensures) (c .before .before .before .before .before .before .before .before .d .given .1) (c .before .before .before .before .before .before .if1 .left) (stands (c .before .before .before .before .before)) _ (c .before .before .before .before .operand .ensures) _ (c .before .before .before .context-of .ensures) _ (c .before .before .read-facts .ensures) _ _ _ (c .enum-told2 .given .1) refl)
+    (items-refuse _ _ _ _ _ _ _ _ (c .before .before .before .before .before .before .before .before .before .before .head-here .ensures) (c .before .before .before .before .before .before .before .before .d .given .1) (c .before .before .before .before .before .before .if1 .left) (stands (c .before .before .before .before .before)) _ (c .before .before .before .before .operand .ensures) _ (c .before .before .before .context-of .ensures) _ (c .before .before .read-facts .ensures) _ _ _ (c .enum-told2 .given .1))
 
 add-least : tie.Need-add-least Inv-loop μ-loop
-add-least c = let l = array-write-heads (c .before .before .before .before .before .before) in omega arith
+add-least c = let l = element-write-heads (c .before .before .before .before .before .before) in omega arith
 
 loop-less : tie.Need-loop-less Inv-loop μ-loop
 loop-less c =
@@ -91,9 +92,9 @@ loop-again : tie.Need-loop-again Inv-loop μ-loop
 loop-again c = (
   simp length-set (c .before .before .before .before .before .before .before .before .before .before .before .before .loop .inv .0),
   unwritten-after _ _ _ _ (rises (c .before .before .before .before .before .before)) (c .before .before .before .before .before .before .before .before .before .before .before .before .loop .inv .1),
-  λ r k h. c .before .before .before .before .before .before .before .before .before .before .before .before .loop .inv .2 r (stay-below _ _ _ (c .before .before .before .before .before .before .before .before .before .before .before .before .loop .heads) _ (rises (c .before .before .before .before .before .before)) k)
+  λ kept r k h. c .before .before .before .before .before .before .before .before .before .before .before .before .loop .inv .2 kept r (stay-below _ _ _ (c .before .before .before .before .before .before .before .before .before .before .before .before .loop .heads) _ (rises (c .before .before .before .before .before .before)) k)
       (heads-go-on _ _ _ _ _ _ _ _ (c .before .before .before .before .before .before .before .before .before .before .before .head-here .ensures) (c .before .before .before .before .before .before .before .before .before .d .given .1) (c .before .before .before .before .before .before .before .if1 .left) (stands (c .before .before .before .before .before .before)) _ (c .before .before .before .before .before .operand .ensures) _ (c .before .before .before .before .context-of .ensures) _ (c .before .before .before .read-facts .ensures) _ (c .before .items .given .1)
-      _ (c .before .before .before .before .before .before .head-number .ensures) (c .before .before .before .before .before .before .before .before .before .before .before .before .loop .heads) (c .before .before .before .before .before .before .before .before .before .before .before .before .loop .inv .0) (array-write-heads (c .before .before .before .before .before .before)) (c .before .before .before .before .before .before .before .before .before .before .before .before .loop .inv .1) r k h),
+      _ (c .before .before .before .before .before .before .head-number .ensures) (c .before .before .before .before .before .before .before .before .before .before .before .before .loop .heads) (c .before .before .before .before .before .before .before .before .before .before .before .before .loop .inv .0) (element-write-heads (c .before .before .before .before .before .before)) (c .before .before .before .before .before .before .before .before .before .before .before .before .loop .inv .1) kept k r h),
 )
 
 pub read-proposal-spec : {M : Type 1} → statement M
@@ -111,7 +112,7 @@ read-proposal-spec =
     returns-2
     head-number-requires
     mul-heads
-    array-write-heads
+    element-write-heads
     operand-requires
     context-of-requires
     read-facts-requires

@@ -1,4 +1,4 @@
-use mathlib.Core.Path.{sym, ap, _∙_}
+use mathlib.Core.Path.{sym, ap}
 use Rattle.verdicts.specs.Printed.{faultNumbers}
 use borrow.Author.Needs.{needs}
 use Rattle.verdicts.proofs.fault_numbers.Statement.{statement}

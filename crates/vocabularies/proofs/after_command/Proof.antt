@@ -1,6 +1,5 @@
 -- Each command is whole where it stands, and its operands are in range.
 use mathlib.Core.Path.{refl}
-use mathlib.Core.List.{[], _∷_}
 use native.Mathlib.Omega.{arith}
 use borrow.Author.Needs.{needs}
 use Rattle.commands.specs.Commands.{attribute, content, operandsOf, inRange, allowed}

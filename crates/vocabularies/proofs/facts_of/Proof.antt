@@ -1,5 +1,4 @@
 -- The facts that the definition gives each command; the last arm's have none.
-use mathlib.Core.Path.{_≡_}
 use native.Mathlib.Omega.{arith}
 use Rattle.vocabularies.proofs.ShortFormulas.{adds-content, adds-order, adds-value, adds-none}
 use Rattle.vocabularies.proofs.facts_of.Statement.{statement}

@@ -6,7 +6,7 @@ use lib.ListN.{length, length-set}
 use Rattle.vocabularies.specs.Promises.{Long}
 use Rattle.vocabularies.proofs.Parts.{command-fits}
 use Rattle.vocabularies.proofs.Rules.{adds-rule}
-use Rattle.vocabularies.proofs.Vocabularies.{RulesContinue, rules-start, rules-refused, element-fits, rules-rooted, rules-twice, rules-broken, rules-more, rules-fall}
+use Rattle.vocabularies.proofs.Vocabularies.{RulesContinue, rules-start, rules-refused, element-fits, rules-unrooted, rules-rooted, rules-twice, rules-broken, rules-more, rules-fall}
 use Rattle.vocabularies.proofs.read_vocabulary.Statement.{statement}
 use Rattle.vocabularies.proofs.read_vocabulary.Tie as tie
 
@@ -43,17 +43,20 @@ add-byte-at c = record { fits = search command-fits }
 byte-at-requires : tie.Need-byte-at-requires Inv-loop μ-loop
 byte-at-requires c κs = search needs
 
-with-root-requires : tie.Need-with-root-requires Inv-loop μ-loop
-with-root-requires c κs = search element-fits
-
-returns-2 : tie.Need-returns-2 Inv-loop μ-loop
-returns-2 c = search rules-rooted
-
 has-requires : tie.Need-has-requires Inv-loop μ-loop
 has-requires c κs = search element-fits
 
+returns-2 : tie.Need-returns-2 Inv-loop μ-loop
+returns-2 c = search rules-unrooted
+
 returns-3 : tie.Need-returns-3 Inv-loop μ-loop
-returns-3 c = search rules-twice
+returns-3 c = search rules-rooted
+
+has-requires-2 : tie.Need-has-requires-2 Inv-loop μ-loop
+has-requires-2 c κs = search element-fits
+
+returns-4 : tie.Need-returns-4 Inv-loop μ-loop
+returns-4 c = search rules-twice
 
 read-rule-requires : tie.Need-read-rule-requires Inv-loop μ-loop
 read-rule-requires c κs = search needs
@@ -64,8 +67,8 @@ enum-known-part c = search needs
 enum-told-2 : tie.Need-enum-told-2 Inv-loop μ-loop
 enum-told-2 c = search needs
 
-returns-4 : tie.Need-returns-4 Inv-loop μ-loop
-returns-4 c = search rules-broken
+returns-5 : tie.Need-returns-5 Inv-loop μ-loop
+returns-5 c = search rules-broken
 
 cast-i : tie.Need-cast-i Inv-loop μ-loop
 cast-i c = search needs
@@ -124,14 +127,15 @@ read-vocabulary-spec =
     returns
     add-byte-at
     byte-at-requires
-    with-root-requires
-    returns-2
     has-requires
+    returns-2
     returns-3
+    has-requires-2
+    returns-4
     read-rule-requires
     enum-known-part
     enum-told-2
-    returns-4
+    returns-5
     cast-i
     with-requires
     mul-tables
