@@ -25,8 +25,9 @@ use Rattle.patterns.specs.Rounds.{Sets, attributesTake, allTake}
 use Rattle.patterns.specs.Elements.{clauseFails}
 use Rattle.patterns.specs.Shows.{lower, onlyIf, lowestMark, lowestMarkIn}
 use Rattle.patterns.proofs.Tests.{and-right}
-use Rattle.occurrences.specs.Occurrences.{EndsAttributes}
-use Rattle.occurrences.proofs.TemplateItems.{parts, continues, first-code, leaf-is}
+use Rattle.languages.specs.Promises.{EndsAttributes}
+use Rattle.languages.proofs.ItemLaws.{leaf-read}
+use Rattle.occurrences.proofs.TemplateItems.{parts, continues, first-code}
 use Rattle.elements.specs.declared.Clause.{Clause}
 use Rattle.elements.specs.declared.Found.{Found}
 use Rattle.elements.specs.Attributes.{patternsBy}
@@ -97,16 +98,16 @@ module _ (s : List ℕ) (c : Clause) (words takes : List ℕ) (n : ℕ) where
     unfolding lowestMark
     skips next low leaf width nothing F φs G ψ X S φ mid end o L O =
         let C = continues s (L .ruled) (L .fuel) (L .depth) at mid φ low (L .reads) in
-        let (is-leaf, after) = leaf-is s (L .ruled) (C .fuel) (L .depth) at (C .next) (C .first) leaf (C .reads-first) in
+        let read = leaf-read s (L .ruled) (L .depth) at (C .next) (C .first) (C .fuel) leaf (C .reads-first) in
         let a = F φs G ψ X S (C .rest) mid end o (record {
           ruled = L .ruled;
           fuel = C .fuel;
           depth = L .depth;
-          reads = subst (λ (k : ℕ). items (C .fuel) Template (L .ruled) s (L .depth) k ≡ whole (C .rest) mid) (after ∙ width) (C .reads-rest);
+          reads = subst (λ (k : ℕ). items (C .fuel) Template (L .ruled) s (L .depth) k ≡ whole (C .rest) mid) (read .after ∙ width) (C .reads-rest);
           full = rest-full s c words takes n φs G ψ X φ (C .first) (C .rest) (C .is) (L .full);
         }) O in
         let p = failsAt φs G ψ X n (c .element) in
-        let item : lowestMarkIn p (C .first) ≡ none = ap (lowestMarkIn p) is-leaf ∙ nothing p in
+        let item : lowestMarkIn p (C .first) ≡ none = ap (lowestMarkIn p) (read .is) ∙ nothing p in
         let list : lowestMark p φ ≡ lowestMark p (C .rest) = ap (lowestMark p) (C .is) ∙ ap (λ (m : Option ℕ). lower m (lowestMark p (C .rest))) item in
         record { ends = a .ends; finds = a .finds ∙ ap (λ (m : Option ℕ). lower found (lower m o)) (sym list) }
 

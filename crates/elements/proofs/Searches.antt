@@ -43,12 +43,11 @@ use Rattle.clauses.specs.Promises.{ClauseFails}
 use Rattle.clauses.proofs.TrueForms.{tells-failure}
 use Rattle.languages.specs.declared.Line.{Line}
 use Rattle.languages.specs.Tables.{of-clause}
-use Rattle.languages.specs.Promises.{Follows, LineIs, LineBegins, LineWithContent, LineWithGap}
+use Rattle.languages.specs.Promises.{EndsAttributes, Follows, LineIs, LineBegins, LineWithContent, LineWithGap}
 use Rattle.languages.proofs.Uses.{is-as, product-as}
 use Rattle.languages.proofs.ItemLaws.{leaf-read, element-read, gap-range}
 use Rattle.languages.proofs.LineLaws.{follows-unit}
 use Rattle.reach.specs.Walking.{NamesAt}
-use Rattle.occurrences.specs.Occurrences.{EndsAttributes}
 use Rattle.occurrences.proofs.TemplateItems.{parts, continues, first-code}
 use Rattle.elements.specs.declared.Clause.{Clause}
 use Rattle.elements.specs.declared.Found.{Found}

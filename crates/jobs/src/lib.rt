@@ -3,6 +3,7 @@ ghost use mathlib.Core.Path.{_≡_};
 ghost use lib.ListN.{replicate};
 ghost use Rattle.jobs.specs.Promises.{JobReads};
 use commands::Part;
+use pages::MOST_BYTES;
 use pages::TemplatesRead;
 use programs::ProgramRead;
 use verdicts::Form;
@@ -15,8 +16,6 @@ pub struct JobRead {
     pub templates: TemplatesRead,
     pub program: ProgramRead,
 }
-
-const MOST_BYTES: usize = 65535;
 
 // A job that cannot be read.
 fn unread(part: Part) -> JobRead

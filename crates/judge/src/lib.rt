@@ -8,14 +8,13 @@ ghost use Rattle.judging.specs.Promises.{wrongOf};
 ghost use Rattle.judge.specs.Answers.{notRoot, firstRefusal, JudgesRead, JudgesPage};
 use commands::Part;
 use commands::Position;
+use pages::MOST_BYTES;
 use verdicts::Fault;
 use verdicts::Form;
 use verdicts::Place;
 use verdicts::Refusal;
 use verdicts::Verdict;
 use vocabularies::Tables;
-
-const MOST_BYTES: usize = 65535;
 
 fn unreadable(form: Form, at: usize, slice: usize) -> Verdict
     ensures { λ r. ⌜ r ≡ Verdict.Refused (Refusal.Form form (record { at = at; slice = slice })) ⌝ }

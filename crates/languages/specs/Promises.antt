@@ -44,9 +44,13 @@ pub record UnionOf (templates : ℕ) (rows r : List ℕ) : Type 0 where
   pub complete : (m y : ℕ) → m < 32 → member templates m ≡ true → holds (fourAt rows (m * 4)) y ≡ true → holds r y ≡ true
   pub sound : (y : ℕ) → holds r y ≡ true → (m : ℕ) × (m < 32) × (member templates m ≡ true) × (holds (fourAt rows (m * 4)) y ≡ true)
 
+-- The end of the attributes that stand at an offset.
+abbrev pub EndsAttributes : List ℕ → ℕ → ℕ → Type 0
+EndsAttributes s at r = (before : List ℕ) (f end : ℕ) (δ : List Attribute) → attributes f Template s before at ≡ whole δ end → r ≡ end
+
 -- The position after attributes, an item or items that stand at an offset.
 abbrev pub AfterAttributes : List ℕ → ℕ → Position → Type 0
-AfterAttributes s at r = (before : List ℕ) (f end : ℕ) (δ : List Attribute) → attributes f Template s before at ≡ whole δ end → r .at ≡ end
+AfterAttributes s at r = EndsAttributes s at (r .at)
 
 abbrev pub AfterItem : List ℕ → ℕ → Position → Type 0
 AfterItem s at r = (ruled : ℕ → Bool) (f depth end : ℕ) (i : Item) → item f Template ruled s depth at ≡ whole i end → r .at ≡ end

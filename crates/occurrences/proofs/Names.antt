@@ -19,9 +19,10 @@ use Rattle.judging.specs.declared.Named.{Named}
 use Rattle.patterns.proofs.Standing.{Saying}
 use Rattle.reach.specs.Walking.{NamesAt}
 use Rattle.languages.specs.Promises.{AfterItem}
+use Rattle.languages.proofs.ItemLaws.{leaf-read}
 use Rattle.occurrences.specs.Occurrences.{AllElements, AllElementsOf, Tells, AllTold, AllToldOf, Keeps, AddsElement}
 use Rattle.occurrences.specs.Promises.{OpensElement, Passes, NamesInItems}
-use Rattle.occurrences.proofs.TemplateItems.{parts, continues, first-code, leaf-is}
+use Rattle.occurrences.proofs.TemplateItems.{parts, continues, first-code}
 
 -- All elements of which more is said.
 module _ (P Q : Saying) (to : (e mark : ℕ) (δ : List Attribute) (φ : Items) → P e mark δ φ → Q e mark δ φ) where
@@ -77,10 +78,10 @@ module _ (s : List ℕ) (n at : ℕ) where
     unfolding AllElements
     leaf-passed low other next is-next later ruled f depth end φ e =
         let C = continues s ruled f depth at end φ low e in
-        let (is-leaf, after) = leaf-is s ruled (C .fuel) depth at (C .next) (C .first) other (C .reads-first) in
+        let leaf = leaf-read s ruled depth at (C .next) (C .first) (C .fuel) other (C .reads-first) in
         let rest = later ruled (C .fuel) depth end (C .rest)
-        (subst (λ (k : ℕ). items (C .fuel) Template ruled s depth k ≡ whole (C .rest) end) (after ∙ is-next) (C .reads-rest)) in
-        rw (C .is) ((rw is-leaf (no-element (eqb (byte s at) 0x21)), rest .0), rest .1)
+        (subst (λ (k : ℕ). items (C .fuel) Template ruled s depth k ≡ whole (C .rest) end) (leaf .after ∙ is-next) (C .reads-rest)) in
+        rw (C .is) ((rw (leaf .is) (no-element (eqb (byte s at) 0x21)), rest .0), rest .1)
 
     pub text-passed : byte s at ≡ 0x21 → Passes s n table Ends (at + 1) → Passes s n table Ends at
     unfolding operandBytes

@@ -9,15 +9,16 @@ use lib.ListN.{length}
 use lib.Dec.{eqb, leb, ltb}
 use borrow.Author.Tests.{leb-true, ltb-true, ltb-false}
 use Rattle.commands.specs.declared.Context.the-variants.{TemplateItems, TemplateAttributes}
-use Rattle.commands.specs.Commands.{byte, operandsOf, operandBytes, allInRange, allowed}
+use Rattle.commands.specs.Commands.{byte, allowed}
 use Rattle.commands.specs.Reading.{whole}
-use Rattle.commands.proofs.Laws.{byte-past, moved}
+use Rattle.commands.proofs.Laws.{byte-past}
 use Rattle.pages.specs.declared.Kind.the-variants.{Template}
 use Rattle.pages.specs.Items.{Attribute, Item, element, Items, more}
-use Rattle.pages.specs.ItemReading.{endOf, leafAt, attributes, item, items}
-use Rattle.pages.proofs.Whole.{never-unfinished, items-whole, item-whole}
+use Rattle.pages.specs.ItemReading.{endOf, attributes, item, items}
+use Rattle.pages.proofs.Whole.{never-unfinished, items-whole}
 use Rattle.patterns.proofs.Tests.{and-left, and-right}
-use Rattle.occurrences.specs.Occurrences.{EndsAttributes}
+use Rattle.languages.specs.Promises.{EndsAttributes}
+use Rattle.languages.proofs.ItemLaws.{item-begins, element-read}
 
 -- An attribute stands before the end.
 pub attribute-inside : (s : List ℕ) (at : ℕ) → allowed TemplateAttributes (byte s at) ≡ true → at < length s
@@ -39,32 +40,20 @@ module _ (s : List ℕ) (at : ℕ) (code : byte s at ≡ 0x23) (after : ℕ) (en
     pub reads-φ : items fuel Template ruled s (depth + 1) after ≡ whole φ end
     pub is : i ≡ element (byte s (at + 1)) at δ φ
 
-  element-short : allInRange (operandsOf (byte s at)) s (at + 1) ≡ true → byte s (at + 1) ≤ 63
-  unfolding operandBytes allInRange
-  element-short ranges =
-      leb-true (byte s (at + 1)) 63 (and-right (leb 1 (byte s (at + 1))) (leb (byte s (at + 1)) 63) (and-left _ true (rw code at ranges)))
-
   pub parts : (ruled : ℕ → Bool) (f depth end : ℕ) (i : Item) → item f Template ruled s depth at ≡ whole i end → Parts ruled depth i end
-  unfolding item
-  parts ruled zero depth end i e = never-unfinished e
-  parts ruled (suc f) depth end i e = elim (item-whole f Template ruled s depth at i end e) [
-    | inl r ↦ absurd (r .no-element code)
-    | inr r ↦
-        let m = moved TemplateItems s at (byte s at) (r .next) (r .stands) in
-        let two : r .next .at ≡ at + 2 = m .after ∙ (unfold operandBytes in rw code (omega arith)) in
-        let reads-δ : attributes f Template s [] (at + 2) ≡ whole (r .named) (r .inside) =
-        subst (λ (k : ℕ). attributes f Template s [] k ≡ whole (r .named) (r .inside)) two (r .reads-attributes) in
-        let q : after ≡ r .inside = ends [] f (r .inside) (r .named) reads-δ in
-        record {
-          fuel = f;
-          δ = r .named;
-          φ = r .contents;
-          short = element-short (m .ranges);
-          reads-δ = subst (λ (k : ℕ). attributes f Template s [] (at + 2) ≡ whole (r .named) k) (sym q) reads-δ;
-          reads-φ = subst (λ (k : ℕ). items f Template ruled s (depth + 1) k ≡ whole (r .contents) end) (sym q) (r .reads-contents);
-          is = r .is-element;
-        }
-  ]
+  parts ruled f depth end i e =
+      let r = element-read s ruled depth at end i f code e in
+      let q : after ≡ r .inside = ends [] (r .fuel) (r .inside) (r .named) (r .reads-named) in
+      let small = r .small in
+      record {
+        fuel = r .fuel;
+        δ = r .named;
+        φ = r .contents;
+        short = omega arith;
+        reads-δ = subst (λ (k : ℕ). attributes (r .fuel) Template s [] (at + 2) ≡ whole (r .named) k) (sym q) (r .reads-named);
+        reads-φ = subst (λ (k : ℕ). items (r .fuel) Template ruled s (depth + 1) k ≡ whole (r .contents) end) (sym q) (r .reads-contents);
+        is = r .is;
+      }
 
 -- `26` or `27` ends it, and no item begins with these.
 end-high : (depth : ℕ) → 0x26 ≤ endOf depth
@@ -108,19 +97,4 @@ module _ (s : List ℕ) where
 
   -- The item that stands at an offset.
   pub first-code : (ruled : ℕ → Bool) (f depth at end : ℕ) (i : Item) → item f Template ruled s depth at ≡ whole i end → (0x21 ≤ byte s at) × (byte s at ≤ 0x23)
-  unfolding item
-  first-code ruled zero depth at end i e = never-unfinished e
-  first-code ruled (suc f) depth at end i e = elim (item-whole f Template ruled s depth at i end e) [
-    | inl r ↦ item-codes (byte s at) (moved TemplateItems s at (byte s at) (r .next) (r .stands) .permitted)
-    | inr r ↦ item-codes (byte s at) (moved TemplateItems s at (byte s at) (r .next) (r .stands) .permitted)
-  ]
-
-  -- Text or a gap.
-  pub leaf-is : (ruled : ℕ → Bool) (f depth at end : ℕ) (i : Item) → (byte s at ≡ 0x23 → ⊥) → item f Template ruled s depth at ≡ whole i end
-      → (i ≡ leafAt s at (byte s at)) × (end ≡ at + 1 + operandBytes (byte s at))
-  unfolding item
-  leaf-is ruled zero depth at end i n e = never-unfinished e
-  leaf-is ruled (suc f) depth at end i n e = elim (item-whole f Template ruled s depth at i end e) [
-    | inl r ↦ (r .is-leaf, r .after ∙ moved TemplateItems s at (byte s at) (r .next) (r .stands) .after)
-    | inr r ↦ absurd (n (r .opens))
-  ]
+  first-code ruled f depth at end i e = item-codes (byte s at) (item-begins s ruled depth at end i f e .1)

@@ -7,17 +7,10 @@ use mathlib.Core.List.{List}
 use mathlib.Core.Bool.{true}
 use lib.ListN.{length, getD}
 use Rattle.sets.specs.Sets.{member}
-use Rattle.commands.specs.Reading.{whole}
 use Rattle.vocabularies.specs.Vocabulary.{isIn}
-use Rattle.pages.specs.declared.Kind.the-variants.{Template}
 use Rattle.pages.specs.Items.{Attribute, Item, text, gap, element, Items, none, more}
-use Rattle.pages.specs.ItemReading.{attributes}
 use Rattle.pages.specs.RightPages.{names}
 use Rattle.programs.specs.Program.{templateAt}
-
--- The end of the attributes that stand at an offset.
-abbrev pub EndsAttributes : List ℕ → ℕ → ℕ → Type 0
-EndsAttributes s at r = (before : List ℕ) (f end : ℕ) (δ : List Attribute) → attributes f Template s before at ≡ whole δ end → r ≡ end
 
 -- Every element of the items, or of the item, at any depth, is as P says.
 unfoldable mutual

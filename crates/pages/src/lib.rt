@@ -13,9 +13,9 @@ use commands::Position;
 use verdicts::Form;
 use vocabularies::part_of;
 
-const MOST_BYTES: usize = 65535;
+pub const MOST_BYTES: usize = 65535;
 
-const MOST_TEMPLATES: usize = 31;
+pub const MOST_TEMPLATES: usize = 31;
 
 // Which list of items is read: a template of a job, or a page that is judged alone.
 pub enum Kind {

@@ -25,12 +25,13 @@ pub struct Reading {
 // No pattern has a flag there.
 const NOWHERE: u8 = 8;
 
-// The pattern of the empty word.
+// The pattern of the empty word, in every reading.
 pub const EMPTY: u8 = 0;
 
+// By the root, a word that is not empty is the root alone, or other.
 const ALONE: u8 = 1;
 
-const OTHER: u8 = 2;
+pub const OTHER: u8 = 2;
 
 pub fn wide(x: u8) -> u64
     ensures { λ r. ⌜ (r ≡ x) × (r < 256) ⌝ }

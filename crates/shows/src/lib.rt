@@ -4,6 +4,9 @@ ghost use Prim.Native.Nat.{_<_};
 ghost use lib.ListN.{replicate};
 ghost use Rattle.shows.specs.Promises.{TellsShow, KeepsGraph, TabledBy, DecidesShow, isOther, LowestRoot, IsBelow, wrongAt, LowestWrong, WrongElements};
 use commands::Position;
+use pages::MOST_TEMPLATES;
+use readings::EMPTY;
+use readings::OTHER;
 use vocabularies::Tables;
 
 // What is found at a show: nothing; a root template with a page that is not exactly the root element (11); or an element that is
@@ -23,8 +26,6 @@ pub struct TemplateTables {
     pub outer: [u64; 32],
     pub occurrences: [u64; 192],
 }
-
-const MOST_TEMPLATES: usize = 31;
 
 // Whether the statement at an offset shows something.
 pub fn is_show(s: &[u8], place: usize) -> bool
@@ -62,10 +63,6 @@ pub fn tables_of(s: &[u8], gaps: [u64; 32], starts: &[usize; 32], count: usize) 
         occurrences,
     }
 }
-
-const EMPTY: u8 = 0;
-
-const OTHER: u8 = 2;
 
 // Whether a template with pages of these kinds is a root, and some page of it is not the root element alone.
 fn is_other(roots: u64, kinds: [u64; 4], t: usize) -> bool
