@@ -449,6 +449,9 @@ fn texts_alone(preceding: &mut [u64; 64], n: usize) -> u64
     text
 }
 
+// Where `23 e 24 a s` has its string. Elements that differ mostly do so there.
+const FIRST_STRING: usize = 4;
+
 // The offset after the bytes here that spell the same as those from `seen` on up to `past`; 0 if they do not, or none are seen.
 fn after_same(p: &[u8], seen: usize, past: usize, at: usize) -> usize
     requires { ⌜ (seen ≤ past) × (past ≤ at) × (at < length (now p)) ⌝ }
@@ -460,6 +463,11 @@ fn after_same(p: &[u8], seen: usize, past: usize, at: usize) -> usize
     }
     if p.len() - at < n {
         return 0;
+    }
+    if FIRST_STRING < n {
+        if p[at + FIRST_STRING] != p[seen + FIRST_STRING] {
+            return 0;
+        }
     }
     let mut i = 0;
     while i < n {

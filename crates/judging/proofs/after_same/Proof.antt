@@ -26,23 +26,38 @@ sub-if2 c = search needs
 returns-2 : tie.Need-returns-2 Inv-loop μ-loop
 returns-2 c = λ h. absurd (omega (arith, h))
 
-loop-holds : tie.Need-loop-holds Inv-loop μ-loop
-loop-holds c = (omega arith, λ k l. absurd (omega (arith, l)))
+add-if4 : tie.Need-add-if4 Inv-loop μ-loop
+add-if4 c = omega arith
 
-add-if3 : tie.Need-add-if3 Inv-loop μ-loop
-add-if3 c = omega arith
+shared-slice-read-if4 : tie.Need-shared-slice-read-if4 Inv-loop μ-loop
+shared-slice-read-if4 c = omega arith
 
-shared-slice-read-if3 : tie.Need-shared-slice-read-if3 Inv-loop μ-loop
-shared-slice-read-if3 c = omega arith
+add-if4-2 : tie.Need-add-if4-2 Inv-loop μ-loop
+add-if4-2 c = omega arith
 
-add-if3-2 : tie.Need-add-if3-2 Inv-loop μ-loop
-add-if3-2 c = omega arith
-
-shared-slice-read-if3-2 : tie.Need-shared-slice-read-if3-2 Inv-loop μ-loop
-shared-slice-read-if3-2 c = omega arith
+shared-slice-read-if4-2 : tie.Need-shared-slice-read-if4-2 Inv-loop μ-loop
+shared-slice-read-if4-2 c = omega arith
 
 returns-3 : tie.Need-returns-3 Inv-loop μ-loop
 returns-3 c = λ h. absurd (omega (arith, h))
+
+loop-holds : tie.Need-loop-holds Inv-loop μ-loop
+loop-holds c = (omega arith, λ k l. absurd (omega (arith, l)))
+
+add-if5 : tie.Need-add-if5 Inv-loop μ-loop
+add-if5 c = omega arith
+
+shared-slice-read-if5 : tie.Need-shared-slice-read-if5 Inv-loop μ-loop
+shared-slice-read-if5 c = omega arith
+
+add-if5-2 : tie.Need-add-if5-2 Inv-loop μ-loop
+add-if5-2 c = omega arith
+
+shared-slice-read-if5-2 : tie.Need-shared-slice-read-if5-2 Inv-loop μ-loop
+shared-slice-read-if5-2 c = omega arith
+
+returns-4 : tie.Need-returns-4 Inv-loop μ-loop
+returns-4 c = λ h. absurd (omega (arith, h))
 
 add-i : tie.Need-add-i Inv-loop μ-loop
 add-i c = omega arith
@@ -53,16 +68,16 @@ loop-less c = omega arith
 loop-again : tie.Need-loop-again Inv-loop μ-loop
 loop-again c =
     let l = c .before .before .before .before .loop in
-    let s = c .before .before .before .before .before .before .before .args in
-    (omega arith, one-same (s .p .now) (s .at) (s .seen) (l .i) (l .inv .1) (c .if3 .left))
+    let s = c .before .before .before .before .before .before .before .before .args in
+    (omega arith, one-same (s .p .now) (s .at) (s .seen) (l .i) (l .inv .1) (c .if5 .left))
 
 add-result : tie.Need-add-result Inv-loop μ-loop
 add-result c = omega arith
 
-returns-4 : tie.Need-returns-4 Inv-loop μ-loop
-returns-4 c = λ h.
-    let s = c .before .before .before .before in
-    spelt-again (s .args .p .now) (s .args .seen) (s .args .past) (s .args .at) _ (c .before .loop .i) (s .pre .0) (s .pre .1) refl (c .before .before .before .if1 .left) (c .loop-test .left) (c .before .loop .inv .1)
+returns-5 : tie.Need-returns-5 Inv-loop μ-loop
+returns-5 c = λ h.
+    let s = c .before .before .before .before .before in
+    spelt-again (s .args .p .now) (s .args .seen) (s .args .past) (s .args .at) _ (c .before .loop .i) (s .pre .0) (s .pre .1) refl (c .before .before .before .before .if1 .left) (c .loop-test .left) (c .before .loop .inv .1)
 
 pub after-same-spec : {M : Type 1} → statement M
 after-same-spec =
@@ -74,14 +89,19 @@ after-same-spec =
     returns
     sub-if2
     returns-2
-    loop-holds
-    add-if3
-    shared-slice-read-if3
-    add-if3-2
-    shared-slice-read-if3-2
+    add-if4
+    shared-slice-read-if4
+    add-if4-2
+    shared-slice-read-if4-2
     returns-3
+    loop-holds
+    add-if5
+    shared-slice-read-if5
+    add-if5-2
+    shared-slice-read-if5-2
+    returns-4
     add-i
     loop-less
     loop-again
     add-result
-    returns-4)
+    returns-5)
