@@ -1,15 +1,16 @@
 -- The test of one element decides what section 6 asks of it, its contents aside.
-use Prim.Native.Nat.{ℕ}
+use Prim.Native.Nat.{ℕ, zero, suc, _<_, suc-le-suc}
 use native.Mathlib.Omega.{arith}
 use mathlib.Core.Path.{_≡_, refl}
 use mathlib.Core.List.{List, [], _∷_, List·Memᴰ·head, List·Memᴰ·tail, List·Memᴰ·not-nil, List·Memᴰ·cases-cons}
-use mathlib.Core.Bool.{true}
+use mathlib.Core.Bool.{Bool, true}
 use mathlib.Core.Option.{Option, some, none}
 use mathlib.Core.Logic.{_↔_, _⊎_, inl, inr}
-use Rattle.vocabularies.specs.Vocabulary.{Formula, Rule, Vocabulary, ruleOf}
+use lib.ListN.{length, getD}
+use Rattle.vocabularies.specs.Vocabulary.{Formula, truth, Rule, Vocabulary, ruleOf, isIn}
 use Rattle.pages.specs.Items.{Attribute, Items}
-use Rattle.pages.specs.RightPages.{_∈_, names, word, Meets, ElementRight}
-use Rattle.judging.specs.Judgement.{atomsOf, allIn, allTrue, rightUnder, rightBy}
+use Rattle.pages.specs.RightPages.{_∈_, names, word, Meets, ElementRight, Way, no-rule, in-attribute, in-content, in-clause, ElementWrong, unruled, attribute-not-allowed, content-not-allowed, clause-not-met}
+use Rattle.judging.specs.Judgement.{truthOf, atomsOf, allIn, allTrue, rightUnder, rightBy}
 use Rattle.agreement.proofs.Deciding.{Decided, holds, fails, true-iff, decided-iff, decided-and}
 use Rattle.agreement.proofs.Tests.{decided-member, decided-meets}
 
@@ -24,6 +25,24 @@ module _ {A : Type 0} (P : A → Type 0) where
       each : P x → All P l → (a : A) → (a ≡ x) ⊎ (a ∈ l) → P a
       each p h a (inl e) = rw e p
       each p h a (inr m) = h a m
+
+-- What stands at a place of a list is a member; where not all members are as P says, what stands at some place is not.
+placed : {A : Type 0} (d : A) (l : List A) (i : ℕ) → i < length l → getD l i d ∈ l
+placed d [] i h = absurd (omega (arith, h))
+placed d (x ∷ l) zero h = List·Memᴰ·head refl
+placed d (x ∷ l) (suc i) h = List·Memᴰ·tail (placed d l i (omega (arith, h)))
+
+module _ {A : Type 0} (P : A → Type 0) (test : A → Bool) (decide : (a : A) → Decided (P a) (test a)) (d : A) where
+  abbrev OneFails : List A → Type 0
+  OneFails l = (i : ℕ) × (i < length l) × (P (getD l i d) → ⊥)
+
+  one-fails : (l : List A) → (All P l → ⊥) → OneFails l
+  one-fails [] n = absurd (n (λ a m. absurd (List·Memᴰ·not-nil m)))
+  one-fails (x ∷ l) n = go (decide x) (λ p. one-fails l (λ all. n (all-cons P x l .0 (p, all))))
+    where
+      go : {b : Bool} → Decided (P x) b → (P x → OneFails l) → OneFails (x ∷ l)
+      go (fails q) rest = (0, omega arith, q)
+      go (holds p) rest = let (i, h, q) = rest p in (suc i, suc-le-suc h, q)
 
 pub decided-all-in : (ns allowed : List ℕ) → Decided (All (λ n. n ∈ allowed) ns) (allIn ns allowed)
 unfolding allIn
@@ -66,3 +85,33 @@ module _ (D : Vocabulary) (e : ℕ) (δ : List Attribute) (φ : Items) where
 
   pub right-iff : (rightBy (ruleOf (D .rules) e) δ (word φ) ≡ true) ↔ ElementRight D e δ φ
   right-iff = true-iff decided-right
+
+  -- An element is wrong in some way exactly if it is not right.
+  wrong-not-right : {way : Way} → ElementWrong D e δ φ way → ElementRight D e δ φ → ⊥
+  wrong-not-right (unruled p) R = undeclared p R
+  wrong-not-right (attribute-not-allowed {rule = r} a p m n) R = n (under-iff r p .1 R .0 .0 a m)
+  wrong-not-right (content-not-allowed {rule = r} c p m n) R = n (under-iff r p .1 R .0 .1 c m)
+  wrong-not-right (clause-not-met {rule = r} i p h n) R = n (under-iff r p .1 R .1 (getD (r .clauses) i truth) (placed truth (r .clauses) i h))
+
+  not-right-wrong : (ElementRight D e δ φ → ⊥) → (way : Way) × ElementWrong D e δ φ way
+  not-right-wrong not-right = go (ruleOf (D .rules) e) refl
+    where
+      under : (r : Rule) → ruleOf (D .rules) e ≡ some r → {a b c : Bool} → Decided (All (λ a. a ∈ r .attributes) (names δ)) a
+          → Decided (All (λ c. c ∈ r .contents) (word φ)) b → Decided (All (Meets δ φ) (r .clauses)) c → (way : Way) × ElementWrong D e δ φ way
+      under r p (fails n) y z =
+          let (i, h, q) = one-fails (λ a. a ∈ r .attributes) (λ a. isIn a (r .attributes)) (λ a. decided-member a (r .attributes)) 0 (names δ) n in
+          (in-attribute (getD (names δ) i 0), attribute-not-allowed (getD (names δ) i 0) p (placed 0 (names δ) i h) q)
+      under r p (holds a) (fails n) z =
+          let (i, h, q) = one-fails (λ c. c ∈ r .contents) (λ c. isIn c (r .contents)) (λ c. decided-member c (r .contents)) 0 (word φ) n in
+          (in-content (getD (word φ) i 0), content-not-allowed (getD (word φ) i 0) p (placed 0 (word φ) i h) q)
+      under r p (holds a) (holds b) (fails n) =
+          let (i, h, q) = one-fails (Meets δ φ) (truthOf (atomsOf δ (word φ))) (decided-meets δ φ) truth (r .clauses) n in
+          (in-clause i, clause-not-met i p h q)
+      under r p (holds a) (holds b) (holds c) = absurd (not-right (under-iff r p .0 ((a, b), c)))
+
+      go : (o : Option Rule) → ruleOf (D .rules) e ≡ o → (way : Way) × ElementWrong D e δ φ way
+      go none p = (no-rule, unruled p)
+      go (some r) p = under r p (decided-all-in (names δ) (r .attributes)) (decided-all-in (word φ) (r .contents)) (decided-all-met δ φ (r .clauses))
+
+  pub wrong-iff : ((way : Way) × ElementWrong D e δ φ way) ↔ (ElementRight D e δ φ → ⊥)
+  wrong-iff = (λ w. wrong-not-right (w .1), not-right-wrong)

@@ -14,7 +14,7 @@ use Rattle.vocabularies.specs.Vocabulary.{declared}
 use Rattle.programs.specs.Program.{Statement}
 use Rattle.programs.specs.ProgramReading.{statementRead, templatesThere, mostPoints, statementContext, statements, strayed, unlessStrayed, program}
 use Rattle.summaries.specs.ProposalReading.{factAt, factThere, rank, facts, variableOf, factContext, proposal}
-use Rattle.jobs.specs.Job.{job}
+use Rattle.jobs.specs.Job.{script, job}
 use Rattle.agreement.proofs.Readings.{gives, refuses, gives-command, gives-when, gives-then, gives-alone, runs}
 use Rattle.agreement.proofs.Ends.{EndsPast, EndsFrom, vocabulary-ends, templates-end}
 
@@ -63,13 +63,18 @@ module _ (count points : ℕ) (s : List ℕ) where
       (λ _ _. refuses))
       (λ _ _. refuses))
 
+pub script-ends : (s : List ℕ) → EndsPast 0 (script s)
+unfolding script
+script-ends s =
+    gives-then (vocabulary-ends s) λ D next m.
+    gives-then (templates-end (declared (D .rules)) s (enough s) 0 next (omega arith)) λ φs next′ m′.
+    gives-then (program-ends (length φs) s (enough s) next′ (omega arith)) λ ts end m″. gives (omega arith)
+
 parts-end : (s : List ℕ) → EndsPast 0 (job s)
 unfolding job
 parts-end s = gives-alone s
-    (gives-then (vocabulary-ends s) λ D next m.
-    gives-then (templates-end (declared (D .rules)) s (enough s) 0 next (omega arith)) λ φs next′ m′.
-    gives-then (program-ends (length φs) s (enough s) next′ (omega arith)) λ ts next″ m″.
-    gives-then (proposal-ends (length φs) (length ts) s (enough s) 0 next″ (omega arith)) λ hs end n. gives (omega arith))
+    (gives-then (script-ends s) λ π next m.
+    gives-then (proposal-ends (length (π .templates)) (length (π .program)) s (enough s) 0 next (omega arith)) λ hs end n. gives (omega arith))
 
 -- The bytes of a job are read to an end.
 pub job-ends : (s : List ℕ) → job s ≡ unfinished → ⊥

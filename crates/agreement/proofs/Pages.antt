@@ -11,17 +11,17 @@ use borrow.Author.Tests.{eq-eqb}
 use Rattle.vocabularies.specs.Vocabulary.{Vocabulary}
 use Rattle.pages.specs.Items.{Attribute, Item, text, gap, element, Items, more, gapIn, gapInItem}
 use Rattle.pages.specs.Items as Items
-use Rattle.pages.specs.RightPages.{ElementRight, Accepts, AcceptsItem, SomeElement, SomeElementOf, WrongAt}
+use Rattle.pages.specs.RightPages.{ElementRight, Way, ElementWrong, Accepts, AcceptsItem, SomeElement, SomeElementOf, WrongAt}
 use Rattle.judging.specs.Judgement.{orElse, firstWrong, firstWrongItem}
 use Rattle.agreement.proofs.Deciding.{Decided, holds, fails}
-use Rattle.agreement.proofs.Elements.{decided-right}
+use Rattle.agreement.proofs.Elements.{decided-right, wrong-iff}
 use Rattle.agreement.proofs.Gaps.{NoGap}
 use Rattle.agreement.proofs.Marks.{Rises, RisesIn, Stands, StandsIn, within, within-item}
 
 module _ (D : Vocabulary) where
   -- An element of an item is wrong, as `WrongAt` says it of items.
   abbrev pub WrongItem : ℕ → Item → Type 0
-  WrongItem mark i = SomeElementOf (λ e m δ contents. (m ≡ mark) × (ElementRight D e δ contents → ⊥)) i
+  WrongItem mark i = SomeElementOf (λ e m δ contents. (m ≡ mark) × ((way : Way) × ElementWrong D e δ contents way)) i
 
   -- What was found: no wrong element, and then items without gaps are accepted; or an element that is wrong.
   pub data Found (φ : Items) : Option ℕ → Type 0 where
@@ -51,7 +51,7 @@ module _ (D : Vocabulary) where
   found-element : {e mark : ℕ} {δ : List Attribute} {φ : Items} {b : Bool} {o : Option ℕ} → Decided (ElementRight D e δ φ) b → Found D φ o
       → FoundIn D (element e mark δ φ) (cond b o (some mark))
   unfolding WrongAt SomeElement Accepts gapIn
-  found-element (fails n) f = wrong-in (inl (refl, n))
+  found-element {e} {δ = δ} {φ = φ} (fails n) f = wrong-in (inl (refl, wrong-iff D e δ φ .1 n))
   found-element (holds r) (wrong w) = wrong-in (inr w)
   found-element (holds r) (no-wrong k) = no-wrong-in (λ n. (r, k n))
 
@@ -83,7 +83,7 @@ module _ (D : Vocabulary) where
     accepts-item-right : (i : Item) (mark : ℕ) → AcceptsItem D i → WrongItem D mark i → ⊥
     accepts-item-right text mark a w = w
     accepts-item-right (gap g) mark a w = w
-    accepts-item-right (element e m δ φ) mark a (inl w) = w .1 (a .0)
+    accepts-item-right (element e m δ φ) mark a (inl w) = wrong-iff D e δ φ .0 (w .1) (a .0)
     accepts-item-right (element e m δ φ) mark a (inr w) = accepts-right φ mark (a .1) w
 
   none-found : {φ : Items} → Found D φ none → NoGap φ → Accepts D φ
@@ -153,7 +153,7 @@ module _ (D : Vocabulary) (mark : ℕ) where
     found-in-by-then : (i : Item) (low high : ℕ) → RisesIn low i high → WrongItem D mark i → ByThen mark (firstWrongItem D i)
     found-in-by-then text low high r w = absurd w
     found-in-by-then (gap g) low high r w = absurd w
-    found-in-by-then (element e m δ φ) low high r (inl w) = at-element m (firstWrong D φ) (w .0) (w .1) (decided-right D e δ φ)
+    found-in-by-then (element e m δ φ) low high r (inl w) = at-element m (firstWrong D φ) (w .0) (wrong-iff D e δ φ .0 (w .1)) (decided-right D e δ φ)
     found-in-by-then (element e m δ φ) low high r (inr w) =
         in-element m (within φ (m + 1) high mark (r .1) (wrong-stands D φ mark w) .0) (decided-right D e δ φ)
         (found-by-then φ (m + 1) high (r .1) w)

@@ -4,13 +4,14 @@ use Prim.Native.Nat.{ℕ, _≤_}
 use native.Mathlib.Omega.{arith}
 use mathlib.Core.Path.{_≡_, refl, sym, _∙_, ap}
 use mathlib.Core.List.{List}
-use mathlib.Core.Bool.{Bool, cond}
+use mathlib.Core.Bool.{Bool, true, cond, false≢true}
 use mathlib.Core.Option.{Option, some, none}
 use mathlib.Core.Logic.{_↔_}
 use Rattle.verdicts.specs.declared.Fault.the-variants.{NotRoot}
 use Rattle.verdicts.specs.declared.Refusal.the-variants as Refusals
 use Rattle.verdicts.specs.declared.Verdict.{Verdict}
-use Rattle.verdicts.specs.declared.Verdict.the-variants.{Accepted, Refused}
+use Rattle.verdicts.specs.declared.Verdict.the-variants.{Refused}
+use Rattle.verdicts.specs.Acceptance.{accepts}
 use Rattle.commands.specs.Reading.{Read, whole, refused, unfinished}
 use Rattle.vocabularies.specs.Vocabulary.{Vocabulary}
 use Rattle.vocabularies.specs.VocabularyReading.{vocabularySlice}
@@ -95,9 +96,13 @@ module _ {v p : List ℕ} where
   pub unique : {a b : Verdict} → PageVerdict v p a → PageVerdict v p b → a ≡ b
   unique A B = sym (computes A) ∙ computes B
 
-  accepted-right : PageVerdict v p Accepted → (D : Vocabulary) × (page : Items) × Readable v p D page × Right D page
-  accepted-right (accepted {D} {page} R r) = (D, page, R, r)
+  accepted-right : {a : Verdict} → accepts a ≡ true → PageVerdict v p a → (D : Vocabulary) × (page : Items) × Readable v p D page × Right D page
+  accepted-right e (unreadable-vocabulary r) = absurd (false≢true e)
+  accepted-right e (unreadable-page r r′) = absurd (false≢true e)
+  accepted-right e (not-root R n) = absurd (false≢true e)
+  accepted-right e (wrong-element R a w l) = absurd (false≢true e)
+  accepted-right e (accepted {D} {page} R r) = (D, page, R, r)
 
 -- The page passes exactly when it and its vocabulary can be read and it is right.
-pub passes : (v p : List ℕ) → (pageVerdict v p ≡ Accepted) ↔ ((D : Vocabulary) × (page : Items) × Readable v p D page × Right D page)
-passes v p = (λ e. accepted-right (rw e at (pageVerdict-is v p)), λ t. computes (accepted (t .2) (t .3)))
+pub passes : (v p : List ℕ) → (accepts (pageVerdict v p) ≡ true) ↔ ((D : Vocabulary) × (page : Items) × Readable v p D page × Right D page)
+passes v p = (λ e. accepted-right e (pageVerdict-is v p), λ t. ap accepts (computes (accepted (t .2) (t .3))))

@@ -16,11 +16,12 @@ use Rattle.commands.specs.Reading.{whole}
 use Rattle.pages.specs.Items.{Items}
 use Rattle.programs.specs.Program.{templateAt}
 use Rattle.programs.proofs.Laws.{agrees-whole, agrees-refuses}
+use Rattle.summaries.specs.Summaries.{Environment, entries}
 use Rattle.jobs.specs.declared.JobRead.{JobRead}
-use Rattle.jobs.specs.Job.{Job, job}
+use Rattle.jobs.specs.Job.{Script, Job, job}
 use Rattle.jobs.specs.Promises.{JobKept, JobReads}
-use Rattle.jobs.specs.JobVerdict.{AllCovered, JobVerdict, unreadable, start-uncovered, step-uncovered}
-use Rattle.entries.specs.Gaps.{GapsAre, StartsAt, GapsTable}
+use Rattle.jobs.specs.JobVerdict.{AllCovered, ScriptVerdict, start-uncovered, step-uncovered, JobVerdict, unreadable, readable}
+use Rattle.pages.specs.Gaps.{GapsAre, StartsAt, GapsTable}
 use Rattle.covering.specs.declared.Covering.{Covering}
 use Rattle.covering.specs.declared.Covering.the-variants.{Covered, Uncovered}
 use Rattle.covering.specs.Promises.{Covers}
@@ -29,30 +30,31 @@ use Rattle.shows.specs.declared.TemplateTables.{TemplateTables}
 use Rattle.shows.specs.Promises.{TabledBy}
 use Rattle.checker.specs.Promises.{ReadAt}
 
-module _ (s : List ℕ) (j : Job) (end : ℕ) (reads : job s ≡ whole j end) where
-  -- 9 and 10.
-  pub uncovered : (r : Covering) → Covers j r → (c : Cover) → r ≡ Uncovered c → JobVerdict s (Verdicts.Refused (Refusals.Cover c))
-  uncovered r h c e = go c (subst (Covers j) e h)
+-- 9 and 10.
+module _ {π : Script} {E : ℕ → Environment} where
+  pub uncovered : (r : Covering) → Covers π E r → (c : Cover) → r ≡ Uncovered c → ScriptVerdict π E (Verdicts.Refused (Refusals.Cover c))
+  uncovered r h c e = go c (subst (Covers π E) e h)
     where
-      go : (c : Cover) → Covers j (Uncovered c) → JobVerdict s (Verdicts.Refused (Refusals.Cover c))
-      go (Start v) f = start-uncovered reads (f .variable) (f .fails) (f .before)
-      go (Step p next v) f = rw (f .next-is) (step-uncovered (f .second) reads (f .start) (f .variable) (f .fails) (f .before))
+      go : (c : Cover) → Covers π E (Uncovered c) → ScriptVerdict π E (Verdicts.Refused (Refusals.Cover c))
+      go (Start v) f = start-uncovered (f .variable) (f .fails) (f .before)
+      go (Step p next v) f = rw (f .next-is) (step-uncovered (f .second) (f .start) (f .variable) (f .fails) (f .before))
 
-  pub covered : (r : Covering) → Covers j r → r ≡ Covered → AllCovered j
-  covered r h e = subst (Covers j) e h
+  pub covered : (r : Covering) → Covers π E r → r ≡ Covered → AllCovered π E
+  covered r h e = subst (Covers π E) e h
 
+module _ (s : List ℕ) (j : Job) (end : ℕ) (reads : job s ≡ whole j end) where
   -- The gaps of its templates.
   pub gaps-table : (heads : List ℕ) (read : JobRead) → JobKept s heads j read → (gaps : List ℕ)
       → ((φs : List Items) → StartsAt s φs (read .templates .starts) → read .templates .count ≡ length φs → (t : ℕ) → t ≤ read .templates .count → t < 32 → GapsAre (getD gaps t 0) (templateAt φs t))
-      → GapsTable gaps (j .templates)
+      → GapsTable gaps (j .script .templates)
   gaps-table heads read K gaps told t l =
       let T = tables-of s heads j end read reads K in
       let few = T .few-templates in
       let is = T .count-is in
-      told (j .templates) (T .start) is t (omega (arith, l, is)) (omega (arith, l, is, few))
+      told (j .script .templates) (T .start) is t (omega (arith, l, is)) (omega (arith, l, is, few))
 
   -- What is known of its parts.
-  pub read-at : (heads : List ℕ) (read : JobRead) → JobKept s heads j read → (gaps : List ℕ) → GapsTable gaps (j .templates) → (templates : TemplateTables) → TabledBy s gaps (read .templates .starts) (read .templates .count) templates
+  pub read-at : (heads : List ℕ) (read : JobRead) → JobKept s heads j read → (gaps : List ℕ) → GapsTable gaps (j .script .templates) → (templates : TemplateTables) → TabledBy s gaps (read .templates .starts) (read .templates .count) templates
       → ReadAt s (read .tables) templates (read .templates .count) (read .templates .starts) (read .program .count) (read .program .places) heads j
   read-at heads read K gaps table templates tabled =
       let T = tables-of s heads j end read reads K in
@@ -61,7 +63,7 @@ module _ (s : List ℕ) (j : Job) (end : ℕ) (reads : job s ≡ whole j end) wh
         reads = reads;
         vocabulary = K .vocabulary;
         located = K .templates;
-        tabled = tabled (j .templates) table (T .start) (T .count-is) (T .few-templates);
+        tabled = tabled (j .script .templates) table (T .start) (T .count-is) (T .few-templates);
         names = read .program .named;
         parts = T;
       }
@@ -73,7 +75,7 @@ refused s heads r h f at e v is = rw is (unreadable (agrees-refuses (λ j end. J
 
 -- A job that was read whole has the verdict that is found for it.
 pub read-whole : (s heads : List ℕ) (r : JobRead) → JobReads s heads r → (p : Position) → r .part ≡ Whole p → (v : Verdict)
-    → ((j : Job) (end : ℕ) → job s ≡ whole j end → JobKept s heads j r → JobVerdict s v) → JobVerdict s v
+    → ((j : Job) (end : ℕ) → job s ≡ whole j end → JobKept s heads j r → ScriptVerdict (j .script) (entries (j .proposal)) v) → JobVerdict s v
 read-whole s heads r h p e v found =
     let w = agrees-whole (λ j end. JobKept s heads j r) (job s) (r .part) p e h in
-    found (w .tree) (w .end) (w .reads) (w .holds)
+    readable (w .reads) (found (w .tree) (w .end) (w .reads) (w .holds))

@@ -3,7 +3,6 @@ use Prim.Native.Nat.{ℕ, _≤_, _<_}
 use mathlib.Core.Path.{_≡_}
 use mathlib.Core.List.{List}
 use mathlib.Core.Option.{some}
-use lib.ListN.{getD}
 use Rattle.verdicts.specs.declared.Fault.the-variants.{WrongElement}
 use Rattle.verdicts.specs.declared.Fault.the-variants as Faults
 use Rattle.verdicts.specs.declared.Refusal.the-variants as Refusals
@@ -15,16 +14,15 @@ use Rattle.vocabularies.specs.Vocabulary.{declared}
 use Rattle.vocabularies.specs.Promises.{Describes}
 use Rattle.pages.specs.Promises.{Located}
 use Rattle.summaries.specs.Proposal.{Claim}
-use Rattle.summaries.specs.Summaries.{Summary}
-use Rattle.summaries.specs.Languages.{graphShown}
+use Rattle.summaries.specs.Summaries.{Summary, entries}
 use Rattle.jobs.specs.Job.{Job, job}
 use Rattle.jobs.specs.JobVerdict.{ShowHolds}
-use Rattle.entries.specs.Words.{InWords, holds}
+use Rattle.graphs.specs.Graphs.{InWords, holds}
 use Rattle.covering.specs.Tables.{Tables}
 use Rattle.shows.specs.declared.TemplateTables.{TemplateTables}
 use Rattle.shows.specs.declared.Shown.{Shown}
 use Rattle.shows.specs.declared.Shown.the-variants.{Right, NotRoot, Wrong}
-use Rattle.shows.specs.Promises.{TablesOf}
+use Rattle.shows.specs.Promises.{shownAt, TablesOf}
 
 -- 11 or 12 at a point, or no refusal.
 abbrev pub faultAt : ℕ → Shown → Verdict
@@ -36,22 +34,18 @@ faultAt p (Wrong t at) = Refused (Refusals.Page (WrongElement p t at))
 pub record ReadAt (s : List ℕ) (rules : Vocabularies.Tables) (templates : TemplateTables) (count : ℕ) (starts : List ℕ) (points : ℕ) (places heads : List ℕ) (j : Job) : Type 0 where
   pub end : ℕ
   pub reads : job s ≡ whole j end
-  pub vocabulary : Describes s (j .vocabulary) rules
-  pub located : Located (declared (j .vocabulary .rules)) s (j .templates) count starts
-  pub tabled : TablesOf (j .templates) count templates
+  pub vocabulary : Describes s (j .script .vocabulary) rules
+  pub located : Located (declared (j .script .vocabulary .rules)) s (j .script .templates) count starts
+  pub tabled : TablesOf (j .script .templates) count templates
   pub names : ℕ
   pub parts : Tables j s count starts points places names heads
 
--- Every show whose graph has these words holds.
-abbrev pub RightWords : Job → List ℕ → Type 0
-RightWords j words = (q : ℕ) (G : Summary) → graphShown (j .program) (j .proposal) q ≡ some G → ((c : Claim) → InWords c → G c ≡ holds words c) → ShowHolds j q
+-- Every show of what this graph holds is right.
+abbrev pub RightGraph : Job → List ℕ → Type 0
+RightGraph j graph = (q : ℕ) (G : Summary) → shownAt j q ≡ some G → ((c : Claim) → InWords c → G c ≡ holds graph c) → ShowHolds (j .script) (entries (j .proposal)) q
 
--- Where every show with these words holds, those of the points from one up to another do.
-pub record PassedBy (s heads places : List ℕ) (points : ℕ) (words : List ℕ) (from next : ℕ) : Type 0 where
+-- Where every show of a graph is right, those of the points from one up to another are.
+pub record PassedBy (s heads places : List ℕ) (points : ℕ) (graph : List ℕ) (from next : ℕ) : Type 0 where
   pub forward : from ≤ next
   pub hold : (rules : Vocabularies.Tables) (templates : TemplateTables) (count : ℕ) (starts : List ℕ) (j : Job)
-      → ReadAt s rules templates count starts points places heads j → RightWords j words → (q : ℕ) → from ≤ q → q < next → ShowHolds j q
-
--- The words of two graphs are the same.
-abbrev pub SameWords : List ℕ → List ℕ → Type 0
-SameWords a b = (i : ℕ) → i < 544 → getD a i 0 ≡ getD b i 0
+      → ReadAt s rules templates count starts points places heads j → RightGraph j graph → (q : ℕ) → from ≤ q → q < next → ShowHolds (j .script) (entries (j .proposal)) q

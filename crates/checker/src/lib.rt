@@ -1,16 +1,17 @@
 // The check of a job (document 01, "Verdicts", Check a job): its reading, its covering, and each show in turn.
 ghost use mathlib.Core.Path.{_≡_};
-ghost use mathlib.Core.Bool.{true};
 ghost use Prim.Native.Nat.{ℕ};
 ghost use Rattle.commands.specs.Reading.{whole};
+ghost use Rattle.summaries.specs.Summaries.{entries};
 ghost use Rattle.jobs.specs.Job.{Job, job};
 ghost use Rattle.jobs.specs.Promises.{JobKept};
-ghost use Rattle.jobs.specs.JobVerdict.{AllCovered, JobVerdict};
+ghost use Rattle.jobs.specs.JobVerdict.{AllCovered, ScriptVerdict};
 ghost use Rattle.jobs.specs.Guarantee.{Guarantee};
 ghost use Rattle.checker.specs.Verdicts.{TheVerdict};
-ghost use Rattle.checker.specs.Promises.{faultAt, ReadAt, SameWords, PassedBy};
+ghost use Rattle.checker.specs.Promises.{faultAt, ReadAt, PassedBy};
 use commands::Part;
 use covering::Covering;
+use graphs::Graph;
 use jobs::JobRead;
 use shows::Shown;
 use shows::TemplateTables;
@@ -48,38 +49,22 @@ fn fault_at(p: usize, found: Shown) -> Verdict
     }
 }
 
-// Whether two graphs have the same words.
-fn same_words(a: &[u64; 544], b: &[u64; 544]) -> bool
-    ensures { λ r. ⌜ (r ≡ true → SameWords (now (a .entry)) (now (b .entry))) ⌝ }
-{
-    let mut i: usize = 0;
-    while i < 544 {
-        if a[i] != b[i] {
-            return false;
-        }
-        i += 1;
-    }
-    true
-}
-
-// The lowest point from one on whose show has other words than these, or the number of points.
+// The lowest point from one on that shows another graph than this one, or the number of points.
 fn other_show(
     s: &[u8],
     heads: &[usize; 256],
     places: &[usize; 32],
     points: usize,
-    words: &[u64; 544],
+    graph: &Graph,
     from: usize,
 ) -> usize
-    ensures { λ r. ⌜ PassedBy (now (s .entry)) (now (heads .entry)) (now (places .entry)) points (now (words .entry)) from r ⌝ }
+    ensures { λ r. ⌜ PassedBy (now (s .entry)) (now (heads .entry)) (now (places .entry)) points (now (graph .entry)) from r ⌝ }
 {
     let mut q = from;
     while q < points {
-        let at = places[q % 32];
-        if shows::is_show(s, at) {
-            let mut others = [0u64; 544];
-            shows::shown_words(s, heads, at, q, &mut others);
-            if !same_words(words, &others) {
+        let mut other = graphs::none();
+        if shows::shown_graph(s, heads, places[q % 32], q, &mut other) {
+            if !graphs::same(graph, &other) {
                 return q;
             }
         }
@@ -88,7 +73,7 @@ fn other_show(
     q
 }
 
-// Each show in turn, the lowest point first. A show with the words of the one before it is right as that one was.
+// Each show in turn, the lowest point first. A show of the graph of the one before it is right as that one was.
 fn first_fault(
     s: &[u8],
     rules: Tables,
@@ -99,20 +84,19 @@ fn first_fault(
     places: &[usize; 32],
     heads: &[usize; 256],
 ) -> Verdict
-    ensures { λ r. ⌜ ((j : Job) → ReadAt (now (s .entry)) rules templates count (now (starts .entry)) points (now (places .entry)) (now (heads .entry)) j → AllCovered j → JobVerdict (now (s .entry)) r) ⌝ }
+    ensures { λ r. ⌜ ((j : Job) → ReadAt (now (s .entry)) rules templates count (now (starts .entry)) points (now (places .entry)) (now (heads .entry)) j → AllCovered (j .script) (entries (j .proposal)) → ScriptVerdict (j .script) (entries (j .proposal)) r) ⌝ }
 {
     let mut p: usize = 0;
     while p < points {
         let place = places[p % 32];
-        if shows::is_show(s, place) {
-            let mut words = [0u64; 544];
-            shows::shown_words(s, heads, place, p, &mut words);
-            let found = shows::decide(s, rules, templates, count, starts, &words);
+        let mut graph = graphs::none();
+        if shows::shown_graph(s, heads, place, p, &mut graph) {
+            let found = shows::decide(s, rules, templates, count, starts, &graph);
             let verdict = fault_at(p, found);
-            let Verdict::Accepted = verdict else {
+            if !verdicts::is_accepted(verdict) {
                 return verdict;
-            };
-            p = other_show(s, heads, places, points, &words, p + 1);
+            }
+            p = other_show(s, heads, places, points, &graph, p + 1);
         } else {
             p += 1;
         }
@@ -122,13 +106,13 @@ fn first_fault(
 
 // The verdict of a job that was read: 9 and 10, then the shows.
 fn check_read(s: &[u8], heads: &[usize; 256], read: JobRead) -> Verdict
-    ensures { λ r. ⌜ ((j : Job) (end : ℕ) → job (now (s .entry)) ≡ whole j end → JobKept (now (s .entry)) (now (heads .entry)) j read → JobVerdict (now (s .entry)) r) ⌝ }
+    ensures { λ r. ⌜ ((j : Job) (end : ℕ) → job (now (s .entry)) ≡ whole j end → JobKept (now (s .entry)) (now (heads .entry)) j read → ScriptVerdict (j .script) (entries (j .proposal)) r) ⌝ }
 {
     let count = read.templates.count;
     let starts = read.templates.starts;
     let points = read.program.count;
     let places = read.program.places;
-    let gaps = entries::gaps_of(s, &starts, count);
+    let gaps = pages::gaps_of(s, &starts, count);
     let covering = covering::first_uncovered(s, &gaps, points, &places, read.program.named, heads);
     match covering {
         Covering::Uncovered(cover) => Verdict::Refused(Refusal::Cover(cover)),

@@ -1,76 +1,54 @@
 -- The flags that one attribute gives: only to the facts about its name.
 use Prim.Native.Nat.{ℕ, suc, _+_, _-_, _*_, _^_, _<_, _≤_}
-use mathlib.Core.Path.{_≡_, refl, sym, ap, _∙_}
+use mathlib.Core.Path.{_≡_, sym, ap, _∙_}
 use mathlib.Core.List.{List, [], _∷_}
-use mathlib.Core.Bool.{Bool, true, false, cond, not, _&&_, and-true, or-false}
+use mathlib.Core.Bool.{Bool, true, false, cond, or-false}
 use native.Mathlib.Omega.{arith}
 use lib.ListN.{length, getD, drop}
 use lib.Seq.{drop-cons, drop-length}
-use lib.Dec.{eqb}
 use lib.Pow.{pow-pos, pow-mono}
 use borrow.Author.Tests.{eq-eqb, ne-eqb}
-use Rattle.sets.specs.Sets.{member}
+use Rattle.strings.specs.declared.StringSet.{StringSet}
+use Rattle.strings.specs.Strings.{hasString}
 use Rattle.vocabularies.specs.Vocabulary.{isIn}
+use Rattle.vocabularies.specs.declared.Fact as Kept
+use Rattle.vocabularies.specs.declared.Fact.the-variants.{Present, Ordered, Valued}
 use Rattle.vocabularies.specs.declared.Facts.{Facts}
-use Rattle.vocabularies.specs.Facts.{Fact, present, ordered, valued}
-use Rattle.vocabularies.specs.Promises.{Written, Stored}
+use Rattle.vocabularies.specs.Facts.{Fact, present}
+use Rattle.vocabularies.specs.Promises.{meaningOf, keptAt, Stored}
 use Rattle.judging.specs.Judgement.{precedes, holdsValue}
 use Rattle.patterns.specs.Patterns.{flagged, numbered, patternOf}
 use Rattle.readings.specs.Promises.{OfFacts}
 use Rattle.readings.proofs.Placing.{few-count}
-use Rattle.clauses.specs.Promises.{alone, Flags, IsPattern, NarrowsAt}
+use Rattle.clauses.specs.Promises.{alone, IsPattern}
 
--- The fact is about the attribute, or is not.
-not-valued : (a s : ℕ) (f : Fact) (kind first second : ℕ) → Written f kind first second → (kind ≡ 2 → ⊥) → flagged (alone a s) [] f ≡ false
-unfolding isIn precedes
-not-valued a s (present c) kind first second w n = refl
-not-valued a s (ordered c d) kind first second w n = refl
-not-valued a s (valued b m) kind first second w n = absurd (n (w .has-kind))
+-- The strings with which attribute a alone has the flag of a fact.
+abbrev pub Tells : Kept.Fact → ℕ → StringSet → Type 0
+Tells y a told = (s : ℕ) → hasString told s ≡ flagged (alone a s) [] (meaningOf y)
 
-other-name : (a s : ℕ) (f : Fact) (kind first second : ℕ) → Written f kind first second → (first ≡ a → ⊥) → flagged (alone a s) [] f ≡ false
-unfolding isIn precedes holdsValue
-other-name a s (present c) kind first second w n = refl
-other-name a s (ordered c d) kind first second w n = refl
-other-name a s (valued b m) kind first second w n = rw (ne-eqb a b (λ e. n (w .has-first ∙ sym e)))
+module _ (a : ℕ) (y : Kept.Fact) (told : StringSet) where
+  pub tells-content : (c : ℕ) → y ≡ Present c → ((s : ℕ) → hasString told s ≡ false) → Tells y a told
+  unfolding isIn
+  tells-content c e none s = rw e (none s)
 
-this-name : (a s : ℕ) (f : Fact) (kind first second : ℕ) → Written f kind first second → kind ≡ 2 → first ≡ a
-    → flagged (alone a s) [] f ≡ member second s
-unfolding holdsValue
-this-name a s (present c) kind first second w k e = let z : kind ≡ 0 = w .has-kind in absurd (omega arith)
-this-name a s (ordered c d) kind first second w k e = let z : kind ≡ 1 = w .has-kind in absurd (omega arith)
-this-name a s (valued b m) kind first second w k e =
-    rw (eq-eqb a b (sym e ∙ w .has-first), or-false (member m s)) (ap (λ (n : ℕ). member n s) (sym (w .has-second)))
+  pub tells-pair : (c d : ℕ) → y ≡ Ordered c d → ((s : ℕ) → hasString told s ≡ false) → Tells y a told
+  unfolding precedes
+  tells-pair c d e none s = rw e (none s)
 
-module _ (t : Facts) (i a s : ℕ) where
-  pub flag-not-valued : (getD (t .kinds) i 0 ≡ 2 → ⊥) → Flags t i a s false
-  flag-not-valued n f w = sym (not-valued a s f (getD (t .kinds) i 0) (getD (t .firsts) i 0) (getD (t .seconds) i 0) w n)
+  pub tells-other : (b : ℕ) (set : StringSet) → y ≡ Valued b set → (b ≡ a → ⊥) → ((s : ℕ) → hasString told s ≡ false) → Tells y a told
+  unfolding holdsValue
+  tells-other b set e n none s = rw (e, ne-eqb a b (λ q. n (sym q))) (none s)
 
-  pub flag-other-name : (getD (t .firsts) i 0 ≡ a → ⊥) → Flags t i a s false
-  flag-other-name n f w = sym (other-name a s f (getD (t .kinds) i 0) (getD (t .firsts) i 0) (getD (t .seconds) i 0) w n)
+  pub tells-own : (b : ℕ) → y ≡ Valued b told → b ≡ a → Tells y a told
+  unfolding holdsValue
+  tells-own b e q s = rw (e, eq-eqb a b (sym q)) (sym (or-false (hasString told s)))
 
-  pub flag-this-name : (b : Bool) → getD (t .kinds) i 0 ≡ 2 → getD (t .firsts) i 0 ≡ a → b ≡ member (getD (t .seconds) i 0) s → Flags t i a s b
-  flag-this-name b k e is f w = is ∙ sym (this-name a s f (getD (t .kinds) i 0) (getD (t .firsts) i 0) (getD (t .seconds) i 0) w k e)
+-- The same of the fact that stands at a place.
+abbrev pub TellsAt : Facts → ℕ → ℕ → StringSet → Type 0
+TellsAt t i a told = (f : Fact) → Stored t i f → (s : ℕ) → hasString told s ≡ flagged (alone a s) [] f
 
-  -- Which strings the fact does not tell from s.
-  module _ (set : ℕ) where
-    unchanged : ((f : Fact) → Stored t i f → (k : ℕ) → flagged (alone a k) [] f ≡ false) → NarrowsAt t i a s set set
-    unchanged none f w k = sym (rw (none f w s, none f w k) (and-true (member set k)))
-
-    pub narrows-not-valued : (getD (t .kinds) i 0 ≡ 2 → ⊥) → NarrowsAt t i a s set set
-    narrows-not-valued n = unchanged (λ f w k. not-valued a k f (getD (t .kinds) i 0) (getD (t .firsts) i 0) (getD (t .seconds) i 0) w n)
-
-    pub narrows-other-name : (getD (t .firsts) i 0 ≡ a → ⊥) → NarrowsAt t i a s set set
-    narrows-other-name n = unchanged (λ f w k. other-name a k f (getD (t .kinds) i 0) (getD (t .firsts) i 0) (getD (t .seconds) i 0) w n)
-
-    module _ (is-valued : getD (t .kinds) i 0 ≡ 2) (is-named : getD (t .firsts) i 0 ≡ a) (b : Bool) (is : b ≡ member (getD (t .seconds) i 0) s) (r : ℕ) where
-      at : (f : Fact) → Stored t i f → (k : ℕ) → flagged (alone a k) [] f ≡ member (getD (t .seconds) i 0) k
-      at f w k = this-name a k f (getD (t .kinds) i 0) (getD (t .firsts) i 0) (getD (t .seconds) i 0) w is-valued is-named
-
-      pub narrows-common : b ≡ true → ((k : ℕ) → member r k ≡ (member set k && member (getD (t .seconds) i 0) k)) → NarrowsAt t i a s set r
-      narrows-common e common f w k = common k ∙ sym (rw (at f w s, sym is ∙ e, at f w k))
-
-      pub narrows-without : b ≡ false → ((k : ℕ) → member r k ≡ (member set k && not (member (getD (t .seconds) i 0) k))) → NarrowsAt t i a s set r
-      narrows-without e without f w k = without k ∙ sym (rw (at f w s, sym is ∙ e, at f w k))
+pub tells-at : (t : Facts) (i a : ℕ) (y : Kept.Fact) (told : StringSet) → y ≡ keptAt t i → Tells y a told → TellsAt t i a told
+tells-at t i a y told e tells f w s = tells s ∙ ap (λ (z : Kept.Fact). flagged (alone a s) [] (meaningOf z)) e ∙ ap (flagged (alone a s) []) w
 
 -- ---- the pattern, fact by fact from the last
 
@@ -108,9 +86,9 @@ module _ (t : Facts) (a s : ℕ) where
         let q : 2 ^ (8 - i) ≤ 2 ^ 7 = pow-mono m in
         omega (arith, n .small)
 
-    pub numbering-more : (b : Bool) → Flags t (i - 1) a s b → Numbering (i - 1) (cond b 1 0 + 2 * p)
+    pub numbering-more : (b : Bool) (told : StringSet) → TellsAt t (i - 1) a told → b ≡ hasString told s → Numbering (i - 1) (cond b 1 0 + 2 * p)
     unfolding numbered
-    numbering-more b flag = record {
+    numbering-more b told tells is = record {
       within = omega (arith, n .within);
       few = n .few;
       small = smaller b;
@@ -135,5 +113,5 @@ module _ (t : Facts) (a s : ℕ) where
             let split : drop (i - 1) fs ≡ getD fs (i - 1) (present 0) ∷ drop i fs =
             drop-cons fs (i - 1) (present 0) inside ∙ ap (λ (k : ℕ). getD fs (i - 1) (present 0) ∷ drop k fs) above in
             let here : b ≡ flagged (alone a s) [] (getD fs (i - 1) (present 0)) =
-            flag (getD fs (i - 1) (present 0)) (h .stores (i - 1) (omega (arith, n .within, n .few)) inside) in
+            is ∙ tells (getD fs (i - 1) (present 0)) (h .stores (i - 1) (omega (arith, n .within, n .few)) inside) s in
             rw (split, ← here, ← (n .number fs h few))

@@ -1,4 +1,3 @@
 pub mod AttributeFlags
 pub mod StringSets
 pub mod TrueForms
-pub mod KnownForms

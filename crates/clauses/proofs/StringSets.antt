@@ -7,11 +7,11 @@ use mathlib.Core.Logic.{_⊎_, inl, inr, ⊎-elim}
 use native.Mathlib.Decide.{ℕ-discrete}
 use native.Mathlib.Omega.{arith}
 use lib.ListN.{length, getD}
-use lib.Dec.{T, eqb, ltb}
-use borrow.Author.Tests.{eq-eqb, eqb-true, ltb-true, ltb-false}
-use Rattle.sets.specs.Sets.{member}
-use Rattle.sets.proofs.Laws.{member-high}
-use Rattle.commands.specs.Commands.{strings}
+use lib.Dec.{eqb, ltb}
+use borrow.Author.Tests.{eq-eqb, eqb-true, ltb-true, ltb-false, lt-ltb}
+use Rattle.strings.specs.declared.StringSet.{StringSet}
+use Rattle.strings.specs.Strings.{strings, hasString, FirstString}
+use Rattle.strings.proofs.Laws.{outside}
 use Rattle.vocabularies.specs.declared.Facts.{Facts}
 use Rattle.vocabularies.specs.Facts.{Fact, present}
 use Rattle.vocabularies.specs.Promises.{Represents}
@@ -21,12 +21,12 @@ use Rattle.patterns.specs.Rounds.{only, anyNamed}
 use Rattle.patterns.specs.Elements.{attributePattern}
 use Rattle.patterns.proofs.Tests.{or-left, or-right, or-cases, and-both, and-left, and-right, same-test, failed, any-below, below-any}
 use Rattle.patterns.proofs.Clauses.{pattern-below}
-use Rattle.pattern_sets.specs.PatternSets.{holds, FirstMember}
-use Rattle.pattern_sets.proofs.Tables.{all-members}
+use Rattle.pattern_sets.specs.PatternSets.{holds}
 use Rattle.readings.specs.Readings.{Is}
 use Rattle.readings.specs.Promises.{OfFacts}
 use Rattle.readings.proofs.Placing.{few-count}
-use Rattle.clauses.specs.Promises.{alone, agree, NarrowsAt, Alike, WithPatterns}
+use Rattle.clauses.specs.Promises.{alone, agree, Alike, WithPatterns}
+use Rattle.clauses.proofs.AttributeFlags.{TellsAt}
 
 -- ---- strings alike
 
@@ -39,6 +39,16 @@ agreed true b e = e
 agreed false true e = absurd (false≢true e)
 agreed false false e = refl
 
+-- Of a set the strings that have the flag of s, as the told ones give it.
+module _ (set told r : StringSet) (s : ℕ) where
+  pub common-same : hasString told s ≡ true → ((k : ℕ) → hasString r k ≡ (hasString set k && hasString told k))
+      → (k : ℕ) → hasString r k ≡ (hasString set k && agree (hasString told s) (hasString told k))
+  common-same e common k = rw e (common k)
+
+  pub without-same : hasString told s ≡ false → ((k : ℕ) → hasString r k ≡ (hasString set k && not (hasString told k)))
+      → (k : ℕ) → hasString r k ≡ (hasString set k && agree (hasString told s) (hasString told k))
+  without-same e without k = rw e (without k)
+
 same-numbers : (fs : List Fact) (flag flag′ : Fact → Bool) → ((i : ℕ) → i < length fs → flag (getD fs i (present 0)) ≡ flag′ (getD fs i (present 0)))
     → numbered fs flag ≡ numbered fs flag′
 unfolding numbered
@@ -47,41 +57,42 @@ same-numbers (f ∷ fs) flag flag′ h = rw (h 0 (omega arith), same-numbers fs 
 
 module _ (t : Facts) (a s : ℕ) where
   -- Strings that the facts before a place do not tell from s.
-  pub record AlikeTo (i set : ℕ) : Type 0 where
-    pub itself : OfFacts t (λ fs. s < strings → member set s ≡ true)
-    pub flags : OfFacts t (λ fs. (k : ℕ) → member set k ≡ true → (j : ℕ) → j < i → j < length fs
+  pub record AlikeTo (i : ℕ) (set : StringSet) : Type 0 where
+    pub itself : OfFacts t (λ fs. s < strings → hasString set s ≡ true)
+    pub flags : OfFacts t (λ fs. (k : ℕ) → hasString set k ≡ true → (j : ℕ) → j < i → j < length fs
         → flagged (alone a k) [] (getD fs j (present 0)) ≡ flagged (alone a s) [] (getD fs j (present 0)))
 
-  pub alike-none : AlikeTo 0 0xFFFF_FFFF_FFFF_FFFF
-  alike-none = record {
-    itself = λ fs h few l. all-members s l;
+  pub alike-none : (set : StringSet) → ((k : ℕ) → hasString set k ≡ ltb k strings) → AlikeTo 0 set
+  alike-none set all = record {
+    itself = λ fs h few l. all s ∙ lt-ltb s strings l;
     flags = λ fs h few k m j l b. absurd (omega arith);
   }
 
-  pub alike-more : (i set more : ℕ) → i < 8 → i < t .count → NarrowsAt t i a s set more → AlikeTo i set → AlikeTo (i + 1) more
-  alike-more i set more b here narrows so-far = record {
-    itself = λ fs h few l. at fs h few s ∙ and-both (so-far .itself fs h few l) (agrees-itself (flagged (alone a s) [] (getD fs i (present 0))));
-    flags = λ fs h few k m j l c.
-        let kept = sym (at fs h few k) ∙ m in
-        let older = and-left (member set k) (agree (flagged (alone a s) [] (getD fs i (present 0))) (flagged (alone a k) [] (getD fs i (present 0)))) kept in
-        let newer = and-right (member set k) (agree (flagged (alone a s) [] (getD fs i (present 0))) (flagged (alone a k) [] (getD fs i (present 0)))) kept in
-        flag-at fs h few k older (agreed (flagged (alone a s) [] (getD fs i (present 0))) (flagged (alone a k) [] (getD fs i (present 0))) newer) j l c (ℕ-discrete j i);
-  }
-    where
-      at : (fs : List Fact) (h : Represents t fs) (few : length fs ≤ 8) (k : ℕ)
-          → member more k ≡ (member set k && agree (flagged (alone a s) [] (getD fs i (present 0))) (flagged (alone a k) [] (getD fs i (present 0))))
-      at fs h few k =
-          let e : t .count ≡ length fs = few-count t fs h few in
-          narrows (getD fs i (present 0)) (h .stores i b (omega arith)) k
+  module _ (i : ℕ) (set told more : StringSet) (b : i < 8) (here : i < t .count) (tells : TellsAt t i a told)
+      (narrows : (k : ℕ) → hasString more k ≡ (hasString set k && agree (hasString told s) (hasString told k))) (so-far : AlikeTo i set) where
+    -- The flag of the fact at the place.
+    flag : (fs : List Fact) → Represents t fs → length fs ≤ 8 → (k : ℕ) → hasString told k ≡ flagged (alone a k) [] (getD fs i (present 0))
+    flag fs h few k = let e : t .count ≡ length fs = few-count t fs h few in tells (getD fs i (present 0)) (h .stores i b (omega arith)) k
 
-      flag-at : (fs : List Fact) → Represents t fs → length fs ≤ 8 → (k : ℕ) → member set k ≡ true
-          → flagged (alone a k) [] (getD fs i (present 0)) ≡ flagged (alone a s) [] (getD fs i (present 0))
-          → (j : ℕ) → j < i + 1 → j < length fs → Dec (j ≡ i)
-          → flagged (alone a k) [] (getD fs j (present 0)) ≡ flagged (alone a s) [] (getD fs j (present 0))
-      flag-at fs h few k m e j l c (yes q) = subst (λ (v : ℕ). flagged (alone a k) [] (getD fs v (present 0)) ≡ flagged (alone a s) [] (getD fs v (present 0))) (sym q) e
-      flag-at fs h few k m e j l c (no n) = so-far .flags fs h few k m j (omega arith) c
+    flag-at : (fs : List Fact) → Represents t fs → length fs ≤ 8 → (k : ℕ) → hasString set k ≡ true → hasString told k ≡ hasString told s
+        → (j : ℕ) → j < i + 1 → j < length fs → Dec (j ≡ i)
+        → flagged (alone a k) [] (getD fs j (present 0)) ≡ flagged (alone a s) [] (getD fs j (present 0))
+    flag-at fs h few k m e j l c (yes q) =
+        subst (λ (v : ℕ). flagged (alone a k) [] (getD fs v (present 0)) ≡ flagged (alone a s) [] (getD fs v (present 0))) (sym q)
+        (sym (flag fs h few k) ∙ e ∙ flag fs h few s)
+    flag-at fs h few k m e j l c (no n) = so-far .flags fs h few k m j (omega arith) c
 
-  pub alike-all : (i set : ℕ) → (t .count ≤ i) ⊎ (8 ≤ i) → AlikeTo i set → Alike t a s set
+    pub alike-more : AlikeTo (i + 1) more
+    alike-more = record {
+      itself = λ fs h few l. narrows s ∙ and-both (so-far .itself fs h few l) (agrees-itself (hasString told s));
+      flags = λ fs h few k m j l c.
+          let kept = sym (narrows k) ∙ m in
+          let older = and-left (hasString set k) (agree (hasString told s) (hasString told k)) kept in
+          let newer = and-right (hasString set k) (agree (hasString told s) (hasString told k)) kept in
+          flag-at fs h few k older (agreed (hasString told s) (hasString told k) newer) j l c (ℕ-discrete j i);
+    }
+
+  pub alike-all : (i : ℕ) (set : StringSet) → (t .count ≤ i) ⊎ (8 ≤ i) → AlikeTo i set → Alike t a s set
   unfolding patternOf
   alike-all i set end so-far = record {
     itself = so-far .itself;
@@ -94,25 +105,25 @@ module _ (t : Facts) (a s : ℕ) where
 
 -- ---- the patterns over strings
 
-module _ (fs : List Fact) (set : List ℕ) (a named : ℕ) where
+module _ (fs : List Fact) (set : List ℕ) (a : ℕ) (named : StringSet) where
   -- What a loop that has come to string s has put in, and which strings are left.
-  pub record PatternsTo (s left : ℕ) (r : List ℕ) : Type 0 where
+  pub record PatternsTo (s : ℕ) (left : StringSet) (r : List ℕ) : Type 0 where
     pub keeps : (x : ℕ) → holds set x ≡ true → holds r x ≡ true
-    pub inside : (k : ℕ) → member left k ≡ true → member named k ≡ true
-    pub done : (k : ℕ) → k < strings → member named k ≡ true
-        → (holds r (attributePattern fs a k) ≡ true) ⊎ ((member left k ≡ true) × (s ≤ k))
+    pub inside : (k : ℕ) → hasString left k ≡ true → hasString named k ≡ true
+    pub done : (k : ℕ) → k < strings → hasString named k ≡ true
+        → (holds r (attributePattern fs a k) ≡ true) ⊎ ((hasString left k ≡ true) × (s ≤ k))
     pub sound : (x : ℕ) → holds r x ≡ true
-        → (holds set x ≡ true) ⊎ ((k : ℕ) × (k < strings) × (member named k ≡ true) × (attributePattern fs a k ≡ x))
+        → (holds set x ≡ true) ⊎ ((k : ℕ) × (k < strings) × (hasString named k ≡ true) × (attributePattern fs a k ≡ x))
 
   -- The first string of those left is not after one of them.
-  not-after : (left from first : ℕ) → FirstMember left from first → (k : ℕ) → member left k ≡ true → from ≤ k → first ≤ k
+  not-after : (left : StringSet) (from first : ℕ) → FirstString left from first → (k : ℕ) → hasString left k ≡ true → from ≤ k → first ≤ k
   not-after left from first f k m l = go (ltb k first) refl
     where
       go : (t : Bool) → ltb k first ≡ t → first ≤ k
       go true e = absurd (false≢true (sym (f .skips k l (ltb-true k first e)) ∙ m))
       go false e = ltb-false k first e
 
-  pub patterns-none : (s : ℕ) → FirstMember named 0 s → PatternsTo s named set
+  pub patterns-none : (s : ℕ) → FirstString named 0 s → PatternsTo s named set
   patterns-none s f = record {
     keeps = λ x h. h;
     inside = λ k m. m;
@@ -120,10 +131,10 @@ module _ (fs : List Fact) (set : List ℕ) (a named : ℕ) where
     sound = λ x h. inl h;
   }
 
-  module _ (s left alike less p onto : ℕ) (r more : List ℕ) (here : s < strings) (is-left : member left s ≡ true)
+  module _ (s p onto : ℕ) (left alike less : StringSet) (r more : List ℕ) (here : s < strings) (is-left : hasString left s ≡ true)
       (is-pattern : p ≡ attributePattern fs a s) (with-it : (y : ℕ) → holds more y ≡ (eqb y p || holds r y))
-      (itself : member alike s ≡ true) (patterns : (k : ℕ) → member alike k ≡ true → attributePattern fs a k ≡ attributePattern fs a s)
-      (without : (k : ℕ) → member less k ≡ (member left k && not (member alike k))) (f : FirstMember less (s + 1) onto)
+      (itself : hasString alike s ≡ true) (patterns : (k : ℕ) → hasString alike k ≡ true → attributePattern fs a k ≡ attributePattern fs a s)
+      (without : (k : ℕ) → hasString less k ≡ (hasString left k && not (hasString alike k))) (f : FirstString less (s + 1) onto)
       (so-far : PatternsTo s left r) where
     old : (x : ℕ) → holds r x ≡ true → holds more x ≡ true
     old x h = with-it x ∙ or-right (eqb x p) (holds r x) h
@@ -131,28 +142,28 @@ module _ (fs : List Fact) (set : List ℕ) (a named : ℕ) where
     new : (x : ℕ) → x ≡ p → holds more x ≡ true
     new x e = with-it x ∙ or-left (eqb x p) (holds r x) (eq-eqb x p e)
 
-    later : (k : ℕ) → member left k ≡ true → s ≤ k → (t : Bool) → member alike k ≡ t
-        → (holds more (attributePattern fs a k) ≡ true) ⊎ ((member less k ≡ true) × (onto ≤ k))
+    later : (k : ℕ) → hasString left k ≡ true → s ≤ k → (t : Bool) → hasString alike k ≡ t
+        → (holds more (attributePattern fs a k) ≡ true) ⊎ ((hasString less k ≡ true) × (onto ≤ k))
     later k m l true e = inl (new (attributePattern fs a k) (patterns k e ∙ sym is-pattern))
     later k m l false e = inr (still, not-after less (s + 1) onto f k still beyond)
       where
-        still : member less k ≡ true
+        still : hasString less k ≡ true
         still = without k ∙ and-both m (ap not e)
 
         beyond : s + 1 ≤ k
         beyond = go (ℕ-discrete k s)
           where
             go : Dec (k ≡ s) → s + 1 ≤ k
-            go (yes q) = absurd (false≢true (sym e ∙ ap (member alike) q ∙ itself))
+            go (yes q) = absurd (false≢true (sym e ∙ ap (hasString alike) q ∙ itself))
             go (no n) = omega arith
 
     pub patterns-more : PatternsTo onto less more
     patterns-more = record {
       keeps = λ x h. old x (so-far .keeps x h);
-      inside = λ k m. so-far .inside k (and-left (member left k) (not (member alike k)) (sym (without k) ∙ m));
+      inside = λ k m. so-far .inside k (and-left (hasString left k) (not (hasString alike k)) (sym (without k) ∙ m));
       done = λ k l m. ⊎-elim
           (λ (h : holds r (attributePattern fs a k) ≡ true). inl (old (attributePattern fs a k) h))
-          (λ (h : (member left k ≡ true) × (s ≤ k)). later k (h .0) (h .1) (member alike k) refl)
+          (λ (h : (hasString left k ≡ true) × (s ≤ k)). later k (h .0) (h .1) (hasString alike k) refl)
           (so-far .done k l m);
       sound = λ x h. ⊎-elim
           (λ (e : eqb x p ≡ true). inr (s, here, so-far .inside s is-left, sym is-pattern ∙ sym (eqb-true x p e)))
@@ -160,11 +171,11 @@ module _ (fs : List Fact) (set : List ℕ) (a named : ℕ) where
           (or-cases (eqb x p) (holds r x) (sym (with-it x) ∙ h));
     }
 
-  pub patterns-all : (s left : ℕ) (r : List ℕ) → strings ≤ s → PatternsTo s left r → WithPatterns fs set a named r
+  pub patterns-all : (s : ℕ) (left : StringSet) (r : List ℕ) → strings ≤ s → PatternsTo s left r → WithPatterns fs set a named r
   patterns-all s left r end so-far = record {
     keeps = so-far .keeps;
     complete = λ k l m. ⊎-elim (λ (h : holds r (attributePattern fs a k) ≡ true). h)
-        (λ (h : (member left k ≡ true) × (s ≤ k)). let late : s ≤ k = h .1 in absurd (omega arith))
+        (λ (h : (hasString left k ≡ true) × (s ≤ k)). let late : s ≤ k = h .1 in absurd (omega arith))
         (so-far .done k l m);
     sound = so-far .sound;
   }
@@ -196,33 +207,33 @@ module _ (fs : List Fact) (a : ℕ) (words : List ℕ) (S : ℕ → Bool) where
           omega arith
 
   -- Over the strings of a set.
-  pub values-named : (set : List ℕ) (named : ℕ) → named < 2 ^ 64 → ((x : ℕ) → holds set x ≡ false) → WithPatterns fs set a named words
-      → ((s : ℕ) → s ≤ strings → S s ≡ member named s) → Is (factMorphism fs) words (λ x. anyNamed (λ s. S s && only (attributePattern fs a s) x))
+  pub values-named : (set : List ℕ) (named : StringSet) → named .word < 2 ^ 64 → ((x : ℕ) → holds set x ≡ false) → WithPatterns fs set a named words
+      → ((s : ℕ) → s ≤ strings → S s ≡ hasString named s) → Is (factMorphism fs) words (λ x. anyNamed (λ s. S s && only (attributePattern fs a s) x))
   values-named set named b none added is = exact
-      (λ s l h. let m = sym (is s l) ∙ h in added .complete s (named-below s l m) m)
+      (λ s l h. let m = sym (is s l) ∙ h in added .complete s (named-below s m) m)
       (λ x h. ⊎-elim (λ (q : holds set x ≡ true). absurd (false≢true (sym (none x) ∙ q)))
-      (λ (q : (s : ℕ) × (s < strings) × (member named s ≡ true) × (attributePattern fs a s ≡ x)).
+      (λ (q : (s : ℕ) × (s < strings) × (hasString named s ≡ true) × (attributePattern fs a s ≡ x)).
       (q .0, (let l : q .0 < strings = q .1 in omega arith), is (q .0) (let l : q .0 < strings = q .1 in omega arith) ∙ q .2, q .3))
       (added .sound x h))
     where
-      named-below : (s : ℕ) → s ≤ strings → member named s ≡ true → s < strings
-      named-below s l m = go (ltb s strings) refl
+      named-below : (s : ℕ) → hasString named s ≡ true → s < strings
+      named-below s m = go (ltb s strings) refl
         where
           go : (t : Bool) → ltb s strings ≡ t → s < strings
           go true e = ltb-true s strings e
-          go false e = absurd (false≢true (sym (member-high 64 named s b (ltb-false s strings e)) ∙ m))
+          go false e = absurd (false≢true (sym (outside named b s (ltb-false s strings e)) ∙ m))
 
   -- Over any string: the named ones, and the one that stands for the others.
-  pub values-any : (set : List ℕ) (p : ℕ) → p ≡ attributePattern fs a strings → ((x : ℕ) → holds set x ≡ eqb x p)
-      → WithPatterns fs set a 0xFFFF_FFFF_FFFF_FFFF words
+  pub values-any : (set : List ℕ) (every : StringSet) (p : ℕ) → p ≡ attributePattern fs a strings → ((x : ℕ) → holds set x ≡ eqb x p)
+      → ((k : ℕ) → hasString every k ≡ ltb k strings) → WithPatterns fs set a every words
       → ((s : ℕ) → s ≤ strings → S s ≡ true) → Is (factMorphism fs) words (λ x. anyNamed (λ s. S s && only (attributePattern fs a s) x))
-  values-any set p e one added is = exact
+  values-any set every p e one all added is = exact
       (λ s l h. pattern-of s l (ℕ-discrete s strings))
       (λ x h. ⊎-elim (λ (q : holds set x ≡ true). (strings, omega arith, is strings (omega arith), sym e ∙ sym (eqb-true x p (sym (one x) ∙ q))))
-      (λ (q : (s : ℕ) × (s < strings) × (member 0xFFFF_FFFF_FFFF_FFFF s ≡ true) × (attributePattern fs a s ≡ x)).
+      (λ (q : (s : ℕ) × (s < strings) × (hasString every s ≡ true) × (attributePattern fs a s ≡ x)).
       (q .0, (let l : q .0 < strings = q .1 in omega arith), is (q .0) (let l : q .0 < strings = q .1 in omega arith), q .3))
       (added .sound x h))
     where
       pattern-of : (s : ℕ) → s ≤ strings → Dec (s ≡ strings) → holds words (attributePattern fs a s) ≡ true
       pattern-of s l (yes q) = added .keeps (attributePattern fs a s) (one (attributePattern fs a s) ∙ eq-eqb (attributePattern fs a s) p (ap (attributePattern fs a) q ∙ sym e))
-      pattern-of s l (no n) = added .complete s (omega arith) (all-members s (omega arith))
+      pattern-of s l (no n) = let b : s < strings = omega arith in added .complete s b (all s ∙ lt-ltb s strings b)

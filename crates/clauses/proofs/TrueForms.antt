@@ -5,16 +5,22 @@ use mathlib.Core.List.{List, [], _∷_}
 use mathlib.Core.Bool.{Bool, true, false, not, _&&_, _||_, false≢true}
 use native.Mathlib.Omega.{arith}
 use lib.ListN.{length}
-use lib.Dec.{T, ltb}
+use lib.Dec.{ltb}
 use lib.Pow.{pow-pos, pow-mono}
 use borrow.Author.Tests.{ltb-true, ltb-false}
 use Rattle.sets.specs.Sets.{member}
-use Rattle.commands.specs.Commands.{byte, setAt}
+use Rattle.strings.specs.declared.StringSet.{StringSet}
+use Rattle.strings.specs.Strings.{setNumber}
+use Rattle.verdicts.specs.declared.Form.{Form}
+use Rattle.commands.specs.declared.Position.{Position}
+use Rattle.commands.specs.declared.Decoded.{Decoded}
+use Rattle.commands.specs.declared.Decoded.the-variants.{Moved, Refused}
+use Rattle.commands.specs.Commands.{byte, setAt, stepped}
 use Rattle.vocabularies.specs.Vocabulary.{isIn}
 use Rattle.vocabularies.specs.declared.Facts.{Facts}
 use Rattle.vocabularies.specs.Facts.{Fact, present, ordered, valued}
 use Rattle.judging.specs.Judgement.{truthOf}
-use Rattle.judging.proofs.Formulas.{conj-holds, disj-holds, neg-holds, truth-holds, attr-holds, content-holds, order-holds, value-holds, past-holds, none-holds}
+use Rattle.judging.proofs.Evaluation.{step-none, conj-step, disj-step, neg-step, truth-step, attr-step, content-step, order-step, value-step}
 use Rattle.patterns.specs.Patterns.{flagIn, atomsBy}
 use Rattle.patterns.specs.Rounds.{anyBelow}
 use Rattle.patterns.proofs.Tests.{and-left, failed, any-below, below-any}
@@ -24,7 +30,7 @@ use Rattle.pattern_sets.proofs.Tables.{below, passed}
 use Rattle.readings.specs.Promises.{Places}
 use Rattle.readings.proofs.FactPlaces.{flag-placed}
 use Rattle.clauses.specs.declared.Truths.{Truths}
-use Rattle.clauses.specs.Promises.{FlaggedBy, IsUnbroken, IsValued, TruePatterns, ClauseFails}
+use Rattle.clauses.specs.Promises.{FlaggedBy, IsUnbroken, IsValued, heldAt, TruePatterns, ClauseFails}
 
 -- ---- the sets of which truths are made
 
@@ -40,84 +46,70 @@ pub small : (fs : List Fact) → length fs ≤ 8 → (x : ℕ) → x < 2 ^ lengt
 small fs few x h = let p : 2 ^ length fs ≤ 2 ^ 8 = pow-mono few in omega arith
 
 module _ (t : Facts) where
-  pub flagged-placed : (kind first second place : ℕ) (r : List ℕ) → Places t kind first second place → AllFlagged place r → FlaggedBy t kind first second r
-  flagged-placed kind first second place r placed all fs h few f w x b =
-      all x (small fs few x b) ∙ ap (member x) (placed .place fs h few f w) ∙ sym (flag-placed fs f x b)
+  pub flagged-placed : (f : Fact) (place : ℕ) (r : List ℕ) → Places t f place → AllFlagged place r → FlaggedBy t f r
+  flagged-placed f place r placed all fs h few x b =
+      all x (small fs few x b) ∙ ap (member x) (placed .place fs h few) ∙ sym (flag-placed fs f x b)
 
-  pub is-unbroken : (c d : ℕ) (broken r : List ℕ) → FlaggedBy t 1 c d broken → ((x : ℕ) → x < 256 → holds r x ≡ not (holds broken x)) → IsUnbroken t c d r
-  is-unbroken c d broken r flags others fs h few x b =
-      others x (small fs few x b) ∙ ap not (flags fs h few (ordered c d) (record { has-kind = refl; has-first = refl; has-second = refl }) x b)
+  pub is-unbroken : (c d : ℕ) (broken r : List ℕ) → FlaggedBy t (ordered c d) broken → ((x : ℕ) → x < 256 → holds r x ≡ not (holds broken x)) → IsUnbroken t c d r
+  is-unbroken c d broken r flags others fs h few x b = others x (small fs few x b) ∙ ap not (flags fs h few x b)
 
   module _ (names a m : ℕ) (r : List ℕ) (named : Bool) (is : named ≡ member names a) where
-    pub valued-there : named ≡ true → FlaggedBy t 2 a m r → IsValued t names a m r
-    valued-there e flags fs h few x b =
-        rw (sym is ∙ e) (flags fs h few (valued a m) (record { has-kind = refl; has-first = refl; has-second = refl }) x b)
+    pub valued-there : named ≡ true → FlaggedBy t (valued a m) r → IsValued t names a m r
+    valued-there e flags fs h few x b = rw (sym is ∙ e) (flags fs h few x b)
 
     pub valued-absent : named ≡ false → ((x : ℕ) → x < 256 → holds r x ≡ true) → IsValued t names a m r
     valued-absent e all fs h few x b = rw (sym is ∙ e) (all x (small fs few x b))
 
 -- ---- the forms
 
-module _ (t : Facts) (names : ℕ) (v : List ℕ) (at : ℕ) where
-  pub true-past : (r : Truths) → length v ≤ at → TruePatterns t names v at r
-  true-past r past fs h few ns is x b = past-holds (atomsBy fs ns x) v at (record { value = holds (r .set) x; next = r .next }) past
+module _ (t : Facts) (names : ℕ) (v : List ℕ) (at : ℕ) {d : Decoded} (is : d ≡ stepped v at) where
+  pub true-none : {f : Form} {n : ℕ} → d ≡ Refused f n → (r : Truths) → TruePatterns t names v at r
+  true-none m r fs h few ns known x b = step-none v at is m _ _
 
-  pub true-none : (r : Truths) → (byte v at ≡ 0x10 → ⊥) → (byte v at ≡ 0x11 → ⊥) → (byte v at ≡ 0x12 → ⊥) → (byte v at ≡ 0x13 → ⊥)
-      → (byte v at ≡ 0x14 → ⊥) → (byte v at ≡ 0x15 → ⊥) → (byte v at ≡ 0x16 → ⊥) → (byte v at ≡ 0x17 → ⊥) → TruePatterns t names v at r
-  true-none r n₀ n₁ n₂ n₃ n₄ n₅ n₆ n₇ fs h few ns is x b =
-      none-holds (atomsBy fs ns x) v at (record { value = holds (r .set) x; next = r .next }) n₀ n₁ n₂ n₃ n₄ n₅ n₆ n₇
+  module _ {code : ℕ} {next : Position} (m : d ≡ Moved code next) where
+    pub true-truth : code ≡ 0x13 → (set : List ℕ) → ((x : ℕ) → x < 256 → holds set x ≡ true) → TruePatterns t names v at (record { set = set; next = next })
+    true-truth key set all fs h few ns known x b = rw (all x (small fs few x b)) (truth-step v at is m _ key)
 
-  pub true-truth : (set : List ℕ) → byte v at ≡ 0x13 → ((x : ℕ) → x < 256 → holds set x ≡ true)
-      → TruePatterns t names v at (record { set = set; next = record { at = at + 1 } })
-  true-truth set code all fs h few ns is x b = rw (all x (small fs few x b)) (truth-holds (atomsBy fs ns x) v at code)
+    pub true-attr : code ≡ 0x14 → (a : ℕ) → a ≡ byte v (at + 1) → (named : Bool) → named ≡ member names a → (set : List ℕ) → ((x : ℕ) → x < 256 → holds set x ≡ named)
+        → TruePatterns t names v at (record { set = set; next = next })
+    unfolding atomsBy
+    true-attr key a e named tells set all fs h few ns known x b =
+        attr-step v at is m (atomsBy fs ns x) key (holds set x) (all x (small fs few x b) ∙ tells ∙ known a ∙ ap (λ (n : ℕ). isIn n ns) e)
 
-  pub true-attr : (set : List ℕ) (a : ℕ) (named : Bool) → byte v at ≡ 0x14 → a ≡ byte v (at + 1) → named ≡ member names a
-      → ((x : ℕ) → x < 256 → holds set x ≡ named) → TruePatterns t names v at (record { set = set; next = record { at = at + 2 } })
-  unfolding atomsBy
-  true-attr set a named code e known all fs h few ns is x b =
-      attr-holds (atomsBy fs ns x) v at (holds set x) code (all x (small fs few x b) ∙ known ∙ is a ∙ ap (λ (n : ℕ). isIn n ns) e)
+    pub true-content : code ≡ 0x15 → (c : ℕ) → c ≡ byte v (at + 1) → (set : List ℕ) → FlaggedBy t (present c) set
+        → TruePatterns t names v at (record { set = set; next = next })
+    unfolding atomsBy
+    true-content key c e set flags fs h few ns known x b =
+        content-step v at is m (atomsBy fs ns x) key (holds set x) (flags fs h few x b ∙ ap (λ (n : ℕ). flagIn fs x (present n)) e)
 
-  pub true-content : (set : List ℕ) (c : ℕ) → byte v at ≡ 0x15 → c ≡ byte v (at + 1) → FlaggedBy t 0 c 0 set
-      → TruePatterns t names v at (record { set = set; next = record { at = at + 2 } })
-  unfolding atomsBy
-  true-content set c code e flags fs h few ns is x b =
-      content-holds (atomsBy fs ns x) v at (holds set x) code
-      (flags fs h few (present c) (record { has-kind = refl; has-first = refl; has-second = refl }) x b ∙ ap (λ (n : ℕ). flagIn fs x (present n)) e)
+    pub true-order : code ≡ 0x16 → (c₁ c₂ : ℕ) → c₁ ≡ byte v (at + 1) → c₂ ≡ byte v (at + 2) → (set : List ℕ) → IsUnbroken t c₁ c₂ set
+        → TruePatterns t names v at (record { set = set; next = next })
+    unfolding atomsBy
+    true-order key c₁ c₂ e₁ e₂ set unbroken fs h few ns known x b =
+        order-step v at is m (atomsBy fs ns x) key (holds set x) (unbroken fs h few x b ∙ ap₂ (λ (n k : ℕ). not (flagIn fs x (ordered n k))) e₁ e₂)
 
-  pub true-order : (set : List ℕ) (c d : ℕ) → byte v at ≡ 0x16 → c ≡ byte v (at + 1) → d ≡ byte v (at + 2) → IsUnbroken t c d set
-      → TruePatterns t names v at (record { set = set; next = record { at = at + 3 } })
-  unfolding atomsBy
-  true-order set c d code e f unbroken fs h few ns is x b =
-      order-holds (atomsBy fs ns x) v at (holds set x) code
-      (unbroken fs h few x b ∙ ap (λ (n : ℕ). not (flagIn fs x (ordered n d))) e ∙ ap (λ (n : ℕ). not (flagIn fs x (ordered (byte v (at + 1)) n))) f)
+    pub true-value : (code ≡ 0x10 → ⊥) → (code ≡ 0x11 → ⊥) → (code ≡ 0x12 → ⊥) → (code ≡ 0x13 → ⊥) → (code ≡ 0x14 → ⊥) → (code ≡ 0x15 → ⊥) → (code ≡ 0x16 → ⊥)
+        → (a : ℕ) → a ≡ byte v (at + 1) → (among : StringSet) → setNumber among ≡ setAt v (at + 2) → (set : List ℕ) → IsValued t names a (setNumber among) set
+        → TruePatterns t names v at (record { set = set; next = next })
+    unfolding atomsBy
+    true-value n₀ n₁ n₂ n₃ n₄ n₅ n₆ a e₁ among e₂ set is-valued fs h few ns known x b =
+        value-step v at is m (atomsBy fs ns x) n₀ n₁ n₂ n₃ n₄ n₅ n₆ (holds set x)
+        (is-valued fs h few x b ∙ ap (λ (t : Bool). not t || flagIn fs x (valued a (setNumber among))) (known a)
+        ∙ ap₂ (λ (n k : ℕ). not (isIn n ns) || flagIn fs x (valued n k)) e₁ e₂)
 
-  pub true-value : (set : List ℕ) (a m : ℕ) → byte v at ≡ 0x17 → a ≡ byte v (at + 1) → m ≡ setAt v (at + 2) → IsValued t names a m set
-      → TruePatterns t names v at (record { set = set; next = record { at = at + 10 } })
-  unfolding atomsBy
-  true-value set a m code e f is-valued fs h few ns is x b =
-      value-holds (atomsBy fs ns x) v at (holds set x) code
-      (is-valued fs h few x b ∙ ap (λ (t : Bool). not t || flagIn fs x (valued a m)) (is a)
-      ∙ ap (λ (n : ℕ). not (isIn n ns) || flagIn fs x (valued n m)) e
-      ∙ ap (λ (n : ℕ). not (isIn (byte v (at + 1)) ns) || flagIn fs x (valued (byte v (at + 1)) n)) f)
+    module _ (r₁ r₂ r : Truths) (H₁ : TruePatterns t names v (next .at) r₁) (H₂ : TruePatterns t names v (r₁ .next .at) r₂) (ends : r .next ≡ r₂ .next) where
+      pub true-conj : code ≡ 0x10 → ((x : ℕ) → holds (r .set) x ≡ (holds (r₁ .set) x && holds (r₂ .set) x)) → TruePatterns t names v at r
+      true-conj key both fs h few ns known x b =
+          rw (ends, both x) (conj-step v at is m _ (heldAt r₁ x) (heldAt r₂ x) (H₁ fs h few ns known x b) (H₂ fs h few ns known x b) key)
 
-  module _ (r₁ r₂ : Truths) (set : List ℕ) (H₁ : TruePatterns t names v (at + 1) r₁) (H₂ : TruePatterns t names v (r₁ .next .at) r₂) where
-    pub true-conj : byte v at ≡ 0x10 → ((y : ℕ) → holds set y ≡ (holds (r₁ .set) y && holds (r₂ .set) y))
-        → TruePatterns t names v at (record { set = set; next = r₂ .next })
-    true-conj code both fs h few ns is x b =
-        conj-holds (atomsBy fs ns x) v at (record { value = holds (r₁ .set) x; next = r₁ .next }) (record { value = holds (r₂ .set) x; next = r₂ .next })
-        (holds set x) (H₁ fs h few ns is x b) (H₂ fs h few ns is x b) code (both x)
+      pub true-disj : code ≡ 0x11 → ((x : ℕ) → holds (r .set) x ≡ (holds (r₁ .set) x || holds (r₂ .set) x)) → TruePatterns t names v at r
+      true-disj key either fs h few ns known x b =
+          rw (ends, either x) (disj-step v at is m _ (heldAt r₁ x) (heldAt r₂ x) (H₁ fs h few ns known x b) (H₂ fs h few ns known x b) key)
 
-    pub true-disj : byte v at ≡ 0x11 → ((y : ℕ) → holds set y ≡ (holds (r₁ .set) y || holds (r₂ .set) y))
-        → TruePatterns t names v at (record { set = set; next = r₂ .next })
-    true-disj code either fs h few ns is x b =
-        disj-holds (atomsBy fs ns x) v at (record { value = holds (r₁ .set) x; next = r₁ .next }) (record { value = holds (r₂ .set) x; next = r₂ .next })
-        (holds set x) (H₁ fs h few ns is x b) (H₂ fs h few ns is x b) code (either x)
-
-  pub true-neg : (r : Truths) (set : List ℕ) → TruePatterns t names v (at + 1) r → byte v at ≡ 0x12
-      → ((x : ℕ) → x < 256 → holds set x ≡ not (holds (r .set) x)) → TruePatterns t names v at (record { set = set; next = r .next })
-  true-neg r set H code others fs h few ns is x b =
-      rw (others x (small fs few x b))
-      (neg-holds (atomsBy fs ns x) v at (record { value = holds (r .set) x; next = r .next }) (H fs h few ns is x b) code)
+    pub true-neg : (r₁ r : Truths) → TruePatterns t names v (next .at) r₁ → r .next ≡ r₁ .next → code ≡ 0x12
+        → ((x : ℕ) → x < 256 → holds (r .set) x ≡ not (holds (r₁ .set) x)) → TruePatterns t names v at r
+    true-neg r₁ r H ends key others fs h few ns known x b =
+        rw (ends, others x (small fs few x b)) (neg-step v at is m _ (heldAt r₁ x) (H fs h few ns known x b) key)
 
 -- ---- a clause that fails
 

@@ -1,23 +1,61 @@
 -- What holds of the command at an offset, and of readings that go on from it.
 use Prim.Native.Nat.{ℕ, _+_, _≤_, _<_}
-use mathlib.Core.Path.{_≡_, refl}
+use mathlib.Core.Path.{_≡_, refl, sym, _∙_}
 use mathlib.Core.List.{List, [], _∷_}
-use mathlib.Core.Bool.{Bool, true, false, cond}
+use mathlib.Core.Bool.{Bool, true, false, cond, _&&_}
 use native.Mathlib.Omega.{arith}
 use lib.ListN.{length, List·getD-eq-default}
-use lib.Dec.{ltb}
-use borrow.Author.Tests.{ltb-true, lt-ltb, le-ltb, le-leb}
+use lib.Dec.{leb, ltb, eqb}
+use borrow.Author.Tests.{leb-true, ltb-true, ltb-false, lt-ltb, le-ltb, le-leb, eq-eqb, ne-eqb, eqb-true, eqb-false}
 use Rattle.verdicts.specs.declared.Form.{Form}
 use Rattle.verdicts.specs.declared.Form.the-variants.{Ended, NotAllowed, OutOfRange}
 use Rattle.commands.specs.declared.Context.{Context}
 use Rattle.commands.specs.declared.Position.{Position}
 use Rattle.commands.specs.declared.Decoded.{Decoded}
 use Rattle.commands.specs.declared.Decoded.the-variants.{Moved, Refused}
-use Rattle.commands.specs.Commands.{Operand, element, attribute, string, widths, byte, operandsOf, operandBytes, inRange, allInRange, between, allowed, Single, command}
+use Rattle.commands.specs.declared.Past.{Past}
+use Rattle.commands.specs.declared.Past.the-variants.{Over, Other}
+use Rattle.commands.specs.Commands.{Format, formats, lookup, Operand, element, attribute, string, widths, byte, operandsOf, operandBytes, inRange, allInRange, between, allowed, Single, command, stepped}
 use Rattle.commands.specs.Reading.{Read, whole, refused, unfinished, andThen, onDecoded, onCommand, when}
+use Rattle.commands.specs.Parts.{past}
 
 pub byte-past : (s : List ℕ) (at : ℕ) → length s ≤ at → byte s at ≡ 0
 byte-past s at h = List·getD-eq-default s 0 h
+
+-- A byte passed over: when it is, and what it tells that it was or was not.
+module _ (s : List ℕ) (at code : ℕ) where
+  pub not-past-end : length s ≤ at → Other ≡ past s at code
+  unfolding past
+  not-past-end h = rw (le-ltb at (length s) h)
+
+  module _ (here : at < length s) where
+    pub not-past : (byte s at ≡ code → ⊥) → Other ≡ past s at code
+    unfolding past
+    not-past n = rw (lt-ltb at (length s) here, ne-eqb (byte s at) code n)
+
+    pub is-past : byte s at ≡ code → Over (record { at = at + 1 }) ≡ past s at code
+    unfolding past
+    is-past e = rw (lt-ltb at (length s) here, eq-eqb (byte s at) code e)
+
+  pub past-over : (r : Past) (next : Position) → r ≡ past s at code → r ≡ Over next → (at < length s) × (byte s at ≡ code) × (next .at ≡ at + 1)
+  unfolding past
+  past-over r next e o = go (ltb at (length s)) (eqb (byte s at) code) refl refl (sym e ∙ o)
+    where
+      go : (t u : Bool) → ltb at (length s) ≡ t → eqb (byte s at) code ≡ u → cond t (cond u (Over (record { at = at + 1 })) Other) Other ≡ Over next
+          → (at < length s) × (byte s at ≡ code) × (next .at ≡ at + 1)
+      go true true inside same q = (ltb-true _ _ inside, eqb-true _ _ same, cc)
+      go true false inside same q = absurd (let z : _≡_ {A = ℕ} 0 1 = cc in omega arith)
+      go false u inside same q = absurd (let z : _≡_ {A = ℕ} 0 1 = cc in omega arith)
+
+  -- No byte that stands past the end is a command's.
+  pub past-other : (r : Past) → r ≡ past s at code → r ≡ Other → (code ≡ 0 → ⊥) → byte s at ≡ code → ⊥
+  unfolding past
+  past-other r e o some is = go (ltb at (length s)) (eqb (byte s at) code) refl refl (sym e ∙ o)
+    where
+      go : (t u : Bool) → ltb at (length s) ≡ t → eqb (byte s at) code ≡ u → cond t (cond u (Over (record { at = at + 1 })) Other) Other ≡ Other → ⊥
+      go true true inside same q = let z : _≡_ {A = ℕ} 0 1 = cc in omega arith
+      go true false inside same q = eqb-false _ _ same is
+      go false u inside same q = some (sym is ∙ byte-past s at (ltb-false _ _ inside))
 
 -- The five answers, each from the tests that lead to it.
 module _ (x : Context) (s : List ℕ) (at : ℕ) where
@@ -114,6 +152,64 @@ moved x s at code next e =
     let fits : at + operandBytes (byte s at) < length s = ltb-true _ _ (p .fits′) in
     let after′ : next .at ≡ at + 1 + operandBytes (byte s at) = rw (p .next′) in
     record { first = p .code′; after = after′; forward = omega arith; inside = omega arith; permitted = p .a′; ranges = p .r′ }
+
+-- No command has more than nine bytes of operands.
+abbrev short : List Format → Bool
+short [] = true
+short (f ∷ fs) = leb (widths (f .operands)) 9 && short fs
+
+both-true : (a b : Bool) → (a && b) ≡ true → (a ≡ true) × (b ≡ true)
+both-true true b e = (refl, e)
+both-true false true e = (e, refl)
+both-true false false e = (e, e)
+
+lookup-short : (c : ℕ) (fs : List Format) → short fs ≡ true → widths (lookup c fs) ≤ 9
+lookup-short c [] e = omega arith
+lookup-short c (f ∷ fs) e = go (eqb c (f .code)) (leb-true _ _ (both-true (leb (widths (f .operands)) 9) (short fs) e .0)) (lookup-short c fs (both-true (leb (widths (f .operands)) 9) (short fs) e .1))
+  where
+    go : (t : Bool) → widths (f .operands) ≤ 9 → widths (lookup c fs) ≤ 9 → widths (cond t (f .operands) (lookup c fs)) ≤ 9
+    go true h o = h
+    go false h o = o
+
+pub few-operands : (c n : ℕ) → n ≡ operandBytes c → n ≤ 9
+unfolding operandBytes operandsOf
+few-operands c n e = rw e (lookup-short c formats refl)
+
+-- The command at an offset of bytes that were read.
+module _ (s : List ℕ) (at : ℕ) where
+  pub no-step : length s ≤ at → Refused Ended (length s) ≡ stepped s at
+  unfolding stepped
+  no-step h = rw (le-ltb at (length s) h)
+
+  pub steps : at < length s → Moved (byte s at) (record { at = at + 1 + operandBytes (byte s at) }) ≡ stepped s at
+  unfolding stepped
+  steps h = rw (lt-ltb at (length s) h)
+
+  pub record SteppedOver (code : ℕ) (next : Position) : Type 0 where
+    pub here : at < length s
+    pub first : byte s at ≡ code
+    pub after : next .at ≡ at + 1 + operandBytes code
+
+  pub stepped-over : (d : Decoded) (code : ℕ) (next : Position) → d ≡ stepped s at → d ≡ Moved code next → SteppedOver code next
+  unfolding stepped
+  stepped-over d code next e m = go (ltb at (length s)) refl (sym e ∙ m)
+    where
+      go : (t : Bool) → ltb at (length s) ≡ t
+          → cond t (Moved (byte s at) (record { at = at + 1 + operandBytes (byte s at) })) (Refused Ended (length s)) ≡ Moved code next → SteppedOver code next
+      go true inside q =
+          let c : byte s at ≡ code = cc in
+          let n : next ≡ record { at = at + 1 + operandBytes (byte s at) } = cc in
+          record { here = ltb-true _ _ inside; first = c; after = rw (n, c) }
+      go false outside q = never Ended (length s) code next q
+
+  pub stepped-refused : (d : Decoded) (f : Form) (n : ℕ) → d ≡ stepped s at → d ≡ Refused f n → length s ≤ at
+  unfolding stepped
+  stepped-refused d f n e m = go (ltb at (length s)) refl (sym e ∙ m)
+    where
+      go : (t : Bool) → ltb at (length s) ≡ t
+          → cond t (Moved (byte s at) (record { at = at + 1 + operandBytes (byte s at) })) (Refused Ended (length s)) ≡ Refused f n → length s ≤ at
+      go true inside q = never f n (byte s at) _ (sym q)
+      go false outside q = ltb-false _ _ outside
 
 -- Readings that come out whole: what went before came out whole too.
 module _ {A : Type 0} where

@@ -7,20 +7,13 @@ use mathlib.Core.List.{List, [], _∷_}
 use mathlib.Core.Bool.{Bool, true, cond, _&&_, _||_, not}
 use lib.ListN.{length, getD}
 use lib.Dec.{leb, ltb, eqb}
+pub use Rattle.strings.specs.Strings.{strings, emptyString}
 use Rattle.verdicts.specs.declared.Form.{Form}
 use Rattle.verdicts.specs.declared.Form.the-variants.{Ended, NotAllowed, OutOfRange}
 use Rattle.commands.specs.declared.Context.{Context}
 use Rattle.commands.specs.declared.Context.the-variants.{Rules, Attributes, Contents, Formulas, Templates, TemplateItems, TemplateAttributes, PageItems, PageAttributes, FirstStatement, Statements, Heads, TemplateFacts, StringFacts}
 use Rattle.commands.specs.declared.Decoded.{Decoded}
 use Rattle.commands.specs.declared.Decoded.the-variants.{Moved, Refused}
-
--- The named strings are 0 to 63; other strings exist without end, and are the numbers from 64 on.
-abbrev pub strings : ℕ
-strings = 64
-
--- String 0 is the empty one.
-abbrev pub emptyString : ℕ
-emptyString = 0
 
 -- What an operand names. A set of strings is eight bytes, highest first; every other operand is one byte.
 pub data Operand : Type 0 where
@@ -176,3 +169,8 @@ command x s at =
     (Refused Ended at))
     (Refused NotAllowed at))
     (Refused Ended (length s))
+
+-- The command at an offset of bytes that were read: what was tested then is not tested again.
+unfoldable pub stepped : List ℕ → ℕ → Decoded
+unfolding operandBytes
+stepped s at = cond (ltb at (length s)) (Moved (byte s at) (record { at = at + 1 + operandBytes (byte s at) })) (Refused Ended (length s))

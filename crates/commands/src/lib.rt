@@ -5,7 +5,11 @@ ghost use mathlib.Core.Bool.{true, _&&_};
 ghost use Prim.Native.Nat.{_+_, _*_, _^_, _≤_, _<_};
 ghost use lib.ListN.{length};
 ghost use lib.Dec.{leb};
-ghost use Rattle.commands.specs.Commands.{byte, spelt, setAt, either, between, allowed, operandsOf, operandBytes, inRange, element, attribute, strings-set, allInRange, Single, command};
+ghost use Rattle.strings.specs.Strings.{setNumber};
+ghost use Rattle.commands.specs.Commands.{byte, setAt, either, between, allowed, operandsOf, operandBytes, inRange, element, attribute, strings-set, allInRange, Single, command, stepped};
+ghost use Rattle.commands.specs.Parts.{partOf, past};
+use strings::LAST;
+use strings::StringSet;
 use verdicts::Form;
 
 // Where reading stands: an offset of the bytes.
@@ -43,6 +47,12 @@ pub enum Part {
     Refused(Form, usize),
 }
 
+// The position after a byte that stands here, or another byte or none does.
+pub enum Past {
+    Over(Position),
+    Other,
+}
+
 // The byte at an offset; 0 past the end.
 pub fn byte_at(s: &[u8], i: usize) -> u8
     ensures { λ r. ⌜ r ≡ byte (now (s .entry)) i ⌝ }
@@ -61,7 +71,7 @@ fn with_byte(high: u64, s: &[u8], i: usize) -> u64
     high * 256 + (byte_at(s, i) as u64)
 }
 
-// The set of strings at an offset: eight bytes, highest first.
+// The number of the set of strings at an offset: eight bytes, highest first.
 pub fn set_at(s: &[u8], i: usize) -> u64
     ensures { λ r. ⌜ r ≡ setAt (now (s .entry)) i ⌝ }
 {
@@ -76,36 +86,6 @@ pub fn set_at(s: &[u8], i: usize) -> u64
     let b5 = with_byte(b4, s, i + 5);
     let b6 = with_byte(b5, s, i + 6);
     with_byte(b6, s, i + 7)
-}
-
-fn with_low(high: u64, b: u8) -> u64
-    requires { ⌜ high < 2 ^ 56 ⌝ }
-    ensures { λ r. ⌜ (r ≡ high * 256 + b) × (r < (high + 1) * 256) ⌝ }
-{
-    high * 256 + (b as u64)
-}
-
-// A number with the byte at an offset, which is one of the bytes, put after it.
-fn with_inner(high: u64, s: &[u8], i: usize) -> u64
-    requires { ⌜ (high < 2 ^ 56) × (i < length (now s)) ⌝ }
-    ensures { λ r. ⌜ (r ≡ high * 256 + byte (now (s .entry)) i) × (r < (high + 1) * 256) ⌝ }
-{
-    with_low(high, s[i])
-}
-
-// The set of strings at an offset, whose eight bytes are all there.
-pub fn inner_set(s: &[u8], i: usize) -> u64
-    requires { ⌜ i + 8 ≤ length (now s) ⌝ }
-    ensures { λ r. ⌜ r ≡ setAt (now (s .entry)) i ⌝ }
-{
-    let b0 = with_inner(0, s, i);
-    let b1 = with_inner(b0, s, i + 1);
-    let b2 = with_inner(b1, s, i + 2);
-    let b3 = with_inner(b2, s, i + 3);
-    let b4 = with_inner(b3, s, i + 4);
-    let b5 = with_inner(b4, s, i + 5);
-    let b6 = with_inner(b5, s, i + 6);
-    with_inner(b6, s, i + 7)
 }
 
 fn is_either(a: u8, b: u8, code: u8) -> bool
@@ -192,31 +172,12 @@ fn is_element(s: &[u8], i: usize) -> bool
     is_between(1, 63, byte_at(s, i))
 }
 
-// Four bytes of a set, highest first.
-fn half_at(s: &[u8], i: usize) -> u64
-    requires { ⌜ i + 3 < 2 ^ 64 ⌝ }
-    ensures { λ r. ⌜ r ≡ spelt 4 (now (s .entry)) i 0 ⌝ }
-{
-    let b0 = with_byte(0, s, i);
-    let b1 = with_byte(b0, s, i + 1);
-    let b2 = with_byte(b1, s, i + 2);
-    with_byte(b2, s, i + 3)
-}
-
-// A set that is not empty: half by half takes fewer registers than the whole.
-fn is_set(s: &[u8], i: usize) -> bool
-    requires { ⌜ i + 7 < 2 ^ 64 ⌝ }
-    ensures { λ r. ⌜ r ≡ inRange strings-set (now (s .entry)) i ⌝ }
-{
-    half_at(s, i) != 0 || half_at(s, i + 4) != 0
-}
-
 // An attribute, and a set that is not empty.
 fn is_value(s: &[u8], i: usize) -> bool
     requires { ⌜ i + 8 < 2 ^ 64 ⌝ }
     ensures { λ r. ⌜ r ≡ (inRange attribute (now (s .entry)) i && inRange strings-set (now (s .entry)) (i + 1)) ⌝ }
 {
-    is_most(s, i, 31) && is_set(s, i + 1)
+    is_most(s, i, 31) && set_at(s, i + 1) != 0
 }
 
 // Two variables, a gap and a variable.
@@ -240,27 +201,56 @@ fn in_range(s: &[u8], at: usize, code: u8) -> bool
         0x16 => are_most(s, i, 63, 63),
         0x17 => is_value(s, i),
         0x22 => is_most(s, i, 7),
-        0x24 => are_most(s, i, 31, 63),
+        0x24 => are_most(s, i, 31, LAST),
         0x25 => are_most(s, i, 31, 7),
         0x30 | 0x32 => are_most(s, i, 3, 3),
         0x31 => is_most(s, i, 3),
-        0x33 => are_most(s, i, 3, 63),
+        0x33 => are_most(s, i, 3, LAST),
         0x34 | 0x37 => is_most(s, i, 3),
         0x35 => is_plug(s, i),
         0x36 => is_plug(s, i),
         0x40 => is_most(s, i + 1, 7),
         0x41 => true,
         0x42 => is_most(s, i + 1, 7),
-        0x43 => are_most(s, i + 1, 7, 63),
+        0x43 => are_most(s, i + 1, 7, LAST),
         0x44 => is_most(s, i + 1, 7),
         0x45 => is_most(s, i, 7),
         0x46 => is_most(s, i, 7),
-        0x47 => is_most(s, i, 63),
+        0x47 => is_most(s, i, LAST),
         _ => true,
     }
 }
 
 impl Position {
+    // Where an offset that was kept stands.
+    pub fn new(at: usize) -> Position
+        ensures { λ r. ⌜ r ≡ record { at = at } ⌝ }
+    {
+        Position { at }
+    }
+
+    // The position n bytes on.
+    pub fn on(self, n: usize) -> Position
+        requires { ⌜ self .at + n < 2 ^ 64 ⌝ }
+        ensures { λ r. ⌜ r ≡ record { at = self .at + n } ⌝ }
+    {
+        Position { at: self.at + n }
+    }
+
+    // The position after the byte `code`, if it stands here.
+    pub fn past(self, s: &[u8], code: u8) -> Past
+        ensures { λ r. ⌜ r ≡ past (now (s .entry)) (self .at) code ⌝ }
+    {
+        let at = self.at;
+        if s.len() <= at {
+            return Past::Other;
+        }
+        if s[at] != code {
+            return Past::Other;
+        }
+        Past::Over(Position { at: at + 1 })
+    }
+
     // The command here, if it may stand here and is whole and in range, with the position moved over it.
     pub fn command(self, s: &[u8], context: Context) -> Decoded
         ensures { λ r. ⌜ r ≡ command context (now (s .entry)) (self .at) ⌝ }
@@ -346,10 +336,23 @@ impl Position {
         if 31 < s[at + 1] {
             return self.command(s, context);
         }
-        if 63 < s[at + 2] {
+        if LAST < s[at + 2] {
             return self.command(s, context);
         }
         Decoded::Moved(0x24, Position { at: at + 3 })
+    }
+
+    // The command here, of bytes that were read, with the position moved over it: what was tested then is not tested again.
+    pub fn step(self, s: &[u8]) -> Decoded
+        ensures { λ r. ⌜ r ≡ stepped (now (s .entry)) (self .at) ⌝ }
+    {
+        let at = self.at;
+        if s.len() <= at {
+            return Decoded::Refused(Form::Ended, s.len());
+        }
+        let code = s[at];
+        let more = operand_bytes(code);
+        Decoded::Moved(code, Position { at: at + 1 + more })
     }
 
     // The byte this far on; 0 past the end.
@@ -364,5 +367,28 @@ impl Position {
             return 0;
         }
         s[at + i]
+    }
+
+    // The set of strings of the `17` here.
+    pub fn string_set(self, s: &[u8]) -> StringSet
+        ensures { λ r. ⌜ setNumber r ≡ setAt (now (s .entry)) (self .at + 2) ⌝ }
+    {
+        let at = self.at;
+        if s.len() <= at {
+            return strings::of_number(0);
+        }
+        strings::of_number(set_at(s, at + 2))
+    }
+}
+
+impl Decoded {
+    // A command alone as a part.
+    pub fn part(self) -> Part
+        ensures { λ r. ⌜ r ≡ partOf self ⌝ }
+    {
+        match self {
+            Decoded::Moved(_, next) => Part::Whole(next),
+            Decoded::Refused(form, at) => Part::Refused(form, at),
+        }
     }
 }

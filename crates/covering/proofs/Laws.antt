@@ -29,10 +29,10 @@ use Rattle.summaries.specs.ProposalReading.{variableOf, factContext, proposal}
 use Rattle.summaries.specs.Summaries.{under}
 use Rattle.summaries.specs.Promises.{Stand, Kept}
 use Rattle.jobs.specs.declared.JobRead.{JobRead}
-use Rattle.jobs.specs.Job.{Job, job}
+use Rattle.jobs.specs.Job.{Script, Job, script, job}
 use Rattle.jobs.specs.Promises.{JobKept}
-use Rattle.entries.specs.Listed.{Listed}
-use Rattle.entries.specs.Gaps.{StartsAt}
+use Rattle.summaries.specs.Listed.{Listed}
+use Rattle.pages.specs.Gaps.{StartsAt}
 use Rattle.entries.proofs.Tests.{or-cases}
 use Rattle.entries.proofs.Reading.{facts-listed}
 use Rattle.covering.specs.Tables.{EntriesAt, NamesAre, Tables}
@@ -69,9 +69,9 @@ unfolding allowed
 none-first s (inl e) = (rw e, rw e)
 none-first s (inr e) = (rw e, rw e)
 
--- What reading a job whole tells of its templates and its first byte.
-record ReadWhole (s : List ℕ) (j : Job) : Type 0 where
-  few : length (j .templates) ≤ 31
+-- What reading a script whole tells of its templates and its first byte.
+record ReadWhole (s : List ℕ) (π : Script) : Type 0 where
+  few : length (π .templates) ≤ 31
   none-at-first : NoneFirst s
 
 alone-whole : (s : List ℕ) (r : Read Job) (j : Job) (end : ℕ) → alone s r ≡ whole j end → (next : ℕ) × (r ≡ whole j next)
@@ -88,29 +88,39 @@ alone-whole s r j end e =
     go false k next q = cc
 
 module _ (s : List ℕ) where
-  abbrev with-proposal : Vocabulary → List Items → List Statement → List Head → ℕ → Read Job
-  with-proposal D φs ts hs end = whole (record { vocabulary = D; templates = φs; program = ts; proposal = hs }) end
+  abbrev with-program : Vocabulary → List Items → List Statement → ℕ → Read Script
+  with-program D φs ts end = whole (record { vocabulary = D; templates = φs; program = ts }) end
 
-  abbrev with-program : Vocabulary → List Items → List Statement → ℕ → Read Job
-  with-program D φs ts next = andThen (proposal (enough s) (length φs) (length ts) s 0 next) (with-proposal D φs ts)
-
-  abbrev with-templates : Vocabulary → List Items → ℕ → Read Job
+  abbrev with-templates : Vocabulary → List Items → ℕ → Read Script
   with-templates D φs next = andThen (program (enough s) (length φs) s next) (with-program D φs)
 
-  abbrev with-vocabulary : Vocabulary → ℕ → Read Job
+  abbrev with-vocabulary : Vocabulary → ℕ → Read Script
   with-vocabulary D next = andThen (templates (enough s) (declared (D .rules)) s 0 next) (with-templates D)
 
-  read-whole : (j : Job) (end : ℕ) → job s ≡ whole j end → ReadWhole s j
-  unfolding job vocabulary
-  read-whole j end e =
-      let a = alone-whole s (andThen (vocabulary s) with-vocabulary) j end e in
-      let v = andThen-whole (vocabulary s) with-vocabulary j (a .0) (a .1) in
-      let t = andThen-whole (templates (enough s) (declared (v .0 .rules)) s 0 (v .1)) (with-templates (v .0)) j (a .0) (v .3) in
-      let p = andThen-whole (program (enough s) (length (t .0)) s (t .1)) (with-program (v .0) (t .0)) j (a .0) (t .3) in
-      let h = andThen-whole (proposal (enough s) (length (t .0)) (length (p .0)) s 0 (p .1)) (with-proposal (v .0) (t .0) (p .0)) j (a .0) (p .3) in
-      let q : record { vocabulary = v .0; templates = t .0; program = p .0; proposal = h .0 } ≡ j = cc (h .3) in
+  script-whole : (π : Script) (end : ℕ) → script s ≡ whole π end → ReadWhole s π
+  unfolding script vocabulary
+  script-whole π end e =
+      let v = andThen-whole (vocabulary s) with-vocabulary π end e in
+      let t = andThen-whole (templates (enough s) (declared (v .0 .rules)) s 0 (v .1)) (with-templates (v .0)) π end (v .3) in
+      let p = andThen-whole (program (enough s) (length (t .0)) s (t .1)) (with-program (v .0) (t .0)) π end (t .3) in
+      let q : record { vocabulary = v .0; templates = t .0; program = p .0 } ≡ π = cc (p .3) in
       let few = templates-few (enough s) (declared (v .0 .rules)) s 0 (v .1) (t .0) (t .1) (omega arith) (t .2) in
-      subst (λ (k : Job). ReadWhole s k) q (record { few = omega arith; none-at-first = none-first s (begins (enough s) s (v .0) (v .1) (v .2)) })
+      subst (λ (k : Script). ReadWhole s k) q (record { few = omega arith; none-at-first = none-first s (begins (enough s) s (v .0) (v .1) (v .2)) })
+
+  abbrev with-proposal : Script → List Head → ℕ → Read Job
+  with-proposal π hs end = whole (record { script = π; proposal = hs }) end
+
+  abbrev with-script : Script → ℕ → Read Job
+  with-script π next = andThen (proposal (enough s) (length (π .templates)) (length (π .program)) s 0 next) (with-proposal π)
+
+  read-whole : (j : Job) (end : ℕ) → job s ≡ whole j end → ReadWhole s (j .script)
+  unfolding job
+  read-whole j end e =
+      let a = alone-whole s (andThen (script s) with-script) j end e in
+      let c = andThen-whole (script s) with-script j (a .0) (a .1) in
+      let h = andThen-whole (proposal (enough s) (length (c .0 .templates)) (length (c .0 .program)) s 0 (c .1)) (with-proposal (c .0)) j (a .0) (c .3) in
+      let q : record { script = c .0; proposal = h .0 } ≡ j = cc (h .3) in
+      subst (λ (k : Job). ReadWhole s (k .script)) q (script-whole (c .0) (c .1) (c .2))
 
 -- The offsets of the templates.
 template-at : (φs : List Items) (t : ℕ) → 1 ≤ t → templateAt φs t ≡ getD φs (t - 1) none
@@ -152,10 +162,10 @@ entries-at count s heads hs few first K p l = record {
 }
 
 -- The variables that some statement names.
-names-are : (j : Job) (names : ℕ) → Names (named (j .program)) names → NamesAre j names
+names-are : (j : Job) (names : ℕ) → Names (named (j .script .program)) names → NamesAre j names
 names-are j names N v l = go (ltb v 4) refl
   where
-    go : (t : Bool) → ltb v 4 ≡ t → member names v ≡ named (j .program) (cond t (Program.templates v) (strings (v - 4)))
+    go : (t : Bool) → ltb v 4 ≡ t → member names v ≡ named (j .script .program) (cond t (Program.templates v) (strings (v - 4)))
     go true e = N .holds (Program.templates v) (ltb-true v 4 e)
     go false e =
         let m = ltb-false v 4 e in
@@ -173,7 +183,7 @@ tables-of s heads j end r e K =
     record {
       count-is = count-is;
       few-templates = let few = W .few in omega arith;
-      start = starts-at _ s (j .templates) _ _ L;
+      start = starts-at _ s (j .script .templates) _ _ L;
       points-are = P .points;
       few-points = P .most;
       statement = λ p f. record {
@@ -183,5 +193,5 @@ tables-of s heads j end r e K =
       };
       points-there = P .points-there;
       names-are = names-are j _ (P .names);
-      entry = entries-at (length (j .templates)) s _ (j .proposal) (W .few) (W .none-at-first) (K .proposal);
+      entry = entries-at (length (j .script .templates)) s _ (j .proposal) (W .few) (W .none-at-first) (K .proposal);
     }

@@ -1,4 +1,3 @@
-pub mod Statements
 pub mod Steps
 pub mod Points
 pub mod Whole

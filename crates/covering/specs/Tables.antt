@@ -8,14 +8,15 @@ use lib.ListN.{length, getD}
 use Rattle.sets.specs.Sets.{member}
 use Rattle.commands.specs.declared.Context.the-variants.{TemplateFacts, StringFacts}
 use Rattle.commands.specs.Commands.{byte, operandsOf, allInRange}
-use Rattle.programs.specs.Program.{Act, Statement, step, templates, strings, statementAt, named}
-use Rattle.programs.specs.ProgramReading.{statementRead, templatesThere, pointsThere}
+use Rattle.programs.specs.Program.{Act, Statement, templates, strings, statementAt, named}
+use Rattle.programs.specs.ProgramReading.{statementRead, actTemplatesThere, templatesThere, pointsThere}
+use Rattle.programs.specs.Promises.{ActFits}
 use Rattle.summaries.specs.Proposal.{Head}
 use Rattle.summaries.specs.ProposalReading.{variableOf}
 use Rattle.summaries.specs.Summaries.{under}
 use Rattle.jobs.specs.Job.{Job}
-use Rattle.entries.specs.Listed.{Listed}
-use Rattle.entries.specs.Gaps.{StartsAt, GapsTable}
+use Rattle.summaries.specs.Listed.{Listed}
+use Rattle.pages.specs.Gaps.{StartsAt, GapsTable}
 
 -- The items under each head of a point stand where the table says. Variable v, as `40` numbers it, has place 8 p + v; where there is
 -- no head, the table may name any offset at which no item stands.
@@ -31,31 +32,30 @@ pub record StatementStands (s : List ℕ) (count place : ℕ) (t : Statement) : 
 
 -- The set has just the variables that some statement names.
 abbrev pub NamesAre : Job → ℕ → Type 0
-NamesAre j names = (v : ℕ) → v < 8 → member names v ≡ named (j .program) (variableOf v)
+NamesAre j names = (v : ℕ) → v < 8 → member names v ≡ named (j .script .program) (variableOf v)
 
 pub record Tables (j : Job) (s : List ℕ) (count : ℕ) (starts : List ℕ) (points : ℕ) (places : List ℕ) (names : ℕ) (heads : List ℕ) : Type 0 where
-  pub count-is : count ≡ length (j .templates)
+  pub count-is : count ≡ length (j .script .templates)
   pub few-templates : count ≤ 31
-  pub start : StartsAt s (j .templates) starts
-  pub points-are : points ≡ length (j .program)
+  pub start : StartsAt s (j .script .templates) starts
+  pub points-are : points ≡ length (j .script .program)
   pub few-points : points ≤ 32
-  pub statement : (p : ℕ) → p < points → StatementStands s count (getD places p 0) (statementAt (j .program) p)
-  pub points-there : (p : ℕ) → p < points → pointsThere points (statementAt (j .program) p) ≡ true
+  pub statement : (p : ℕ) → p < points → StatementStands s count (getD places p 0) (statementAt (j .script .program) p)
+  pub points-there : (p : ℕ) → p < points → pointsThere points (statementAt (j .script .program) p) ≡ true
   pub names-are : NamesAre j names
   pub entry : (p : ℕ) → p < 32 → EntriesAt s heads (j .proposal) p
 
 -- What is known where the statement of a point, with this act, is compared.
-pub record PointAt (j : Job) (s gaps heads : List ℕ) (place p : ℕ) (a : Act) : Type 0 where
-  pub first : ℕ
-  pub second : ℕ
-  pub statement : StatementStands s (length (j .templates)) place (step a first second)
-  pub few : length (j .templates) ≤ 31
-  pub gaps-are : GapsTable gaps (j .templates)
+pub record PointAt (j : Job) (s gaps heads : List ℕ) (p : ℕ) (a : Act) : Type 0 where
+  pub fits : ActFits a
+  pub template-there : actTemplatesThere (length (j .script .templates)) a ≡ true
+  pub few : length (j .script .templates) ≤ 31
+  pub gaps-are : GapsTable gaps (j .script .templates)
   pub low : p < 32
   pub entry : EntriesAt s heads (j .proposal) p
 
 -- What is known where its step to a next point is compared.
-pub record StepAt (j : Job) (s gaps heads : List ℕ) (place p next : ℕ) (a : Act) : Type 0 where
-  pub point : PointAt j s gaps heads place p a
+pub record StepAt (j : Job) (s gaps heads : List ℕ) (p next : ℕ) (a : Act) : Type 0 where
+  pub point : PointAt j s gaps heads p a
   pub next-low : next < 32
   pub next-entry : EntriesAt s heads (j .proposal) next

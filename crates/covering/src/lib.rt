@@ -3,22 +3,23 @@ ghost use mathlib.Core.Path.{_≡_};
 ghost use mathlib.Core.List.{List};
 ghost use Prim.Native.Nat.{ℕ, _+_, _*_, _<_};
 ghost use lib.ListN.{getD};
-ghost use Rattle.commands.specs.Commands.{byte};
-ghost use Rattle.programs.specs.Program.{Act};
+ghost use mathlib.Core.Bool.{true};
+ghost use Rattle.programs.specs.Promises.{asAct};
 ghost use Rattle.summaries.specs.Proposal.{Fact, Head};
 ghost use Rattle.summaries.specs.ProposalReading.{variableOf};
 ghost use Rattle.summaries.specs.Summaries.{Within, saysClaim, saysString, held, entries, transfer, transferTemplate, transferString};
 ghost use Rattle.summaries.specs.Covering.{WithinAt, startEnvironment, StepCovered};
 ghost use Rattle.jobs.specs.Job.{Job};
 ghost use Rattle.jobs.specs.JobVerdict.{StartHolds};
-ghost use Rattle.entries.specs.Gaps.{GapsTable};
-ghost use Rattle.entries.specs.Listed.{Listed};
+ghost use Rattle.pages.specs.Gaps.{GapsTable};
+ghost use Rattle.summaries.specs.Listed.{Listed};
 ghost use Rattle.entries.specs.Passing.{Decides};
 ghost use Rattle.covering.specs.Tables.{EntriesAt, NamesAre, Tables, PointAt, StepAt};
-ghost use Rattle.covering.specs.Promises.{Lowest, Covers, PointCovers, StepsCover, NextsAt};
+ghost use Rattle.covering.specs.Promises.{setsTemplate, setsString, Lowest, Covers, PointCovers, StepsCover};
 use commands::Context;
 use commands::Position;
-use entries::Strings;
+use programs::Act;
+use programs::Statement;
 use verdicts::Cover;
 
 pub enum Covering {
@@ -26,121 +27,139 @@ pub enum Covering {
     Uncovered(Cover),
 }
 
-// The offset at which the items under the head of a template variable at a point stand, and of a string variable.
-pub fn template_head(heads: &[usize; 256], p: usize, x: usize) -> usize
-    ensures { λ r. ⌜ (p < 32 → x < 4 → r ≡ getD (now (heads .entry)) (p * 8 + x) 0) ⌝ }
+// Where the items under the head of a template variable at a point stand, and of a string variable.
+pub fn template_head(heads: &[usize; 256], p: usize, x: usize) -> Position
+    ensures { λ r. ⌜ (p < 32 → x < 4 → r .at ≡ getD (now (heads .entry)) (p * 8 + x) 0) ⌝ }
 {
-    heads[(p % 32) * 8 + x % 4]
+    Position::new(heads[(p % 32) * 8 + x % 4])
 }
 
-fn string_head(heads: &[usize; 256], p: usize, y: usize) -> usize
-    ensures { λ r. ⌜ (p < 32 → y < 4 → r ≡ getD (now (heads .entry)) (p * 8 + (4 + y)) 0) ⌝ }
+fn string_head(heads: &[usize; 256], p: usize, y: usize) -> Position
+    ensures { λ r. ⌜ (p < 32 → y < 4 → r .at ≡ getD (now (heads .entry)) (p * 8 + (4 + y)) 0) ⌝ }
 {
-    heads[(p % 32) * 8 + (4 + y % 4)]
+    Position::new(heads[(p % 32) * 8 + (4 + y % 4)])
 }
 
-// Whether the value that the statement of a point gives template variable x, its first operand, lies within the entry whose items
-// stand at an offset.
+// Whether an act sets template variable x.
+fn sets_template(act: Act, x: usize) -> bool
+    ensures { λ r. ⌜ r ≡ setsTemplate (asAct act) x ⌝ }
+{
+    match act {
+        Act::CopyTemplate(y, _) => x == (y as usize),
+        Act::SetTemplate(y, _) => x == (y as usize),
+        Act::Plug(y, _, _, _) => x == (y as usize),
+        Act::PlugString(y, _, _, _) => x == (y as usize),
+        Act::CopyString(_, _) => false,
+        Act::SetString(_, _) => false,
+        Act::AnyString(_) => false,
+        Act::Show(_) => false,
+    }
+}
+
+// Whether an act sets string variable y.
+fn sets_string(act: Act, y: usize) -> bool
+    ensures { λ r. ⌜ r ≡ setsString (asAct act) y ⌝ }
+{
+    match act {
+        Act::CopyString(x, _) => y == (x as usize),
+        Act::SetString(x, _) => y == (x as usize),
+        Act::AnyString(x) => y == (x as usize),
+        Act::CopyTemplate(_, _) => false,
+        Act::SetTemplate(_, _) => false,
+        Act::Plug(_, _, _, _) => false,
+        Act::PlugString(_, _, _, _) => false,
+        Act::Show(_) => false,
+    }
+}
+
+// Whether the value that an act gives the template variable that it sets lies within the entry whose items stand there.
 fn assigned_holds(
     s: &[u8],
     gaps: &[u64; 32],
     heads: &[usize; 256],
-    place: usize,
+    act: Act,
     p: usize,
-    x: usize,
-    there: usize,
+    there: Position,
 ) -> bool
-    ensures { λ r. ⌜ ((j : Job) (a : Act) (zs : List Fact) → PointAt j (now (s .entry)) (now (gaps .entry)) (now (heads .entry)) place p a → x ≡ byte (now (s .entry)) (place + 1) → x < 4 → Listed Context.TemplateFacts (now (s .entry)) there zs → Decides r (Within (transferTemplate (j .templates) a (entries (j .proposal) p) x) (held saysClaim zs))) ⌝ }
+    ensures { λ r. ⌜ ((j : Job) (x : ℕ) (zs : List Fact) → PointAt j (now (s .entry)) (now (gaps .entry)) (now (heads .entry)) p (asAct act) → setsTemplate (asAct act) x ≡ true → Listed Context.TemplateFacts (now (s .entry)) (there .at) zs → Decides r (Within (transferTemplate (j .script .templates) (asAct act) (entries (j .proposal) p) x) (held saysClaim zs))) ⌝ }
 {
-    let here = Position { at: place };
-    let b = here.operand(s, 2);
-    let g = here.operand(s, 3);
-    let d = here.operand(s, 4) as usize;
-    let from = template_head(heads, p, b as usize);
-    match commands::byte_at(s, place) {
-        0x30 => entries::entry_within(s, from, there),
-        0x31 => entries::fragment_within(s, b, gaps[(b % 32) as usize], there),
-        0x35 => entries::plug_within(s, from, g, template_head(heads, p, d), there),
-        0x36 => entries::fill_within(
-            s,
-            from,
-            g,
-            entries::strings_of(s, string_head(heads, p, d)),
-            there,
-        ),
-        _ => entries::entry_within(s, template_head(heads, p, x), there),
+    match act {
+        Act::CopyTemplate(_, x) => {
+            entries::entry_within(s, template_head(heads, p, x as usize), there)
+        }
+        Act::SetTemplate(_, t) => entries::fragment_within(s, t, gaps[(t % 32) as usize], there),
+        Act::Plug(_, x, g, y) => {
+            let first = template_head(heads, p, x as usize);
+            let second = template_head(heads, p, y as usize);
+            entries::plug_within(s, first, g, second, there)
+        }
+        Act::PlugString(_, x, h, y) => {
+            let from = template_head(heads, p, x as usize);
+            let strings = entries::strings_of(s, string_head(heads, p, y as usize));
+            entries::fill_within(s, from, h, strings, there)
+        }
+        Act::CopyString(_, _) => true,
+        Act::SetString(_, _) => true,
+        Act::AnyString(_) => true,
+        Act::Show(_) => true,
     }
 }
 
-// Whether template variable x is covered in the step of a point to a next point.
+// Whether template variable x is covered in the step of a point over an act to a next point.
 fn template_holds(
     s: &[u8],
     gaps: &[u64; 32],
     heads: &[usize; 256],
-    place: usize,
+    act: Act,
     p: usize,
     next: usize,
     x: usize,
 ) -> bool
-    ensures { λ r. ⌜ ((j : Job) (a : Act) → StepAt j (now (s .entry)) (now (gaps .entry)) (now (heads .entry)) place p next a → x < 4 → Decides r (Within (transferTemplate (j .templates) a (entries (j .proposal) p) x) (entries (j .proposal) next .template x))) ⌝ }
+    ensures { λ r. ⌜ ((j : Job) → StepAt j (now (s .entry)) (now (gaps .entry)) (now (heads .entry)) p next (asAct act) → x < 4 → Decides r (Within (transferTemplate (j .script .templates) (asAct act) (entries (j .proposal) p) x) (entries (j .proposal) next .template x))) ⌝ }
 {
     let there = template_head(heads, next, x);
-    let here = Position { at: place };
-    if x == (here.operand(s, 1) as usize) {
-        return assigned_holds(s, gaps, heads, place, p, x, there);
+    if sets_template(act, x) {
+        return assigned_holds(s, gaps, heads, act, p, there);
     }
     entries::entry_within(s, template_head(heads, p, x), there)
 }
 
-// Whether the strings that the statement of a point gives string variable y, its first operand, lie within those whose items stand at
-// an offset.
+// Whether the strings that an act gives the string variable that it sets lie within those whose items stand there.
 fn assigned_strings_hold(
     s: &[u8],
     heads: &[usize; 256],
-    place: usize,
+    act: Act,
     p: usize,
-    y: usize,
-    there: usize,
+    there: Position,
 ) -> bool
-    ensures { λ r. ⌜ ((j : Job) (gaps : List ℕ) (a : Act) (zs : List Fact) → PointAt j (now (s .entry)) gaps (now (heads .entry)) place p a → y ≡ byte (now (s .entry)) (place + 1) → y < 4 → Listed Context.StringFacts (now (s .entry)) there zs → Decides r (Within (transferString a (entries (j .proposal) p) y) (held saysString zs))) ⌝ }
+    ensures { λ r. ⌜ ((j : Job) (gaps : List ℕ) (y : ℕ) (zs : List Fact) → PointAt j (now (s .entry)) gaps (now (heads .entry)) p (asAct act) → setsString (asAct act) y ≡ true → Listed Context.StringFacts (now (s .entry)) (there .at) zs → Decides r (Within (transferString (asAct act) (entries (j .proposal) p) y) (held saysString zs))) ⌝ }
 {
-    let here = Position { at: place };
-    let b = here.operand(s, 2);
-    match commands::byte_at(s, place) {
-        0x32 => entries::strings_entry_within(s, string_head(heads, p, b as usize), there),
-        0x33 => {
-            let one = Strings {
-                named: sets::with(0, b % 64),
-                any: false,
-            };
-            entries::strings_within(one, entries::strings_of(s, there))
+    match act {
+        Act::CopyString(_, y) => {
+            entries::strings_entry_within(s, string_head(heads, p, y as usize), there)
         }
-        0x34 => {
-            let all = Strings {
-                named: 0,
-                any: true,
-            };
-            entries::strings_within(all, entries::strings_of(s, there))
+        Act::SetString(_, t) => {
+            let one = strings::one_value(t % strings::OUTSIDE);
+            strings::values_within(one, entries::strings_of(s, there))
         }
-        _ => entries::strings_entry_within(s, string_head(heads, p, y), there),
+        Act::AnyString(_) => {
+            strings::values_within(strings::any_value(), entries::strings_of(s, there))
+        }
+        Act::CopyTemplate(_, _) => true,
+        Act::SetTemplate(_, _) => true,
+        Act::Plug(_, _, _, _) => true,
+        Act::PlugString(_, _, _, _) => true,
+        Act::Show(_) => true,
     }
 }
 
-// Whether string variable y is covered in the step of a point to a next point.
-fn string_holds(
-    s: &[u8],
-    heads: &[usize; 256],
-    place: usize,
-    p: usize,
-    next: usize,
-    y: usize,
-) -> bool
-    ensures { λ r. ⌜ ((j : Job) (gaps : List ℕ) (a : Act) → StepAt j (now (s .entry)) gaps (now (heads .entry)) place p next a → y < 4 → Decides r (Within (transferString a (entries (j .proposal) p) y) (entries (j .proposal) next .string y))) ⌝ }
+// Whether string variable y is covered in the step of a point over an act to a next point.
+fn string_holds(s: &[u8], heads: &[usize; 256], act: Act, p: usize, next: usize, y: usize) -> bool
+    ensures { λ r. ⌜ ((j : Job) (gaps : List ℕ) → StepAt j (now (s .entry)) gaps (now (heads .entry)) p next (asAct act) → y < 4 → Decides r (Within (transferString (asAct act) (entries (j .proposal) p) y) (entries (j .proposal) next .string y))) ⌝ }
 {
     let there = string_head(heads, next, y);
-    let here = Position { at: place };
-    if y == (here.operand(s, 1) as usize) {
-        return assigned_strings_hold(s, heads, place, p, y, there);
+    if sets_string(act, y) {
+        return assigned_strings_hold(s, heads, act, p, there);
     }
     entries::strings_entry_within(s, string_head(heads, p, y), there)
 }
@@ -150,17 +169,17 @@ fn variable_holds(
     s: &[u8],
     gaps: &[u64; 32],
     heads: &[usize; 256],
-    place: usize,
+    act: Act,
     p: usize,
     next: usize,
     v: usize,
 ) -> bool
-    ensures { λ r. ⌜ ((j : Job) (a : Act) → StepAt j (now (s .entry)) (now (gaps .entry)) (now (heads .entry)) place p next a → v < 8 → Decides r (WithinAt (variableOf v) (transfer (j .templates) a (entries (j .proposal) p)) (entries (j .proposal) next))) ⌝ }
+    ensures { λ r. ⌜ ((j : Job) → StepAt j (now (s .entry)) (now (gaps .entry)) (now (heads .entry)) p next (asAct act) → v < 8 → Decides r (WithinAt (variableOf v) (transfer (j .script .templates) (asAct act) (entries (j .proposal) p)) (entries (j .proposal) next))) ⌝ }
 {
     if v < 4 {
-        return template_holds(s, gaps, heads, place, p, next, v);
+        return template_holds(s, gaps, heads, act, p, next, v);
     }
-    string_holds(s, heads, place, p, next, v - 4)
+    string_holds(s, heads, act, p, next, v - 4)
 }
 
 // The same of a variable that some statement names; no other is looked at.
@@ -169,18 +188,18 @@ fn named_holds(
     gaps: &[u64; 32],
     heads: &[usize; 256],
     names: u64,
-    place: usize,
+    act: Act,
     p: usize,
     next: usize,
     v: usize,
 ) -> bool
     requires { ⌜ v < 8 ⌝ }
-    ensures { λ r. ⌜ ((j : Job) (a : Act) → StepAt j (now (s .entry)) (now (gaps .entry)) (now (heads .entry)) place p next a → NamesAre j names → Decides r (StepCovered (j .templates) (j .program) (j .proposal) p a next (variableOf v))) ⌝ }
+    ensures { λ r. ⌜ ((j : Job) → StepAt j (now (s .entry)) (now (gaps .entry)) (now (heads .entry)) p next (asAct act) → NamesAre j names → Decides r (StepCovered (j .script .templates) (j .script .program) (entries (j .proposal)) p (asAct act) next (variableOf v))) ⌝ }
 {
     if !sets::has(names, v as u8) {
         return true;
     }
-    variable_holds(s, gaps, heads, place, p, next, v)
+    variable_holds(s, gaps, heads, act, p, next, v)
 }
 
 // The lowest variable that is not covered in the step of a point to a next point; 8: all are.
@@ -189,37 +208,20 @@ fn lowest_uncovered(
     gaps: &[u64; 32],
     heads: &[usize; 256],
     names: u64,
-    place: usize,
+    act: Act,
     p: usize,
     next: usize,
 ) -> usize
-    ensures { λ r. ⌜ ((j : Job) (a : Act) → StepAt j (now (s .entry)) (now (gaps .entry)) (now (heads .entry)) place p next a → NamesAre j names → Lowest (λ v. StepCovered (j .templates) (j .program) (j .proposal) p a next (variableOf v)) r) ⌝ }
+    ensures { λ r. ⌜ ((j : Job) → StepAt j (now (s .entry)) (now (gaps .entry)) (now (heads .entry)) p next (asAct act) → NamesAre j names → Lowest (λ v. StepCovered (j .script .templates) (j .script .program) (entries (j .proposal)) p (asAct act) next (variableOf v)) r) ⌝ }
 {
     let mut v: usize = 0;
     while v < 8 {
-        if !named_holds(s, gaps, heads, names, place, p, next, v) {
+        if !named_holds(s, gaps, heads, names, act, p, next, v) {
             return v;
         }
         v += 1;
     }
     8
-}
-
-// Where the first of a statement's next points stands among its operands; 0 where there is none.
-fn nexts_at(code: u8) -> usize
-    ensures { λ r. ⌜ NextsAt code r ⌝ }
-{
-    match code {
-        0x30 => 3,
-        0x31 => 3,
-        0x32 => 3,
-        0x33 => 3,
-        0x34 => 2,
-        0x35 => 5,
-        0x36 => 5,
-        0x37 => 2,
-        _ => 0,
-    }
 }
 
 // The first step of a point that is not covered: the first next point before the second, the lowest variable.
@@ -231,31 +233,28 @@ fn point_uncovered(
     place: usize,
     p: usize,
 ) -> Covering
-    ensures { λ r. ⌜ ((j : Job) (count : ℕ) (starts : List ℕ) (points : ℕ) (places : List ℕ) → Tables j (now (s .entry)) count starts points places names (now (heads .entry)) → GapsTable (now (gaps .entry)) (j .templates) → p < points → place ≡ getD places p 0 → PointCovers j p r) ⌝ }
+    ensures { λ r. ⌜ ((j : Job) (count : ℕ) (starts : List ℕ) (points : ℕ) (places : List ℕ) → Tables j (now (s .entry)) count starts points places names (now (heads .entry)) → GapsTable (now (gaps .entry)) (j .script .templates) → p < points → place ≡ getD places p 0 → PointCovers (j .script) (entries (j .proposal)) p r) ⌝ }
 {
-    let here = Position { at: place };
-    let first = nexts_at(commands::byte_at(s, place));
-    if first == 0 {
+    let statement = programs::statement_at(s, Position::new(place));
+    let Statement::Step { act, first, second } = statement else {
         return Covering::Covered;
-    }
-    let next = here.operand(s, first) as usize;
-    let other = here.operand(s, first + 1) as usize;
-    let v = lowest_uncovered(s, gaps, heads, names, place, p, next);
+    };
+    let v = lowest_uncovered(s, gaps, heads, names, act, p, first);
     if v < 8 {
         return Covering::Uncovered(Cover::Step {
             point: p,
-            next,
+            next: first,
             variable: v,
         });
     }
-    if other == next {
+    if second == first {
         return Covering::Covered;
     }
-    let w = lowest_uncovered(s, gaps, heads, names, place, p, other);
+    let w = lowest_uncovered(s, gaps, heads, names, act, p, second);
     if w < 8 {
         return Covering::Uncovered(Cover::Step {
             point: p,
-            next: other,
+            next: second,
             variable: w,
         });
     }
@@ -271,7 +270,7 @@ fn steps_uncovered(
     places: &[usize; 32],
     points: usize,
 ) -> Covering
-    ensures { λ r. ⌜ ((j : Job) (count : ℕ) (starts : List ℕ) → Tables j (now (s .entry)) count starts points (now (places .entry)) names (now (heads .entry)) → GapsTable (now (gaps .entry)) (j .templates) → StepsCover j r) ⌝ }
+    ensures { λ r. ⌜ ((j : Job) (count : ℕ) (starts : List ℕ) → Tables j (now (s .entry)) count starts points (now (places .entry)) names (now (heads .entry)) → GapsTable (now (gaps .entry)) (j .script .templates) → StepsCover (j .script) (entries (j .proposal)) r) ⌝ }
 {
     let mut p: usize = 0;
     while p < points {
@@ -292,14 +291,14 @@ fn start_holds(s: &[u8], heads: &[usize; 256], v: usize) -> bool
     if v < 4 {
         return sets::has(entries::roots_of(s, template_head(heads, 0, v)), 0);
     }
-    let strings = entries::strings_of(s, string_head(heads, 0, v - 4));
-    strings.any || sets::has(strings.named, 0)
+    let values = entries::strings_of(s, string_head(heads, 0, v - 4));
+    strings::values_within(strings::one_value(0), values)
 }
 
 // The same of a variable that some statement names; no other is looked at.
 fn named_start_holds(s: &[u8], heads: &[usize; 256], names: u64, v: usize) -> bool
     requires { ⌜ v < 8 ⌝ }
-    ensures { λ r. ⌜ ((j : Job) → EntriesAt (now (s .entry)) (now (heads .entry)) (j .proposal) 0 → NamesAre j names → Decides r (StartHolds j v)) ⌝ }
+    ensures { λ r. ⌜ ((j : Job) → EntriesAt (now (s .entry)) (now (heads .entry)) (j .proposal) 0 → NamesAre j names → Decides r (StartHolds (j .script) (entries (j .proposal)) v)) ⌝ }
 {
     if !sets::has(names, v as u8) {
         return true;
@@ -309,7 +308,7 @@ fn named_start_holds(s: &[u8], heads: &[usize; 256], names: u64, v: usize) -> bo
 
 // The lowest variable at which the start is not covered; 8: it is at all of them.
 fn start_uncovered(s: &[u8], heads: &[usize; 256], names: u64) -> usize
-    ensures { λ r. ⌜ ((j : Job) → EntriesAt (now (s .entry)) (now (heads .entry)) (j .proposal) 0 → NamesAre j names → Lowest (StartHolds j) r) ⌝ }
+    ensures { λ r. ⌜ ((j : Job) → EntriesAt (now (s .entry)) (now (heads .entry)) (j .proposal) 0 → NamesAre j names → Lowest (StartHolds (j .script) (entries (j .proposal))) r) ⌝ }
 {
     let mut v: usize = 0;
     while v < 8 {
@@ -332,7 +331,7 @@ pub fn first_uncovered(
     names: u64,
     heads: &[usize; 256],
 ) -> Covering
-    ensures { λ r. ⌜ ((j : Job) (count : ℕ) (starts : List ℕ) → Tables j (now (s .entry)) count starts points (now (places .entry)) names (now (heads .entry)) → GapsTable (now (gaps .entry)) (j .templates) → Covers j r) ⌝ }
+    ensures { λ r. ⌜ ((j : Job) (count : ℕ) (starts : List ℕ) → Tables j (now (s .entry)) count starts points (now (places .entry)) names (now (heads .entry)) → GapsTable (now (gaps .entry)) (j .script .templates) → Covers (j .script) (entries (j .proposal)) r) ⌝ }
 {
     let v = start_uncovered(s, heads, names);
     if v < 8 {

@@ -1,11 +1,4 @@
-pub mod ClauseWords
-pub mod Valued
-pub mod Values
-pub mod PatternSets
 pub mod AttributeLists
-pub mod Lowers
 pub mod Searches
-pub mod OtherLists
-pub mod LoweredTables
 pub mod Templates
 pub mod Rules

@@ -8,120 +8,133 @@ use native.Mathlib.Omega.{arith}
 use lib.ListN.{length, getD}
 use lib.Dec.{eqb, ltb}
 use borrow.Author.Tests.{eqb-true, eqb-false, ltb-true, ltb-false, lt-ltb}
-use Rattle.sets.specs.Sets.{member}
-use Rattle.sets.proofs.Laws.{member-high}
+use Rattle.sets.specs.Sets.{member, FirstMember}
+use Rattle.sets.proofs.Laws.{member-zero, member-high}
+use Rattle.verdicts.specs.declared.Form.{Form}
+use Rattle.commands.specs.declared.Position.{Position}
+use Rattle.commands.specs.declared.Part.the-variants.{Whole, Refused}
 use Rattle.commands.specs.Commands.{byte}
 use Rattle.commands.specs.Reading.{whole}
-use Rattle.commands.proofs.Laws.{byte-past}
 use Rattle.vocabularies.specs.declared.Facts.{Facts}
-use Rattle.vocabularies.specs.declared.Gathered.{Gathered}
+use Rattle.vocabularies.specs.declared.FormulaRead.{FormulaRead}
 use Rattle.vocabularies.specs.Vocabulary.{Formula, Rule, Vocabulary, ruleOf, isSome}
-use Rattle.vocabularies.specs.VocabularyReading.{mostFacts}
 use Rattle.vocabularies.specs.VocabularyReading as Reading
 use Rattle.vocabularies.specs.Facts.{factsOf}
-use Rattle.vocabularies.specs.Promises.{Represents, Gathers}
-use Rattle.vocabularies.proofs.Clauses.{Clausal, no-more, one-more, clauses-formed}
+use Rattle.vocabularies.specs.Promises.{Represents, FormulaReads}
+use Rattle.vocabularies.proofs.Laws.{Clausal, no-more, one-more, clauses-formed, formula-whole}
 use Rattle.pages.specs.Items.{Attribute, Items}
-use Rattle.pages.specs.RightPages.{_∈_, names}
+use Rattle.pages.specs.RightPages.{_∈_, SomeElement}
 use Rattle.pages.proofs.Whole.{never-unfinished}
 use Rattle.programs.specs.Program.{templateAt}
 use Rattle.summaries.specs.Summaries.{Summary}
+use Rattle.patterns.specs.declared.Wrong.{Wrong}
+use Rattle.patterns.specs.declared.Wrong.the-variants.{Nowhere}
 use Rattle.patterns.specs.Rounds.{Sets}
 use Rattle.patterns.specs.Exactness.{Exact}
 use Rattle.patterns.specs.Elements.{clauseFails, someClauseFails}
-use Rattle.patterns.proofs.Tests.{and-left}
-use Rattle.pattern_sets.specs.PatternSets.{FirstMember}
-use Rattle.clauses.specs.declared.Holding.{Holding}
-use Rattle.clauses.specs.Leaves.{NamesBetween, AlwaysHolds}
-use Rattle.occurrences.specs.Occurrences.{Tells, Occurrences}
-use Rattle.occurrences.proofs.Names.{all-into}
+use Rattle.patterns.specs.LowestWrong.{lowerWrong, LowestWrong, Passing}
+use Rattle.patterns.proofs.Tests.{and-both, and-left}
+use Rattle.patterns.proofs.Bits.{facts-distinct}
+use Rattle.patterns.proofs.LowestOf.{lower-assoc, lower-nowhere, lowest-iff, lowest-none, lowest-either, lowest-same, lowest-never}
+use Rattle.readings.specs.declared.Reading as Readings
+use Rattle.readings.specs.Promises.{KeepsFacts}
+use Rattle.occurrences.specs.Occurrences.{Stands, Occurrences}
+use Rattle.occurrences.proofs.Elements.{all-met}
 use Rattle.reach.specs.PlainlyWrong.{clauseBy, wrongByClause}
-use Rattle.elements.specs.Attributes.{patternsBy}
+use Rattle.elements.specs.declared.Clause.{Clause}
+use Rattle.elements.specs.Attributes.{ClauseAt, patternsBy}
 use Rattle.elements.specs.Search.{failsAt}
-use Rattle.elements.specs.Rules.{Standing, AllYield, Lowered, Bears, SearchesClause, SearchesRule, RulesStand, ExactClauses, SearchesRules}
-use Rattle.elements.proofs.Templates.{clause-always}
-use Rattle.elements.proofs.LoweredTables.{lowered-nothing, lowered-never, lowered-then, lowered-same, lowered-wider}
+use Rattle.elements.specs.Rules.{Standing, SearchesClause, SearchesRule, RulesStand, ExactClauses, SearchesRules}
 
 -- ---- the clauses of one rule
 
-module _ (s : List ℕ) (e at : ℕ) (words gaps lone starts : List ℕ) (count chosen always ever : ℕ) (table : List ℕ) where
+whole-same : (p : Position) (n : ℕ) → Whole p ≡ Whole (record { at = n }) → p ≡ record { at = n }
+whole-same p n e = cc
+
+module _ (s : List ℕ) (e : ℕ) (words starts : List ℕ) (count chosen : ℕ) where
   -- No template is chosen.
-  pub rule-nowhere : chosen ≡ 0 → SearchesRule s e at words gaps lone starts count chosen always ever table table
-  rule-nowhere z φs G X S Y B f end ψs reads exact = rw z (lowered-nothing φs (λ n e′ mark δ φ. eqb e′ e && someClauseFails φs G X ψs n δ φ) table)
+  pub rule-nowhere : (at : ℕ) → chosen ≡ 0 → SearchesRule s e at words starts count chosen Nowhere
+  rule-nowhere at z φs G X S f end ψs reads exact = lowest-none (λ n m (l, c, h). false≢true (sym (member-zero n) ∙ sym (ap (λ (w : ℕ). member w n) z) ∙ c))
 
-  -- No clause is left.
-  pub rule-ends : (byte s at ≡ 0x04 → ⊥) → SearchesRule s e at words gaps lone starts count chosen always ever table table
-  unfolding Reading.clauses someClauseFails
-  rule-ends n φs G X S Y B zero end ψs reads exact = never-unfinished reads
-  rule-ends n φs G X S Y B (suc f) end ψs reads exact = go (clauses-formed f s at ψs end reads)
-    where
-      go : Clausal f s at ψs end → Lowered φs chosen (λ n e′ mark δ φ. eqb e′ e && someClauseFails φs G X ψs n δ φ) table table
-      go (no-more k q z) = rw q (lowered-never φs chosen (λ n e′ mark δ φ. eqb e′ e && false) table (λ n e′ mark δ φ. and-false (eqb e′ e)))
-      go (one-more k ψ next rest r l t q) = absurd (n k)
+  module _ (at : ℕ) where
+    -- No clause is left.
+    pub rule-ends : (byte s at ≡ 0x04 → ⊥) → SearchesRule s e at words starts count chosen Nowhere
+    unfolding Reading.clauses someClauseFails
+    rule-ends n φs G X S zero end ψs reads exact = never-unfinished reads
+    rule-ends n φs G X S (suc f) end ψs reads exact = go (clauses-formed f s at ψs end reads)
+      where
+        go : Clausal f s at ψs end → LowestWrong (Passing φs chosen (λ n e′ mark δ φ. eqb e′ e && someClauseFails φs G X ψs n δ φ)) Nowhere
+        go (no-more k q z) = rw q (lowest-never φs chosen (λ n e′ mark δ φ. eqb e′ e && false) (λ n e′ mark δ φ. and-false (eqb e′ e)))
+        go (one-more k ψ next rest r l t q) = absurd (n k)
 
-  -- A clause, which makes the first table the second, and then the others.
-  module _ (middle : List ℕ) (after : ℕ) (T : (φs : List Items) (G : Summary) (X : Sets) → Standing s φs G words gaps lone starts count → AllYield φs G chosen
-      → Bears φs e always ever → (f next : ℕ) (ψ : Formula) → Reading.formula f s 0 (at + 1) ≡ whole ψ next → length (factsOf ψ) ≤ mostFacts
-      → Exact φs G (patternsBy ψ) X → (after ≡ next) × Lowered φs chosen (λ n. failsAt φs G ψ X n e) table middle) where
     either-clause : (b p q : Bool) → ((b && p) || (b && q)) ≡ (b && (p || q))
     either-clause true p q = refl
     either-clause false p q = refl
 
-    clause-then : byte s at ≡ 0x04 → (lowest : List ℕ) → SearchesRule s e after words gaps lone starts count chosen always ever middle lowest
-        → SearchesRule s e at words gaps lone starts count chosen always ever table lowest
-    unfolding Reading.clauses someClauseFails
-    clause-then code lowest later φs G X S Y B zero end ψs reads exact = never-unfinished reads
-    clause-then code lowest later φs G X S Y B (suc f) end ψs reads exact = go (clauses-formed f s at ψs end reads) exact
-      where
-        go : Clausal f s at ψs end → ((ψ : Formula) → ψ ∈ ψs → Exact φs G (patternsBy ψ) (X ψ))
-            → Lowered φs chosen (λ n e′ mark δ φ. eqb e′ e && someClauseFails φs G X ψs n δ φ) table lowest
-        go (no-more n q z) each = absurd (n code)
-        go (one-more k ψ next rest reads-ψ few reads-rest q) each =
-            let each′ = subst (λ (l : List Formula). (χ : Formula) → χ ∈ l → Exact φs G (patternsBy χ) (X χ)) q each in
-            let (ends, here) = T φs G (X ψ) S Y B f next ψ reads-ψ few (each′ ψ (List·Memᴰ·head refl)) in
-            let others = later φs G X S Y B f end rest (subst (λ (j : ℕ). Reading.clauses f s j ≡ whole rest end) (sym ends) reads-rest)
-            (λ χ m. each′ χ (List·Memᴰ·tail m)) in
-            rw q (lowered-same φs chosen
-            (λ n e′ mark δ φ. (eqb e′ e && clauseFails φs G ψ (X ψ) n δ φ) || (eqb e′ e && someClauseFails φs G X rest n δ φ))
-            (λ n e′ mark δ φ. eqb e′ e && (clauseFails φs G ψ (X ψ) n δ φ || someClauseFails φs G X rest n δ φ)) table lowest
-            (λ n e′ mark δ φ. either-clause (eqb e′ e) (clauseFails φs G ψ (X ψ) n δ φ) (someClauseFails φs G X rest n δ φ))
-            (lowered-then φs chosen (λ n. failsAt φs G ψ (X ψ) n e) (λ n e′ mark δ φ. eqb e′ e && someClauseFails φs G X rest n δ φ) table middle lowest here others))
+    -- A clause, whose formula was read, and then the others.
+    module _ (formula : Position) (over : formula .at ≡ at + 1) (t₀ : Facts) (nothing : Represents t₀ []) (read : FormulaRead)
+        (reads-formula : FormulaReads s 0 (formula .at) t₀ read) where
+      -- A formula that is not whole stands in no rule that was read.
+      pub rule-unread : (i : Form) (n : ℕ) → read .part ≡ Refused i n → byte s at ≡ 0x04 → SearchesRule s e at words starts count chosen Nowhere
+      unfolding Reading.clauses
+      rule-unread i n broken code φs G X S zero end ψs reads exact = never-unfinished reads
+      rule-unread i n broken code φs G X S (suc f) end ψs reads exact = go (clauses-formed f s at ψs end reads)
+        where
+          go : Clausal f s at ψs end → LowestWrong (Passing φs chosen (λ n e′ mark δ φ. eqb e′ e && someClauseFails φs G X ψs n δ φ)) Nowhere
+          go (no-more k q z) = absurd (k code)
+          go (one-more k ψ next rest reads-ψ few reads-rest q) =
+              let w = formula-whole s 0 (formula .at) t₀ read reads-formula f ψ next (rw over reads-ψ) .0 in
+              let z : _≡_ {A = ℕ} 0 1 = cc in absurd (omega arith)
 
-  pub rule-goes : (t₀ : Facts) → Represents t₀ [] → (gathered : Gathered) → Gathers s (at + 1) t₀ gathered
-      → (middle : List ℕ) → SearchesClause s e (at + 1) (gathered .facts) words gaps lone starts count chosen table middle
-      → byte s at ≡ 0x04 → (lowest : List ℕ) → SearchesRule s e (gathered .end .at) words gaps lone starts count chosen always ever middle lowest
-      → SearchesRule s e at words gaps lone starts count chosen always ever table lowest
-  rule-goes t₀ nothing gathered G₀ middle T = clause-then middle (gathered .end .at) (λ φs G X S Y B f next ψ reads few exact. (
-    G₀ .ends f 0 ψ next reads,
-    T φs G ψ X S Y (record {
-      represents = G₀ .gathers f 0 ψ next reads [] nothing;
-      few = few;
-      fuel = f;
-      depth = 0;
-      end = next;
-      stands = reads;
-    }) exact,
-  ))
+      module _ (r : Readings.Reading) (keeps : KeepsFacts (read .facts) r) (place : ℕ) (after : Position) (ended : read .part ≡ Whole after) where
+        pub rule-goes : byte s at ≡ 0x04 → (found : Wrong)
+            → SearchesClause s (record { element = e; place = place; formula = formula; reading = r }) words starts count chosen found
+            → (later : Wrong) → SearchesRule s e (after .at) words starts count chosen later
+            → SearchesRule s e at words starts count chosen (lowerWrong found later)
+        unfolding Reading.clauses someClauseFails
+        rule-goes code found here later others φs G X S zero end ψs reads exact = never-unfinished reads
+        rule-goes code found here later others φs G X S (suc f) end ψs reads exact = go (clauses-formed f s at ψs end reads) exact
+          where
+            go : Clausal f s at ψs end → ((ψ : Formula) → ψ ∈ ψs → Exact φs G (patternsBy ψ) (X ψ))
+                → LowestWrong (Passing φs chosen (λ n e′ mark δ φ. eqb e′ e && someClauseFails φs G X ψs n δ φ)) (lowerWrong found later)
+            go (no-more n q z) each = absurd (n code)
+            go (one-more k ψ next rest reads-ψ few reads-rest q) each =
+                let each′ = subst (λ (l : List Formula). (χ : Formula) → χ ∈ l → Exact φs G (patternsBy χ) (X χ)) q each in
+                let stands : Reading.formula f s 0 (formula .at) ≡ whole ψ next = rw over reads-ψ in
+                let w = formula-whole s 0 (formula .at) t₀ read reads-formula f ψ next stands in
+                let is : after ≡ record { at = next } = whole-same after next (sym ended ∙ w .0) in
+                let same : after .at ≡ next = rw is in
+                let first = here φs G ψ (X ψ) S (record {
+                  reads = keeps (factsOf ψ) (w .1 [] nothing) few (facts-distinct ψ);
+                  fuel = f;
+                  depth = 0;
+                  end = next;
+                  stands = stands;
+                }) (each′ ψ (List·Memᴰ·head refl)) in
+                let later-ones = others φs G X S f end rest (subst (λ (j : ℕ). Reading.clauses f s j ≡ whole rest end) (sym same) reads-rest)
+                (λ χ m. each′ χ (List·Memᴰ·tail m)) in
+                rw q (lowest-same φs chosen
+                (λ n e′ mark δ φ. (eqb e′ e && clauseFails φs G ψ (X ψ) n δ φ) || (eqb e′ e && someClauseFails φs G X rest n δ φ))
+                (λ n e′ mark δ φ. eqb e′ e && (clauseFails φs G ψ (X ψ) n δ φ || someClauseFails φs G X rest n δ φ))
+                (λ n e′ mark δ φ. either-clause (eqb e′ e) (clauseFails φs G ψ (X ψ) n δ φ) (someClauseFails φs G X rest n δ φ)) (lowerWrong found later)
+                (lowest-either φs chosen (λ n. failsAt φs G ψ (X ψ) n e) (λ n e′ mark δ φ. eqb e′ e && someClauseFails φs G X rest n δ φ) found later first later-ones))
 
-  -- A clause that always holds, and then the others.
-  pub rule-skips : (known : Holding) → AlwaysHolds always ever s (at + 1) known → known .holds ≡ true
-      → byte s at ≡ 0x04 → (lowest : List ℕ) → SearchesRule s e (known .next .at) words gaps lone starts count chosen always ever table lowest
-      → SearchesRule s e at words gaps lone starts count chosen always ever table lowest
-  rule-skips known told is-known = clause-then table (known .next .at) (λ φs G X S Y B f next ψ reads few exact.
-      let (ends, is-true) = told f 0 next ψ reads in
-      (ends, clause-always always ever φs G ψ X (is-true is-known) e chosen table B))
+  -- Where the search has come: what the clauses from here on find, lowered by what was found, is what all of them find.
+  pub record Ruling (from at place : ℕ) (lowest : Wrong) : Type 0 where
+    pub few : place ≤ at
+    pub goes : (r : Wrong) → SearchesRule s e at words starts count chosen r → SearchesRule s e from words starts count chosen (lowerWrong lowest r)
 
--- A clause stands before the end.
-pub clause-inside : (s : List ℕ) (at : ℕ) → byte s at ≡ 0x04 → at < length s
-clause-inside s at code = go (ltb at (length s)) refl
-  where
-    go : (b : Bool) → ltb at (length s) ≡ b → at < length s
-    go true e = ltb-true at (length s) e
-    go false e = let z = byte-past s at (ltb-false at (length s) e) in absurd (omega arith)
+  pub ruling-more : (from at place after : ℕ) (lowest found lower : Wrong) → lower ≡ lowerWrong lowest found → at < after → Ruling from at place lowest
+      → ((r : Wrong) → SearchesRule s e after words starts count chosen r → SearchesRule s e at words starts count chosen (lowerWrong found r))
+      → Ruling from after (place + 1) lower
+  ruling-more from at place after lowest found lower is onward R more = rw is (record {
+    few = omega (arith, R .few);
+    goes = λ r later. subst (SearchesRule s e from words starts count chosen) (sym (lower-assoc lowest found r)) (R .goes (lowerWrong found r) (more r later));
+  })
 
--- Where the search has come: what the clauses from here on make of this table is what all of them make of the first.
-pub record Ruling (s : List ℕ) (e from : ℕ) (words gaps lone starts : List ℕ) (count chosen always ever : ℕ) (table : List ℕ) (at : ℕ) (lowest : List ℕ) : Type 0 where
-  pub goes : (r : List ℕ) → SearchesRule s e at words gaps lone starts count chosen always ever lowest r → SearchesRule s e from words gaps lone starts count chosen always ever table r
+  pub ruling-ends : (from at place : ℕ) (lowest : Wrong) → Ruling from at place lowest → SearchesRule s e at words starts count chosen Nowhere
+      → SearchesRule s e from words starts count chosen lowest
+  ruling-ends from at place lowest R ends = subst (SearchesRule s e from words starts count chosen) (lower-nowhere lowest) (R .goes Nowhere ends)
 
 -- ---- all rules
 
@@ -133,14 +146,35 @@ no-rule : (o : Option Rule) → isSome o ≡ false → o ≡ none
 no-rule none h = refl
 no-rule (some R) h = absurd (false≢true (sym h))
 
-module _ (s : List ℕ) (declared : ℕ) (clauses standing words gaps lone starts : List ℕ) (count reached : ℕ) (table : List ℕ) where
+-- A test of elements of one name is passed in templates in which it stands.
+module _ (φs : List Items) (reached standing chosen : ℕ) (table : List ℕ) (e : ℕ) (is : standing ≡ getD table e 0)
+    (common : (k : ℕ) → member chosen k ≡ (member reached k && member standing k)) (H : Occurrences φs table)
+    (test : ℕ → ℕ → ℕ → List Attribute → Items → Bool) where
+  pub chosen-wider : (w : Wrong) → LowestWrong (Passing φs chosen (λ n e′ mark δ φ. eqb e′ e && test n e′ mark δ φ)) w
+      → LowestWrong (Passing φs reached (λ n e′ mark δ φ. eqb e′ e && test n e′ mark δ φ)) w
+  chosen-wider w = lowest-iff (λ n at. (to n at, back n at))
+    where
+      to : (n at : ℕ) → Passing φs chosen (λ n e′ mark δ φ. eqb e′ e && test n e′ mark δ φ) n at
+          → Passing φs reached (λ n e′ mark δ φ. eqb e′ e && test n e′ mark δ φ) n at
+      to n at (l, c, h) = (l, and-left (member reached n) (member standing n) (sym (common n) ∙ c), h)
+
+      back : (n at : ℕ) → Passing φs reached (λ n e′ mark δ φ. eqb e′ e && test n e′ mark δ φ) n at
+          → Passing φs chosen (λ n e′ mark δ φ. eqb e′ e && test n e′ mark δ φ) n at
+      back n at (l, c, h) =
+          let stands : member (getD table e 0) n ≡ true = all-met (λ e′ mark δ φ. Stands table n e′) (λ e′ mark δ φ. (mark ≡ at) × ((eqb e′ e && test n e′ mark δ φ) ≡ true))
+          (member (getD table e 0) n ≡ true)
+          (λ e′ mark δ φ T q. subst (λ (k : ℕ). member (getD table k 0) n ≡ true) (eqb-true e′ e (and-left (eqb e′ e) (test n e′ mark δ φ) (q .1))) (T .stands))
+          (templateAt φs n) (H n l) h in
+          (l, common n ∙ and-both c (ap (λ (k : ℕ). member k n) is ∙ stands), h)
+
+module _ (s : List ℕ) (declared : ℕ) (clauses standing words starts : List ℕ) (count reached : ℕ) where
   -- The rules of the elements below a number.
-  pub record Ruled (e : ℕ) (lowest : List ℕ) : Type 0 where
+  pub record Ruled (e : ℕ) (lowest : Wrong) : Type 0 where
     pub most : e ≤ 64
     pub is-declared : e < 64 → member declared e ≡ true
-    pub lowers : (φs : List Items) (G : Summary) (D : Vocabulary) (X : Formula → Sets) → Standing s φs G words gaps lone starts count
-        → AllYield φs G reached → RulesStand s D declared clauses → Occurrences φs standing → ExactClauses φs G D X
-        → Lowered φs reached (λ n e′ mark δ φ. ltb e′ e && wrongByClause φs G X D n e′ δ φ) table lowest
+    pub told : (φs : List Items) (G : Summary) (D : Vocabulary) (X : Formula → Sets) → Standing s φs G words starts count
+        → RulesStand s D declared clauses → Occurrences φs standing → ExactClauses φs G D X
+        → LowestWrong (Passing φs reached (λ n e′ mark δ φ. ltb e′ e && wrongByClause φs G X D n e′ δ φ)) lowest
 
   module _ (φs : List Items) (G : Summary) (D : Vocabulary) (X : Formula → Sets) (R : RulesStand s D declared clauses) where
     undeclared : (e n : ℕ) (δ : List Attribute) (φ : Items) → member declared e ≡ false → wrongByClause φs G X D n e δ φ ≡ false
@@ -179,48 +213,39 @@ module _ (s : List ℕ) (declared : ℕ) (clauses standing words gaps lone start
               let l = ltb-false e′ e q in
               sym (skipped (e + 1) next is e′ n δ φ (omega arith))
 
-  -- What the table says of the attributes of each element.
-  bears : (φs : List Items) → Occurrences φs standing → (e : ℕ) → Bears φs e (getD standing (e + 64) 0) (getD standing (e + 128) 0)
-  bears φs H e n l = all-into (λ e′ mark δ φ. Tells standing n e′ δ)
-      (λ e′ mark δ φ. e′ ≡ e → NamesBetween (getD standing (e + 64) 0) (getD standing (e + 128) 0) (names δ))
-      (λ e′ mark δ φ T q. subst (λ (k : ℕ). NamesBetween (getD standing (k + 64) 0) (getD standing (k + 128) 0) (names δ)) q
-      (record { has = T .always; within = T .ever })) (templateAt φs n) (H n l)
-
-  pub ruled-none : (e : ℕ) → FirstMember declared 0 e → Ruled e table
+  pub ruled-none : (e : ℕ) → FirstMember declared 0 e → Ruled e Nowhere
   ruled-none e is = record {
     most = is .within;
     is-declared = is .is-held;
-    lowers = λ φs G D X S Y R H exact. lowered-never φs reached (λ n e′ mark δ φ. ltb e′ e && wrongByClause φs G X D n e′ δ φ) table
+    told = λ φs G D X S R H exact. lowest-never φs reached (λ n e′ mark δ φ. ltb e′ e && wrongByClause φs G X D n e′ δ φ)
         (λ n e′ mark δ φ. skipped φs G D X R 0 e is e′ n δ φ (omega arith));
   }
 
-  pub ruled-more : (e : ℕ) (lowest : List ℕ) → Ruled e lowest → e < 64 → (chosen : ℕ) → ((k : ℕ) → member chosen k ≡ (member reached k && member (getD standing e 0) k))
-      → (more : List ℕ) → SearchesRule s e (getD clauses e 0) words gaps lone starts count chosen (getD standing (e + 64) 0) (getD standing (e + 128) 0) lowest more
-      → (next : ℕ) → FirstMember declared (e + 1) next → Ruled next more
-  ruled-more e lowest before low chosen common more searched next is = record {
+  pub ruled-more : (e : ℕ) (lowest : Wrong) → Ruled e lowest → e < 64 → (chosen : ℕ) → ((k : ℕ) → member chosen k ≡ (member reached k && member (getD standing e 0) k))
+      → (found : Wrong) → SearchesRule s e (getD clauses e 0) words starts count chosen found
+      → (lower : Wrong) → lower ≡ lowerWrong lowest found → (next : ℕ) → FirstMember declared (e + 1) next → Ruled next lower
+  ruled-more e lowest before low chosen common found searched lower is-lower next is = rw is-lower (record {
     most = is .within;
     is-declared = is .is-held;
-    lowers = λ φs G D X S Y R H exact.
+    told = λ φs G D X S R H exact.
         let (r, rule) = found-rule (ruleOf (D .rules) e) (sym (R .declares e) ∙ before .is-declared low) in
         let from = getD clauses e 0 in
         let (end, reads) = R .stands e r rule ((length s - from) + (length s - from) + 2) (omega arith) in
-        let here = searched φs G X S (λ n l m. Y n l (and-left (member reached n) (member (getD standing e 0) n) (sym (common n) ∙ m))) (bears φs H e) ((length s - from) + (length s - from) + 2) end (r .clauses) reads (λ ψ m. exact e r ψ rule m) in
-        let wide = lowered-wider φs chosen reached (getD standing e 0) e (λ n e′ mark δ φ. someClauseFails φs G X (r .clauses) n δ φ) lowest more common
-        (λ n l. all-into (λ e′ mark δ φ. Tells standing n e′ δ) (λ e′ mark δ φ. e′ ≡ e → member (getD standing e 0) n ≡ true)
-        (λ e′ mark δ φ T q. subst (λ (k : ℕ). member (getD standing k 0) n ≡ true) q (T .stands)) (templateAt φs n) (H n l)) here in
-        lowered-same φs reached
+        let here = searched φs G X S ((length s - from) + (length s - from) + 2) end (r .clauses) reads (λ ψ m. exact e r ψ rule m) in
+        lowest-same φs reached
         (λ n e′ mark δ φ. (ltb e′ e && wrongByClause φs G X D n e′ δ φ) || (eqb e′ e && someClauseFails φs G X (r .clauses) n δ φ))
-        (λ n e′ mark δ φ. ltb e′ next && wrongByClause φs G X D n e′ δ φ) table more
-        (λ n e′ mark δ φ. rule-more φs G D X R e next is r rule n e′ δ φ)
-        (lowered-then φs reached (λ n e′ mark δ φ. ltb e′ e && wrongByClause φs G X D n e′ δ φ)
-        (λ n e′ mark δ φ. eqb e′ e && someClauseFails φs G X (r .clauses) n δ φ) table lowest more (before .lowers φs G D X S Y R H exact) wide);
-  }
+        (λ n e′ mark δ φ. ltb e′ next && wrongByClause φs G X D n e′ δ φ)
+        (λ n e′ mark δ φ. rule-more φs G D X R e next is r rule n e′ δ φ) (lowerWrong lowest found)
+        (lowest-either φs reached (λ n e′ mark δ φ. ltb e′ e && wrongByClause φs G X D n e′ δ φ)
+        (λ n e′ mark δ φ. eqb e′ e && someClauseFails φs G X (r .clauses) n δ φ) lowest found (before .told φs G D X S R H exact)
+        (chosen-wider φs reached (getD standing e 0) chosen standing e refl common H (λ n e′ mark δ φ. someClauseFails φs G X (r .clauses) n δ φ) found here));
+  })
 
-  pub ruled-all : (e : ℕ) (lowest : List ℕ) → Ruled e lowest → 64 ≤ e → declared < 2 ^ 64
-      → SearchesRules s declared clauses standing words gaps lone starts count reached table lowest
-  ruled-all e lowest all l narrow φs G D X S Y R H exact = lowered-same φs reached
-      (λ n e′ mark δ φ. ltb e′ e && wrongByClause φs G X D n e′ δ φ) (λ n e′ mark δ φ. wrongByClause φs G X D n e′ δ φ) table lowest
-      (λ n e′ mark δ φ. go n e′ δ φ (ltb e′ e) refl) (all .lowers φs G D X S Y R H exact)
+  pub ruled-all : (e : ℕ) (lowest : Wrong) → Ruled e lowest → 64 ≤ e → declared < 2 ^ 64
+      → SearchesRules s declared clauses standing words starts count reached lowest
+  ruled-all e lowest all l narrow φs G D X S R H exact = lowest-same φs reached
+      (λ n e′ mark δ φ. ltb e′ e && wrongByClause φs G X D n e′ δ φ) (λ n e′ mark δ φ. wrongByClause φs G X D n e′ δ φ)
+      (λ n e′ mark δ φ. go n e′ δ φ (ltb e′ e) refl) lowest (all .told φs G D X S R H exact)
     where
       go : (n e′ : ℕ) (δ : List Attribute) (φ : Items) (b : Bool) → ltb e′ e ≡ b
           → (b && wrongByClause φs G X D n e′ δ φ) ≡ wrongByClause φs G X D n e′ δ φ

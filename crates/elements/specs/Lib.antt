@@ -1,4 +1,3 @@
-pub mod ClauseWords
 pub mod Attributes
 pub mod Search
 pub mod Rules

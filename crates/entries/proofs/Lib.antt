@@ -1,16 +1,10 @@
 pub mod Tests
 pub mod Claims
-pub mod Slots
 pub mod Walks
-pub mod Among
-pub mod Items
 pub mod Loading
-pub mod StringSets
 pub mod Passings
 pub mod Held
 pub mod Gathering
-pub mod Flat
-pub mod GapWords
-pub mod Own
+pub mod Fragments
 pub mod Transfers
 pub mod Reading

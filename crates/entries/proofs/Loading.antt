@@ -1,81 +1,59 @@
--- The words of an entry while its items are put into them.
-use Prim.Native.Nat.{ℕ, _^_, _<_}
+-- A graph while the items under a head are put into it.
+use Prim.Native.Nat.{ℕ}
 use mathlib.Core.Path.{_≡_, refl, _∙_}
-use mathlib.Core.List.{List, _∷_}
+use mathlib.Core.List.{List, [], _∷_}
 use mathlib.Core.Bool.{Bool, true, false, _||_, or-false}
-use native.Mathlib.Omega.{arith}
-use lib.ListN.{length, getD, set, replicate}
-use lib.Seq.{getD-set-same, getD-set-other}
-use lib.Dec.{eqb}
-use borrow.Author.Tests.{eqb-true, eqb-false}
-use Rattle.sets.specs.Sets.{member}
 use Rattle.commands.specs.declared.Context.the-variants.{TemplateFacts}
-use Rattle.commands.specs.Commands.{byte, allowed}
-use Rattle.summaries.specs.Proposal.{Claim, Fact, claim, anyAt, oneString, anyString}
-use Rattle.summaries.specs.Summaries.{saysClaim, held}
-use Rattle.summaries.proofs.Laws.{zeros}
-use Rattle.entries.specs.Listed.{ItemAt, over}
-use Rattle.entries.specs.Words.{holds, InWords, SlotAt, Loads}
-use Rattle.entries.proofs.Slots.{holds-claim, holds-any, holds-none}
+use Rattle.commands.specs.declared.Position.{Position}
+use Rattle.summaries.specs.Proposal.{Claim, Fact}
+use Rattle.summaries.specs.Summaries.{Summary, saysClaim, held}
+use Rattle.summaries.specs.Listed.{FactFits, Listed}
+use Rattle.summaries.proofs.Steps.{First}
+use Rattle.graphs.specs.Graphs.{Keeps, nothing, adding}
+use Rattle.graphs.proofs.ClosedGraphs.{keeps-same}
+use Rattle.entries.specs.Entries.{Loads}
 use Rattle.entries.proofs.Walks.{Walked, walk-begins, walk-goes, walk-ends}
-use Rattle.entries.proofs.Items.{OfTemplate, item-kind, in-words}
 
--- What is held is in the words, or is left.
-abbrev pub Loaded : List ℕ → List Fact → List Fact → Type 0
-Loaded words xs rest = (c : Claim) → InWords c → held saysClaim xs c ≡ (holds words c || held saysClaim rest c)
+-- The graph keeps a summary that, with what is left, holds what the first one holds with all.
+pub record Kept (graph : List ℕ) (R : Summary) (xs rest : List Fact) : Type 0 where
+  pub summary : Summary
+  pub keeps : Keeps graph summary
+  pub same : (c : Claim) → (R c || held saysClaim xs c) ≡ (summary c || held saysClaim rest c)
 
-pub record Wide (words : List ℕ) : Type 0 where
-  pub count : length words ≡ 544
-  pub narrow : (i : ℕ) → getD words i 0 < 2 ^ 64
+abbrev pub Loaded : List ℕ → List ℕ → List Fact → List Fact → Type 0
+Loaded before graph xs rest = (R : Summary) → Keeps before R → Kept graph R xs rest
 
-swap : (k y r : Bool) → (k || (y || r)) ≡ ((y || k) || r)
+pub swap : (k y r : Bool) → (k || (y || r)) ≡ ((y || k) || r)
 swap true true r = refl
 swap true false r = refl
 swap false true r = refl
 swap false false r = refl
 
-module _ (s : List ℕ) (from at : ℕ) (words : List ℕ) where
-  module _ (i v b : ℕ) (slot : SlotAt s at i b) (w : Wide words) (more : (k : ℕ) → member v k ≡ (eqb k b || member (getD words i 0) k)) where
-    inside : i < length words
-    inside = let a = slot .word-fits in let e = w .count in omega arith
+module _ (s : List ℕ) (from : ℕ) (before : List ℕ) where
+  pub load-begins : Walked TemplateFacts s from from (Loaded before before)
+  load-begins = walk-begins TemplateFacts s from (Loaded before before) λ xs R K. record { summary = R; keeps = K; same = λ c. refl }
 
-    holds-then : (y : Fact) → ItemAt TemplateFacts s at y → OfTemplate y → (c : Claim) → InWords c → holds (set words i v) c ≡ (saysClaim y c || holds words c)
-    holds-then (claim d) p t = holds-claim words i v b inside more d (slot .word-is (claim d) p) (slot .bit-is (claim d) p) (in-words d (p .fits))
-    holds-then (anyAt n h) p t = holds-any words i v b inside more n h (slot .word-is (anyAt n h) p) (slot .bit-is (anyAt n h) p) (p .fits .1)
-    holds-then (oneString n) p t = absurd t
-    holds-then anyString p t = absurd t
-
-    loaded-next : (xs : List Fact) (y : Fact) (ys : List Fact) → ItemAt TemplateFacts s at y → Loaded words xs (y ∷ ys) → Loaded (set words i v) xs ys
+  module _ (at : ℕ) (graph : List ℕ) (h : Walked TemplateFacts s from at (Loaded before graph)) where
+    pub load-goes : (y : Fact) (next : Position) → ((ys : List Fact) → Listed TemplateFacts s at ys → First s at TemplateFacts y next ys) → FactFits y
+        → (after : List ℕ) → (FactFits y → (R : Summary) → Keeps graph R → Keeps after (adding y R)) → Walked TemplateFacts s from (next .at) (Loaded before after)
     unfolding held
-    loaded-next xs y ys p h c g = h c g ∙ (swap (holds words c) (saysClaim y c) (held saysClaim ys c) ∙ rw (holds-then y p (item-kind s at y p) c g))
-
-    pub load-goes : allowed TemplateFacts (byte s at) ≡ true → Walked TemplateFacts s from at (Loaded words) → Walked TemplateFacts s from (over s at) (Loaded (set words i v))
-    load-goes a h = walk-goes TemplateFacts s from at (Loaded words) h (Loaded (set words i v)) a loaded-next
-
-    pub load-wide : v < 2 ^ 64 → length (set words i v) ≡ 544 → Wide (set words i v)
-    load-wide f l = record { count = l; narrow = λ k. go k (eqb k i) refl }
+    load-goes y next first fits after adds = walk-goes TemplateFacts s from at (Loaded before graph) h y next first (Loaded before after) goes
       where
-        go : (k : ℕ) (t : Bool) → eqb k i ≡ t → getD (set words i v) k 0 < 2 ^ 64
-        go k true e = rw (eqb-true k i e, getD-set-same words i v 0 inside) f
-        go k false e = rw (getD-set-other words i k v 0 (eqb-false k i e)) (w .narrow k)
+        goes : (xs ys : List Fact) → Loaded before graph xs (y ∷ ys) → Loaded before after xs ys
+        goes xs ys w R K =
+            let k = w R K in
+            record {
+              summary = adding y (k .summary);
+              keeps = adds fits (k .summary) (k .keeps);
+              same = λ c. k .same c ∙ swap (k .summary c) (saysClaim y c) (held saysClaim ys c);
+            }
 
-  pub load-ends : allowed TemplateFacts (byte s at) ≡ false → Wide words → Walked TemplateFacts s from at (Loaded words) → Loads s from words
-  unfolding held
-  load-ends n w h = record {
-    room = w .count;
-    keeps = λ xs l. record {
-      same = λ c g. walk-ends TemplateFacts s from at (Loaded words) h n xs l c g ∙ or-false (holds words c);
-      narrow = w .narrow;
-    };
-  }
+    pub load-ends : ((ys : List Fact) → Listed TemplateFacts s at ys → ys ≡ []) → Loads s from before graph
+    unfolding held
+    load-ends e xs l R K =
+        let k = walk-ends TemplateFacts s from at (Loaded before graph) h e xs l R K in
+        keeps-same graph (k .summary) _ (λ c g. k .same c ∙ or-false (k .summary c)) (k .keeps)
 
--- Nothing is loaded yet.
-module _ (words : List ℕ) (none : words ≡ replicate 544 0) where
-  zero-at : (i : ℕ) → getD words i 0 ≡ 0
-  zero-at i = rw none (zeros 544 i)
-
-  pub load-begins : (s : List ℕ) (from : ℕ) → Walked TemplateFacts s from from (Loaded words)
-  load-begins s from = walk-begins TemplateFacts s from (Loaded words) λ xs c g. rw (holds-none words zero-at c)
-
-  pub wide-begins : Wide words
-  wide-begins = record { count = rw none; narrow = λ i. rw (zero-at i) (omega arith) }
+-- A graph that held nothing keeps the entry.
+pub kept-entry : (s : List ℕ) (at : ℕ) (before after : List ℕ) → Keeps before nothing → Loads s at before after → (xs : List Fact) → Listed TemplateFacts s at xs → Keeps after (held saysClaim xs)
+kept-entry s at before after K loads xs l = loads xs l nothing K

@@ -1,22 +1,21 @@
 -- What of an entry passes: item by item, and against the words of an entry.
-use Prim.Native.Nat.{ℕ, _^_, _<_}
+use Prim.Native.Nat.{ℕ}
 use mathlib.Core.Path.{_≡_, refl, sym, ap, _∙_}
 use mathlib.Core.List.{List, [], _∷_}
 use mathlib.Core.Bool.{Bool, true, false, not, _&&_, _||_, and-false, or-false, false≢true}
 use mathlib.Core.Logic.{inl, inr}
-use native.Mathlib.Omega.{arith}
 use lib.Dec.{eqb}
 use borrow.Author.Tests.{eq-eqb, ne-eqb, eqb-true}
 use Rattle.sets.specs.Sets.{member}
 use Rattle.sets.specs.Sets as Sets
-use Rattle.sets.proofs.Laws.{member-high}
 use Rattle.summaries.specs.Proposal.{Claim, root, edge, string, gapFrom, attributeGapFrom, Fact, claim, anyAt}
 use Rattle.summaries.specs.Summaries.{Summary, Within, sameNumbers, saysClaim, held}
-use Rattle.entries.specs.declared.Strings.{Strings}
+use Rattle.strings.specs.declared.Values.{Values}
 use Rattle.entries.specs.declared.Passing.{Passing}
-use Rattle.entries.specs.Passing.{isOf, stays, added, passed, Decides}
+use Rattle.strings.specs.Strings.{holdsValue}
+use Rattle.entries.specs.Passing.{stays, added, passed, Decides}
 use Rattle.entries.proofs.Tests.{or-left, or-right, or-cases, and-both, and-left, and-right, refuted, decides, decides-map}
-use Rattle.entries.proofs.Claims.{says-itself, says-alone, says-any}
+use Rattle.graphs.proofs.Claims.{says-itself, says-alone, says-any}
 
 -- What two summaries hold passes of the one, or of the other.
 split : (t a b : Bool) → ((t && (a || b)) || false) ≡ (((t && a) || false) || ((t && b) || false))
@@ -42,7 +41,7 @@ module _ (how : Passing) where
   pub passed-or : (S T : Summary) (c : Claim) → passed how (λ d. S d || T d) c ≡ (passed how S c || passed how T c)
   passed-or S T (root n) = split (how .roots) (S (root n)) (T (root n))
   passed-or S T (edge n g m) = split-added (S (edge n g m)) (T (edge n g m)) (eqb g (how .gap)) (S (gapFrom g n)) (T (gapFrom g n)) (member (how .plugged) m)
-  passed-or S T (string n h s) = split-added (S (string n h s)) (T (string n h s)) (eqb h (how .attribute)) (S (attributeGapFrom h n)) (T (attributeGapFrom h n)) (isOf (how .strings) s)
+  passed-or S T (string n h s) = split-added (S (string n h s)) (T (string n h s)) (eqb h (how .attribute)) (S (attributeGapFrom h n)) (T (attributeGapFrom h n)) (holdsValue (how .strings) s)
   passed-or S T (gapFrom g n) = split (not (eqb g (how .gap))) (S (gapFrom g n)) (T (gapFrom g n))
   passed-or S T (attributeGapFrom h n) = split (not (eqb h (how .attribute))) (S (attributeGapFrom h n)) (T (attributeGapFrom h n))
 
@@ -115,13 +114,8 @@ module _ (how : Passing) where
     unfolding sameNumbers
     string-passes n h s b is = stays-passes (string n h s) refl (adds-none (string n h s) (λ k l. refl) (λ k l. refl)) b is
 
-    -- String 64 is none of the named ones.
-    pub any-passes : (n h named : ℕ) (b : Bool) → ((t : ℕ) → R (string n h t) ≡ (b || member named t)) → named < 2 ^ 64 → Decides b (Passes (anyAt n h))
-    any-passes n h named b is f = decides b
-        (λ e d p. covers e d (stays-or d p))
-        (λ w. let q : R (string n h 64) ≡ true = w (string n h 64) (or-left _ _ (says-any n h 64)) in
-        let z : (b || false) ≡ true = rw (← member-high 64 named 64 f (omega arith)) (sym (is 64) ∙ q) in
-        sym (or-false b) ∙ z)
+    pub any-passes : (n h : ℕ) (there : Values) → ((t : ℕ) → R (string n h t) ≡ holdsValue there t) → (b : Bool) → Decides b (Within (λ t. true) (holdsValue there)) → Decides b (Passes (anyAt n h))
+    any-passes n h there is b v = decides-map b (λ w d p. covers w d (stays-or d p)) (λ w t e. sym (is t) ∙ w (string n h t) (or-left _ _ (says-any n h t))) v
       where
         stays-or : (d : Claim) → passed how (saysClaim (anyAt n h)) d ≡ true → saysClaim (anyAt n h) d ≡ true
         stays-or (root m) p = absurd (false≢true (sym (and-false (how .roots)) ∙ (sym (or-false _) ∙ p)))
@@ -130,15 +124,15 @@ module _ (how : Passing) where
         stays-or (gapFrom g m) p = absurd (false≢true (sym (and-false (not (eqb g (how .gap)))) ∙ (sym (or-false _) ∙ p)))
         stays-or (attributeGapFrom k m) p = absurd (false≢true (sym (and-false (not (eqb k (how .attribute)))) ∙ (sym (or-false _) ∙ p)))
 
-        covers : b ≡ true → (d : Claim) → saysClaim (anyAt n h) d ≡ true → R d ≡ true
-        covers e (root m) p = absurd (false≢true p)
-        covers e (edge m g k) p = absurd (false≢true p)
-        covers e (string m k s) p =
+        covers : Within (λ t. true) (holdsValue there) → (d : Claim) → saysClaim (anyAt n h) d ≡ true → R d ≡ true
+        covers w (root m) p = absurd (false≢true p)
+        covers w (edge m g k) p = absurd (false≢true p)
+        covers w (string m k s) p =
             let q : m ≡ n = eqb-true m n (and-left _ _ p) in
             let r : k ≡ h = eqb-true k h (and-right (eqb m n) _ p) in
-            rw (q, r, is s, e)
-        covers e (gapFrom g m) p = absurd (false≢true p)
-        covers e (attributeGapFrom k m) p = absurd (false≢true p)
+            rw (q, r) (is s ∙ w s refl)
+        covers w (gapFrom g m) p = absurd (false≢true p)
+        covers w (attributeGapFrom k m) p = absurd (false≢true p)
 
     -- Origins of a gap that is not plugged, and of one that is: edges to the roots plugged in stand for those.
     module _ (g n : ℕ) where
@@ -177,13 +171,13 @@ module _ (how : Passing) where
 
     -- The same for attribute gaps, with strings.
     module _ (h n : ℕ) where
-      adds-strings : (d : Claim) → added how (saysClaim (claim (attributeGapFrom h n))) d ≡ true → (h ≡ how .attribute) × (t : ℕ) × (string n h t ≡ d) × (isOf (how .strings) t ≡ true)
+      adds-strings : (d : Claim) → added how (saysClaim (claim (attributeGapFrom h n))) d ≡ true → (h ≡ how .attribute) × (t : ℕ) × (string n h t ≡ d) × (holdsValue (how .strings) t ≡ true)
       unfolding sameNumbers
       adds-strings (root k) p = absurd (false≢true p)
       adds-strings (edge k l m) p = absurd (false≢true (sym (and-false (eqb l (how .gap))) ∙ p))
       adds-strings (string k l t) p =
           let a : l ≡ how .attribute = eqb-true l (how .attribute) (and-left _ _ p) in
-          let b : (saysClaim (claim (attributeGapFrom h n)) (attributeGapFrom l k) && isOf (how .strings) t) ≡ true = and-right (eqb l (how .attribute)) _ p in
+          let b : (saysClaim (claim (attributeGapFrom h n)) (attributeGapFrom l k) && holdsValue (how .strings) t) ≡ true = and-right (eqb l (how .attribute)) _ p in
           let q : attributeGapFrom h n ≡ attributeGapFrom l k = says-alone (attributeGapFrom h n) (attributeGapFrom l k) (and-left _ _ b) in
           let r : h ≡ l = cc in
           let r′ : n ≡ k = cc in
@@ -194,11 +188,11 @@ module _ (how : Passing) where
       pub attribute-passes : (h ≡ how .attribute → ⊥) → (b : Bool) → R (attributeGapFrom h n) ≡ b → Decides b (Passes (claim (attributeGapFrom h n)))
       attribute-passes other b is = stays-passes (attributeGapFrom h n) (rw (ne-eqb h (how .attribute) other)) (λ d. refuted _ λ p. other (adds-strings d p .0)) b is
 
-      module _ (e : h ≡ how .attribute) (there : Strings) (is : (t : ℕ) → R (string n h t) ≡ isOf there t) where
-        to-strings : Passes (claim (attributeGapFrom h n)) → Within (isOf (how .strings)) (isOf there)
+      module _ (e : h ≡ how .attribute) (there : Values) (is : (t : ℕ) → R (string n h t) ≡ holdsValue there t) where
+        to-strings : Passes (claim (attributeGapFrom h n)) → Within (holdsValue (how .strings)) (holdsValue there)
         to-strings w t p = sym (is t) ∙ w (string n h t) (or-right (saysClaim (claim (attributeGapFrom h n)) (string n h t)) _ (and-both _ _ (eq-eqb h (how .attribute) e) (and-both _ _ (says-itself (attributeGapFrom h n)) p)))
 
-        from-strings : Within (isOf (how .strings)) (isOf there) → Passes (claim (attributeGapFrom h n))
+        from-strings : Within (holdsValue (how .strings)) (holdsValue there) → Passes (claim (attributeGapFrom h n))
         from-strings w d p = elim (or-cases (stays how d && saysClaim (claim (attributeGapFrom h n)) d) (added how (saysClaim (claim (attributeGapFrom h n))) d) p) [
           | inl k ↦ let q : attributeGapFrom h n ≡ d = says-alone (attributeGapFrom h n) d (and-right (stays how d) _ k) in
               let z : not (eqb h (how .attribute)) ≡ true = ap (stays how) q ∙ and-left (stays how d) _ k in
@@ -206,5 +200,5 @@ module _ (how : Passing) where
           | inr k ↦ let a = adds-strings d k in rw (← a .2) (is (a .1) ∙ w (a .1) (a .3))
         ]
 
-        pub filled-passes : (b : Bool) → Decides b (Within (isOf (how .strings)) (isOf there)) → Decides b (Passes (claim (attributeGapFrom h n)))
+        pub filled-passes : (b : Bool) → Decides b (Within (holdsValue (how .strings)) (holdsValue there)) → Decides b (Passes (claim (attributeGapFrom h n)))
         filled-passes b w = decides-map b from-strings to-strings w

@@ -14,7 +14,7 @@ use Rattle.commands.specs.Reading.{Read, whole, when}
 use Rattle.commands.proofs.Laws.{moved, andThen-whole, onCommand-whole, when-whole}
 use Rattle.summaries.specs.Proposal.{root, edge, string, gapFrom, attributeGapFrom, Fact, claim, anyAt, oneString}
 use Rattle.summaries.specs.ProposalReading.{factOf, factAt, factThere, rank, facts}
-use Rattle.entries.specs.Listed.{FactFits, Listed}
+use Rattle.summaries.specs.Listed.{FactFits, Listed}
 use Rattle.entries.proofs.Tests.{and-left, and-right}
 
 chosen : (P : Fact → Type 0) (t : Bool) (x y : Fact) → (t ≡ true → P x) → P y → P (cond t x y)

@@ -1,42 +1,12 @@
 -- Tests, and what they decide.
-use mathlib.Core.Path.{_≡_, refl, sym}
-use mathlib.Core.Bool.{Bool, true, false, _&&_, _||_, false≢true}
-use mathlib.Core.Logic.{_⊎_, inl, inr}
+use Prim.Native.Nat.{ℕ}
+use mathlib.Core.Path.{_≡_, refl, sym, _∙_}
+use mathlib.Core.Bool.{Bool, true, false, false≢true}
+use Rattle.strings.specs.declared.Values.{Values}
+use Rattle.strings.specs.Strings.{holdsValue, ValuesWithin}
+use Rattle.summaries.specs.Summaries.{Within}
 use Rattle.entries.specs.Passing.{Decides}
-
-pub or-left : (a b : Bool) → a ≡ true → (a || b) ≡ true
-or-left true b e = refl
-or-left false b e = absurd (false≢true e)
-
-pub or-right : (a b : Bool) → b ≡ true → (a || b) ≡ true
-or-right true b e = refl
-or-right false b e = e
-
-pub or-cases : (a b : Bool) → (a || b) ≡ true → (a ≡ true) ⊎ (b ≡ true)
-or-cases true b e = inl refl
-or-cases false b e = inr e
-
-pub and-both : (a b : Bool) → a ≡ true → b ≡ true → (a && b) ≡ true
-and-both true b e f = f
-and-both false b e f = e
-
-pub and-left : (a b : Bool) → (a && b) ≡ true → a ≡ true
-and-left true b e = refl
-and-left false b e = e
-
-pub and-right : (a b : Bool) → (a && b) ≡ true → b ≡ true
-and-right true b e = e
-and-right false b e = absurd (false≢true e)
-
--- Two tests with the same outcome.
-pub alike : (a b : Bool) → (a ≡ true → b ≡ true) → (b ≡ true → a ≡ true) → a ≡ b
-alike true b f g = sym (f refl)
-alike false true f g = g refl
-alike false false f g = refl
-
-pub refuted : (a : Bool) → (a ≡ true → ⊥) → a ≡ false
-refuted true f = absurd (f refl)
-refuted false f = refl
+pub use Rattle.graphs.proofs.Tests.{or-left, or-right, or-cases, and-both, and-left, and-right, alike, refuted}
 
 module _ {P : Type 0} where
   pub decides : (b : Bool) → (b ≡ true → P) → (P → b ≡ true) → Decides b P
@@ -52,10 +22,11 @@ module _ {P : Type 0} where
   decided-false true d e = absurd (false≢true (sym e))
   decided-false false d e = d
 
-  pub decided-back : (b : Bool) → Decides b P → P → b ≡ true
-  decided-back true d p = refl
-  decided-back false d p = absurd (d p)
-
 pub decides-map : {P Q : Type 0} (b : Bool) → (P → Q) → (Q → P) → Decides b P → Decides b Q
 decides-map true f g d = f d
 decides-map false f g d = λ q. d (g q)
+
+-- Sets of strings that are what attribute gaps can take, compared as these.
+pub values-decide : (F G : ℕ → Bool) (a b : Values) → ((t : ℕ) → F t ≡ holdsValue a t) → ((t : ℕ) → G t ≡ holdsValue b t) → (r : Bool) → ValuesWithin a b r → Decides r (Within F G)
+values-decide F G a b e f true w = λ t h. f t ∙ w t (sym (e t) ∙ h)
+values-decide F G a b e f false w = λ v. false≢true (sym (w .2) ∙ (sym (f (w .0)) ∙ v (w .0) (e (w .0) ∙ w .1)))

@@ -12,12 +12,13 @@ use Rattle.sets.proofs.Laws.{member-zero}
 use Rattle.commands.specs.declared.Context.the-variants.{TemplateFacts}
 use Rattle.summaries.specs.Proposal.{Claim, root, edge, string, gapFrom, attributeGapFrom, Fact, claim, anyAt, oneString, anyString}
 use Rattle.summaries.specs.Summaries.{Summary, Strings, Within, plugSummary, plugStringSummary, saysClaim, held}
-use Rattle.entries.specs.declared.Strings as Declared
+use Rattle.strings.specs.declared.Values.{Values}
 use Rattle.entries.specs.declared.Passing.{Passing}
-use Rattle.entries.specs.Listed.{FactFits, Listed}
-use Rattle.entries.specs.Passing.{isOf, passed, wholly, withoutRoots, plugging, filling, Decides}
+use Rattle.summaries.specs.Listed.{FactFits, Listed}
+use Rattle.strings.specs.Strings.{holdsValue}
+use Rattle.entries.specs.Passing.{passed, wholly, withoutRoots, plugging, filling, Decides}
 use Rattle.entries.proofs.Tests.{or-left, or-right, or-cases, and-right, decided-true, decided-false, decides-map}
-use Rattle.entries.proofs.Claims.{says-alone}
+use Rattle.graphs.proofs.Claims.{says-alone}
 
 -- Claims whose gaps are in range, and summaries that hold no others.
 abbrev pub LowGaps : Claim → Type 0
@@ -74,18 +75,19 @@ nothing t u = rw (and-false u) (and-false t)
 not-eight : (g : ℕ) → g < 8 → eqb g 8 ≡ false
 not-eight g f = ne-eqb g 8 λ q. omega arith
 
-pub wholly-same : (S : Summary) (c : Claim) → LowGaps c → passed wholly S c ≡ S c
-wholly-same S (root n) f = or-false (S (root n))
-wholly-same S (edge n g m) f = rw (member-zero m, nothing (eqb g 8) (S (gapFrom g n))) (or-false (S (edge n g m)))
-wholly-same S (string n h s) f = rw (member-zero s, nothing (eqb h 8) (S (attributeGapFrom h n))) (or-false (S (string n h s)))
-wholly-same S (gapFrom g n) f = rw (not-eight g f) (or-false (S (gapFrom g n)))
-wholly-same S (attributeGapFrom h n) f = rw (not-eight h f) (or-false (S (attributeGapFrom h n)))
+module _ (none : Values) (empty : (t : ℕ) → holdsValue none t ≡ false) where
+  wholly-same : (S : Summary) (c : Claim) → LowGaps c → passed (wholly none) S c ≡ S c
+  wholly-same S (root n) f = or-false (S (root n))
+  wholly-same S (edge n g m) f = rw (member-zero m, nothing (eqb g 8) (S (gapFrom g n))) (or-false (S (edge n g m)))
+  wholly-same S (string n h s) f = rw (empty s, nothing (eqb h 8) (S (attributeGapFrom h n))) (or-false (S (string n h s)))
+  wholly-same S (gapFrom g n) f = rw (not-eight g f) (or-false (S (gapFrom g n)))
+  wholly-same S (attributeGapFrom h n) f = rw (not-eight h f) (or-false (S (attributeGapFrom h n)))
 
-module _ (S R : Summary) (low : Low S) where
-  pub copy-decides : (b : Bool) → Decides b (Within (passed wholly S) R) → Decides b (Within S R)
-  copy-decides b d = decides-map b
-      (within-alike S (passed wholly S) R low (λ c f. sym (wholly-same S c f)))
-      (within-alike (passed wholly S) S R (passed-low wholly S low) (wholly-same S)) d
+  module _ (S R : Summary) (low : Low S) where
+    pub copy-decides : (b : Bool) → Decides b (Within (passed (wholly none) S) R) → Decides b (Within S R)
+    copy-decides b d = decides-map b
+        (within-alike S (passed (wholly none) S) R low (λ c f. sym (wholly-same S c f)))
+        (within-alike (passed (wholly none) S) S R (passed-low (wholly none) S low) (wholly-same S)) d
 
 -- A plug: the value that is plugged passes with its gap, the value plugged in without its roots.
 mix : (a b q o r : Bool) → ((a || b) || ((q && o) && r)) ≡ ((a || (q && (o && r))) || (b || false))
@@ -107,13 +109,13 @@ pick true a b = sym (or-false b)
 pick false true b = refl
 pick false false b = sym (or-false b)
 
-module _ (g : ℕ) (S T R : Summary) (low-S : Low S) (low-T : Low T) (roots : ℕ) (is : (n : ℕ) → T (root n) ≡ member roots n) where
-  plug-same : (c : Claim) → LowGaps c → plugSummary g S T c ≡ (passed (plugging g roots) S c || passed withoutRoots T c)
+module _ (none : Values) (empty : (t : ℕ) → holdsValue none t ≡ false) (g : ℕ) (S T R : Summary) (low-S : Low S) (low-T : Low T) (roots : ℕ) (is : (n : ℕ) → T (root n) ≡ member roots n) where
+  plug-same : (c : Claim) → LowGaps c → plugSummary g S T c ≡ (passed (plugging none g roots) S c || passed (withoutRoots none) T c)
   plug-same (root n) f = sym (or-false _ ∙ or-false (S (root n)))
   plug-same (edge n k m) f =
       rw (is m, member-zero m, nothing (eqb k 8) (T (gapFrom k n))) (mix (S (edge n k m)) (T (edge n k m)) (eqb k g) (S (gapFrom k n)) (member roots m))
   plug-same (string n h s) f =
-      rw (member-zero s, nothing (eqb h 8) (S (attributeGapFrom h n)), nothing (eqb h 8) (T (attributeGapFrom h n))) (both (S (string n h s)) (T (string n h s)))
+      rw (empty s, nothing (eqb h 8) (S (attributeGapFrom h n)), nothing (eqb h 8) (T (attributeGapFrom h n))) (both (S (string n h s)) (T (string n h s)))
   plug-same (gapFrom k n) f = rw (not-eight k f) (pick (eqb k g) (S (gapFrom k n)) (T (gapFrom k n)))
   plug-same (attributeGapFrom h n) f = rw (not-eight h f) (both (S (attributeGapFrom h n)) (T (attributeGapFrom h n)))
 
@@ -129,19 +131,19 @@ module _ (g : ℕ) (S T R : Summary) (low-S : Low S) (low-T : Low T) (roots : �
   plug-low (attributeGapFrom h n) e =
       elim (or-cases (S (attributeGapFrom h n)) (T (attributeGapFrom h n)) e) [ inl p ↦ low-S (attributeGapFrom h n) p | inr p ↦ low-T (attributeGapFrom h n) p ]
 
-  plugged-within : Within (plugSummary g S T) R → Within (passed (plugging g roots) S) R
-  plugged-within w c p = w c (plug-same c (passed-low (plugging g roots) S low-S c p) ∙ or-left _ _ p)
+  plugged-within : Within (plugSummary g S T) R → Within (passed (plugging none g roots) S) R
+  plugged-within w c p = w c (plug-same c (passed-low (plugging none g roots) S low-S c p) ∙ or-left _ _ p)
 
-  plugged-in-within : Within (plugSummary g S T) R → Within (passed withoutRoots T) R
-  plugged-in-within w c p = w c (plug-same c (passed-low withoutRoots T low-T c p) ∙ or-right (passed (plugging g roots) S c) _ p)
+  plugged-in-within : Within (plugSummary g S T) R → Within (passed (withoutRoots none) T) R
+  plugged-in-within w c p = w c (plug-same c (passed-low (withoutRoots none) T low-T c p) ∙ or-right (passed (plugging none g roots) S c) _ p)
 
-  both-within : Within (passed (plugging g roots) S) R → Within (passed withoutRoots T) R → Within (plugSummary g S T) R
-  both-within v w c p = elim (or-cases (passed (plugging g roots) S c) (passed withoutRoots T c) (sym (plug-same c (plug-low c p)) ∙ p)) [ inl q ↦ v c q | inr q ↦ w c q ]
+  both-within : Within (passed (plugging none g roots) S) R → Within (passed (withoutRoots none) T) R → Within (plugSummary g S T) R
+  both-within v w c p = elim (or-cases (passed (plugging none g roots) S c) (passed (withoutRoots none) T c) (sym (plug-same c (plug-low c p)) ∙ p)) [ inl q ↦ v c q | inr q ↦ w c q ]
 
-  pub plug-fails : (b : Bool) → b ≡ false → Decides b (Within (passed (plugging g roots) S) R) → Within (plugSummary g S T) R → ⊥
+  pub plug-fails : (b : Bool) → b ≡ false → Decides b (Within (passed (plugging none g roots) S) R) → Within (plugSummary g S T) R → ⊥
   plug-fails b e d w = decided-false b d e (plugged-within w)
 
-  pub plug-decides : (a b : Bool) → a ≡ true → Decides a (Within (passed (plugging g roots) S) R) → Decides b (Within (passed withoutRoots T) R) → Decides b (Within (plugSummary g S T) R)
+  pub plug-decides : (a b : Bool) → a ≡ true → Decides a (Within (passed (plugging none g roots) S) R) → Decides b (Within (passed (withoutRoots none) T) R) → Decides b (Within (plugSummary g S T) R)
   plug-decides a b e c d = decides-map b (both-within (decided-true a c e)) plugged-in-within d
 
 -- A plug of strings.
@@ -154,11 +156,11 @@ none-left : (q a : Bool) → cond q false a ≡ ((not q && a) || false)
 none-left true a = refl
 none-left false a = sym (or-false a)
 
-module _ (h : ℕ) (S R : Summary) (low : Low S) (Y : Strings) (strings : Declared.Strings) (is : (t : ℕ) → Y t ≡ isOf strings t) where
+module _ (h : ℕ) (S R : Summary) (low : Low S) (Y : Strings) (strings : Values) (is : (t : ℕ) → Y t ≡ holdsValue strings t) where
   fill-same : (c : Claim) → LowGaps c → plugStringSummary h S Y c ≡ passed (filling h strings) S c
   fill-same (root n) f = sym (or-false (S (root n)))
   fill-same (edge n g m) f = rw (member-zero m, nothing (eqb g 8) (S (gapFrom g n))) (sym (or-false (S (edge n g m))))
-  fill-same (string n k s) f = rw (is s) (fill-string (S (string n k s)) (eqb k h) (S (attributeGapFrom k n)) (isOf strings s))
+  fill-same (string n k s) f = rw (is s) (fill-string (S (string n k s)) (eqb k h) (S (attributeGapFrom k n)) (holdsValue strings s))
   fill-same (gapFrom g n) f = rw (not-eight g f) (sym (or-false (S (gapFrom g n))))
   fill-same (attributeGapFrom k n) f = none-left (eqb k h) (S (attributeGapFrom k n))
 

@@ -1,4 +1,2 @@
-pub mod Listed
-pub mod Words
 pub mod Passing
-pub mod Gaps
+pub mod Entries

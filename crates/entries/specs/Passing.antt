@@ -7,12 +7,9 @@ use lib.Dec.{eqb}
 use Rattle.sets.specs.Sets.{member}
 use Rattle.summaries.specs.Proposal.{Claim, root, edge, string, gapFrom, attributeGapFrom}
 use Rattle.summaries.specs.Summaries.{Summary}
-use Rattle.entries.specs.declared.Strings.{Strings}
+use Rattle.strings.specs.declared.Values.{Values}
+use Rattle.strings.specs.Strings.{holdsValue}
 use Rattle.entries.specs.declared.Passing.{Passing}
-
--- Whether a string is one of a set of strings.
-abbrev pub isOf : Strings → ℕ → Bool
-isOf set t = set .any || member (set .named) t
 
 abbrev pub stays : Passing → Claim → Bool
 stays how (root n) = how .roots
@@ -25,28 +22,25 @@ stays how (attributeGapFrom h n) = not (eqb h (how .attribute))
 abbrev pub added : Passing → Summary → Claim → Bool
 added how S (root n) = false
 added how S (edge n g m) = eqb g (how .gap) && (S (gapFrom g n) && member (how .plugged) m)
-added how S (string n h s) = eqb h (how .attribute) && (S (attributeGapFrom h n) && isOf (how .strings) s)
+added how S (string n h s) = eqb h (how .attribute) && (S (attributeGapFrom h n) && holdsValue (how .strings) s)
 added how S (gapFrom g n) = false
 added how S (attributeGapFrom h n) = false
 
 abbrev pub passed : Passing → Summary → Summary
 passed how S c = (stays how c && S c) || added how S c
 
--- The strings of no string variable, and the ways of passing: all of an entry; all but its roots; a plug into gap g of a value with
--- these roots; a plug of strings into attribute gap h. Gap 8 is none.
-abbrev pub noStrings : Strings
-noStrings = record { named = 0; any = false }
+-- The ways of passing: all of an entry; all but its roots; a plug into gap g of a value with these roots; a plug of strings into
+-- attribute gap h. Gap 8 is none. Where no attribute gap is filled, the strings are none.
+abbrev pub wholly : Values → Passing
+wholly none = record { roots = true; gap = 8; plugged = 0; attribute = 8; strings = none }
 
-abbrev pub wholly : Passing
-wholly = record { roots = true; gap = 8; plugged = 0; attribute = 8; strings = noStrings }
+abbrev pub withoutRoots : Values → Passing
+withoutRoots none = record { roots = false; gap = 8; plugged = 0; attribute = 8; strings = none }
 
-abbrev pub withoutRoots : Passing
-withoutRoots = record { roots = false; gap = 8; plugged = 0; attribute = 8; strings = noStrings }
+abbrev pub plugging : Values → ℕ → ℕ → Passing
+plugging none g roots = record { roots = true; gap = g; plugged = roots; attribute = 8; strings = none }
 
-abbrev pub plugging : ℕ → ℕ → Passing
-plugging g roots = record { roots = true; gap = g; plugged = roots; attribute = 8; strings = noStrings }
-
-abbrev pub filling : ℕ → Strings → Passing
+abbrev pub filling : ℕ → Values → Passing
 filling h strings = record { roots = true; gap = 8; plugged = 0; attribute = h; strings = strings }
 
 -- By the answer, a proposition holds or does not.

@@ -29,23 +29,23 @@ use Rattle.programs.proofs.Laws.{WholeAs, agrees-whole, agrees-refuses, whole-a
 use Rattle.summaries.specs.ProposalReading.{proposal}
 use Rattle.summaries.specs.Promises.{Kept, ProposalReads}
 use Rattle.jobs.specs.declared.JobRead.{JobRead}
-use Rattle.jobs.specs.Job.{Job, job}
+use Rattle.jobs.specs.Job.{Script, Job, script, job}
 use Rattle.jobs.specs.Promises.{JobKept, JobReads}
 
 -- What is read after each part.
 module _ (s : List ℕ) where
-  abbrev afterProgram : Vocabulary → List Items → List Statement → ℕ → Read Job
-  afterProgram D φs ts next = andThen (proposal (enough s) (length φs) (length ts) s 0 next) λ hs end.
-      whole (record { vocabulary = D; templates = φs; program = ts; proposal = hs }) end
+  abbrev afterTemplates : Vocabulary → List Items → ℕ → Read Script
+  afterTemplates D φs next = andThen (program (enough s) (length φs) s next) λ ts end. whole (record { vocabulary = D; templates = φs; program = ts }) end
 
-  abbrev afterTemplates : Vocabulary → List Items → ℕ → Read Job
-  afterTemplates D φs next = andThen (program (enough s) (length φs) s next) λ ts after. afterProgram D φs ts after
-
-  abbrev afterVocabulary : Vocabulary → ℕ → Read Job
+  abbrev afterVocabulary : Vocabulary → ℕ → Read Script
   afterVocabulary D next = andThen (templates (enough s) (declared (D .rules)) s 0 next) λ φs after. afterTemplates D φs after
 
+  abbrev afterScript : Script → ℕ → Read Job
+  afterScript π next = andThen (proposal (enough s) (length (π .templates)) (length (π .program)) s 0 next) λ hs end.
+      whole (record { script = π; proposal = hs }) end
+
   abbrev parts : Read Job
-  parts = andThen (vocabulary s) afterVocabulary
+  parts = andThen (script s) afterScript
 
   -- Refused where the parts are, and where something follows them.
   module _ (heads : List ℕ) (r : JobRead) where
@@ -57,6 +57,9 @@ module _ (s : List ℕ) where
       parts-refuse : (f : Form) (n : ℕ) → parts ≡ refused f n → r .part ≡ Refused f n → JobReads s heads r
       unfolding job
       parts-refuse f n q e = refused-agrees (λ j end. JobKept s heads j r) (job s) (r .part) f n (rw (le-leb (length s) mostBytes short, q)) e
+
+      script-refuses : (f : Form) (n : ℕ) → script s ≡ refused f n → r .part ≡ Refused f n → JobReads s heads r
+      script-refuses f n q e = parts-refuse f n (rw q) e
 
       parts-go-on : (j : Job) (end : ℕ) → parts ≡ whole j end → end < length s → r .part ≡ Refused NotAllowed end → JobReads s heads r
       unfolding job
@@ -71,9 +74,10 @@ module _ (s : List ℕ) where
 -- The vocabulary is refused, or is there.
 pub vocabulary-refuses : (s : List ℕ) (v : VocabularyRead) (heads : List ℕ) (r : JobRead) (f : Form) (n : ℕ) → length s ≤ mostBytes → VocabularyReads s v → v .part ≡ Refused f n → r .part ≡ v .part
     → JobReads s heads r
+unfolding script
 vocabulary-refuses s v heads r f n short reads q e =
     let refuses = agrees-refuses (λ D end. Describes s D (v .tables)) (vocabulary s) (v .part) f n q reads in
-    parts-refuse s heads r short f n (rw refuses) (e ∙ q)
+    script-refuses s heads r short f n (rw refuses) (e ∙ q)
 
 pub record VocabularyThere (s : List ℕ) (v : VocabularyRead) (next : Position) : Type 0 where
   pub short : length s ≤ mostBytes
@@ -87,7 +91,8 @@ module _ {s : List ℕ} {v : VocabularyRead} {next : Position} (there : Vocabula
   abbrev D : Vocabulary
   D = v-tree .tree
 
-  after-v : parts s ≡ afterVocabulary s D (next .at)
+  after-v : script s ≡ afterVocabulary s D (next .at)
+  unfolding script
   after-v = whole-then (λ D end. Describes s D (v .tables)) (vocabulary s) next v-tree (afterVocabulary s)
 
   -- The templates are refused, or are there.
@@ -100,7 +105,7 @@ module _ {s : List ℕ} {v : VocabularyRead} {next : Position} (there : Vocabula
     pub templates-refuse : (heads : List ℕ) (r : JobRead) (f : Form) (n : ℕ) → t .part ≡ Refused f n → r .part ≡ t .part → JobReads s heads r
     templates-refuse heads r f n q e =
         let refuses = agrees-refuses (λ φs end. Located (declared (D .rules)) s φs (t .count) (t .starts)) (templates (enough s) (declared (D .rules)) s 0 (next .at)) (t .part) f n q t-agree in
-        parts-refuse s heads r (there .short) f n (after-v ∙ rw refuses) (e ∙ q)
+        script-refuses s heads r (there .short) f n (after-v ∙ rw refuses) (e ∙ q)
 
 pub record TemplatesThere (s : List ℕ) (v : VocabularyRead) (next : Position) (t : TemplatesRead) (next′ : Position) : Type 0 where
   pub before : VocabularyThere s v next
@@ -116,7 +121,7 @@ module _ {s : List ℕ} {v : VocabularyRead} {next : Position} {t : TemplatesRea
   abbrev φs : List Items
   φs = t-tree .tree
 
-  after-t : parts s ≡ afterTemplates s (D (there .before)) φs (next′ .at)
+  after-t : script s ≡ afterTemplates s (D (there .before)) φs (next′ .at)
   after-t =
       after-v (there .before)
       ∙ whole-then (λ φs end. Located (declared (D (there .before) .rules)) s φs (t .count) (t .starts)) (templates (enough s) (declared (D (there .before) .rules)) s 0 (next .at)) next′ t-tree
@@ -130,7 +135,7 @@ module _ {s : List ℕ} {v : VocabularyRead} {next : Position} {t : TemplatesRea
     pub program-refuses : (heads : List ℕ) (r : JobRead) (f : Form) (n : ℕ) → p .part ≡ Refused f n → r .part ≡ p .part → JobReads s heads r
     program-refuses heads r f n q e =
         let refuses = agrees-refuses (λ ts end. Tabled s (length φs) p ts) (program (enough s) (length φs) s (next′ .at)) (p .part) f n q p-agrees in
-        parts-refuse s heads r (there .before .short) f n (after-t ∙ rw refuses) (e ∙ q)
+        script-refuses s heads r (there .before .short) f n (after-t ∙ rw refuses) (e ∙ q)
 
 pub record ProgramThere (s : List ℕ) (v : VocabularyRead) (next : Position) (t : TemplatesRead) (next′ : Position) (p : ProgramRead) (next″ : Position) : Type 0 where
   pub before : TemplatesThere s v next t next′
@@ -146,11 +151,17 @@ module _ {s : List ℕ} {v : VocabularyRead} {next : Position} {t : TemplatesRea
   abbrev ts : List Statement
   ts = p-tree .tree
 
-  after-p : parts s ≡ afterProgram s (D (there .before .before)) (φs (there .before)) ts (next″ .at)
+  abbrev π : Script
+  π = record { vocabulary = D (there .before .before); templates = φs (there .before); program = ts }
+
+  after-p : script s ≡ whole π (next″ .at)
   after-p =
       after-t (there .before)
       ∙ whole-then (λ ts end. Tabled s (length (φs (there .before))) p ts) (program (enough s) (length (φs (there .before))) s (next′ .at)) next″ p-tree
-      (afterProgram s (D (there .before .before)) (φs (there .before)))
+      (λ ts end. whole (record { vocabulary = D (there .before .before); templates = φs (there .before); program = ts }) end)
+
+  after-script : parts s ≡ afterScript s π (next″ .at)
+  after-script = rw after-p
 
   pub points-low : p .count ≤ 32
   points-low = p-tree .holds .most
@@ -166,7 +177,7 @@ module _ {s : List ℕ} {v : VocabularyRead} {next : Position} {t : TemplatesRea
     pub proposal-refuses : (r : JobRead) (f : Form) (n : ℕ) → h ≡ Refused f n → r .part ≡ h → JobReads s heads r
     proposal-refuses r f n q e =
         let refuses = agrees-refuses (λ hs end. Kept (length (φs (there .before))) s 0 heads hs) (proposal (enough s) (length (φs (there .before))) (length ts) s 0 (next″ .at)) h f n q h-agrees in
-        parts-refuse s heads r (there .before .before .short) f n (after-p ∙ rw refuses) (e ∙ q)
+        parts-refuse s heads r (there .before .before .short) f n (after-script ∙ rw refuses) (e ∙ q)
 
     module _ (end : Position) (is-whole : h ≡ Whole end) where
       h-tree : WholeAs (λ hs end. Kept (length (φs (there .before))) s 0 heads hs) (proposal (enough s) (length (φs (there .before))) (length ts) s 0 (next″ .at)) end
@@ -174,13 +185,13 @@ module _ {s : List ℕ} {v : VocabularyRead} {next : Position} {t : TemplatesRea
           agrees-whole (λ hs end. Kept (length (φs (there .before))) s 0 heads hs) (proposal (enough s) (length (φs (there .before))) (length ts) s 0 (next″ .at)) h end is-whole h-agrees
 
       abbrev all : Job
-      all = record { vocabulary = D (there .before .before); templates = φs (there .before); program = ts; proposal = h-tree .tree }
+      all = record { script = π; proposal = h-tree .tree }
 
       after-h : parts s ≡ whole all (end .at)
       after-h =
-          after-p
+          after-script
           ∙ whole-then (λ hs end. Kept (length (φs (there .before))) s 0 heads hs) (proposal (enough s) (length (φs (there .before))) (length ts) s 0 (next″ .at)) end h-tree
-          (λ hs end. whole (record { vocabulary = D (there .before .before); templates = φs (there .before); program = ts; proposal = hs }) end)
+          (λ hs end. whole (record { script = π; proposal = hs }) end)
 
       pub more-follows : (r : JobRead) → end .at < length s → r .part ≡ Refused NotAllowed (end .at) → JobReads s heads r
       more-follows r l e = parts-go-on s heads r (there .before .before .short) all (end .at) after-h l e

@@ -12,18 +12,30 @@ use Rattle.programs.specs.ProgramReading.{program}
 use Rattle.summaries.specs.Proposal.{Head}
 use Rattle.summaries.specs.ProposalReading.{proposal}
 
-pub record Job : Type 0 where
+-- A script: all of a job up to `3F`. A run is fed its templates and its statements.
+pub record Script : Type 0 where
   pub vocabulary : Vocabulary
   pub templates : List Items
   pub program : List Statement
+
+pub record Job : Type 0 where
+  pub script : Script
   pub proposal : List Head
 
--- The four parts, in order; a byte after `4F` is refused.
-unfoldable pub job : List ℕ → Read Job
-unfolding vocabulary templates program proposal
-job s = alone s (
+-- The first three parts, in order.
+unfoldable pub script : List ℕ → Read Script
+unfolding vocabulary templates program
+script s =
     andThen (vocabulary s) λ D next.
     andThen (templates (enough s) (declared (D .rules)) s 0 next) λ φs next′.
-    andThen (program (enough s) (length φs) s next′) λ ts next″.
-    andThen (proposal (enough s) (length φs) (length ts) s 0 next″) λ hs end.
-    whole (record { vocabulary = D; templates = φs; program = ts; proposal = hs }) end)
+    andThen (program (enough s) (length φs) s next′) λ ts end.
+    whole (record { vocabulary = D; templates = φs; program = ts }) end
+
+-- The script, then the proposal, from the least head on; a job that is too long, or has a byte after `4F`, is refused (`alone`). The fuel is
+-- enough for any reading of the bytes.
+unfoldable pub job : List ℕ → Read Job
+unfolding script proposal
+job s = alone s (
+    andThen (script s) λ π next.
+    andThen (proposal (enough s) (length (π .templates)) (length (π .program)) s 0 next) λ hs end.
+    whole (record { script = π; proposal = hs }) end)

@@ -13,10 +13,10 @@ use Rattle.jobs.specs.Job.{Job, job}
 
 -- What is kept of each part of a job; of the proposal, the offsets of the items under each head.
 pub record JobKept (s heads : List ℕ) (j : Job) (r : JobRead) : Type 0 where
-  pub vocabulary : Describes s (j .vocabulary) (r .tables)
-  pub templates : Located (declared (j .vocabulary .rules)) s (j .templates) (r .templates .count) (r .templates .starts)
-  pub program : Tabled s (length (j .templates)) (r .program) (j .program)
-  pub proposal : Kept (length (j .templates)) s 0 heads (j .proposal)
+  pub vocabulary : Describes s (j .script .vocabulary) (r .tables)
+  pub templates : Located (declared (j .script .vocabulary .rules)) s (j .script .templates) (r .templates .count) (r .templates .starts)
+  pub program : Tabled s (length (j .script .templates)) (r .program) (j .script .program)
+  pub proposal : Kept (length (j .script .templates)) s 0 heads (j .proposal)
 
 abbrev pub JobReads : List ℕ → List ℕ → JobRead → Type 0
 JobReads s heads r = AgreesAs (λ j end. JobKept s heads j r) (job s) (r .part)

@@ -1,15 +1,14 @@
 -- The verdict of a page, from what reading and judging it tell.
-use Prim.Native.Nat.{ℕ, zero, suc, _-_, _≤_, _<_}
-use mathlib.Core.Path.{_≡_, refl, sym, ap, fun-ext, subst, _∙_}
+use Prim.Native.Nat.{ℕ, zero, suc, _≤_, _<_}
+use mathlib.Core.Path.{_≡_, refl, sym, fun-ext, subst, _∙_}
 use mathlib.Core.List.{List}
-use mathlib.Core.Bool.{Bool, true, false, cond, and-false}
-use native.Mathlib.Omega.{arith}
+use mathlib.Core.Logic.{inl, inr}
+use mathlib.Core.Bool.{Bool, true, false, cond, false≢true}
 use lib.ListN.{length}
 use lib.Dec.{eqb}
-use borrow.Author.Tests.{eq-eqb, ne-eqb, eqb-true, eqb-false, lt-leb, le-leb, lt-ltb, le-ltb}
+use borrow.Author.Tests.{eq-eqb, ne-eqb, eqb-true, lt-leb, le-leb, lt-ltb, le-ltb}
 use Rattle.verdicts.specs.declared.Form.{Form}
 use Rattle.verdicts.specs.declared.Form.the-variants.{TooLong, NotAllowed}
-use Rattle.verdicts.specs.declared.Fault.the-variants.{WrongElement}
 use Rattle.verdicts.specs.declared.Refusal.the-variants as Refusals
 use Rattle.verdicts.specs.declared.Verdict.{Verdict}
 use Rattle.verdicts.specs.declared.Verdict.the-variants.{Accepted, Refused}
@@ -27,82 +26,94 @@ use Rattle.vocabularies.specs.VocabularyReading.{vocabulary, vocabularySlice}
 use Rattle.vocabularies.specs.Promises.{Describes, VocabularyReads}
 use Rattle.vocabularies.proofs.Laws.{agrees-whole, agrees-refused}
 use Rattle.pages.specs.declared.Kind.the-variants.{Page}
-use Rattle.pages.specs.Items.{Items}
+use Rattle.pages.specs.declared.ItemHere.{ItemHere}
+use Rattle.pages.specs.declared.ItemHere.the-variants.{Text, Gap, Element, End}
+use Rattle.pages.specs.Items.{Items, none, more}
 use Rattle.pages.specs.ItemReading.{items, pageSlice}
+use Rattle.pages.specs.Steps.{itemHere}
+use Rattle.pages.proofs.Whole.{never-unfinished, items-whole}
+use Rattle.pages.proofs.Steps.{ElementFirst, text-first, gap-first, element-first, end-first}
 use Rattle.judging.specs.declared.Judged.{Judged}
-use Rattle.judging.specs.Judgement.{firstWrong, isElement, isAlone, wrongVerdict, judged, pageVerdict}
-use Rattle.judging.specs.Promises.{wrongOf, JudgesItem}
+use Rattle.judging.specs.Judgement.{firstWrong, isNone, isAlone, wrongVerdict, judged, pageVerdict}
+use Rattle.judging.specs.Promises.{markOf, JudgesItem}
 use Rattle.judging.proofs.Booleans.{by-test}
-use Rattle.judging.proofs.ItemLaws.{list-none, list-parts, text-is, parts, or-none}
+use Rattle.judging.proofs.AttributeLaws.{no-template}
+use Rattle.judging.proofs.ItemLaws.{or-none}
 use Rattle.judge.specs.Answers.{notRoot, firstRefusal, JudgesRead, JudgesPage}
 
-module _ (D : Vocabulary) (p : List ℕ) (f : ℕ) (φ : Items) (end : ℕ) (reads : items f Page (declared (D .rules)) p 0 0 ≡ whole φ end) where
-  -- What does not begin with an element is not the root alone.
-  no-element : (e : ℕ) → (byte p 0 ≡ 0x23 → ⊥) → isAlone e φ ≡ false
-  no-element e other = by-test (eqb (byte p 0) 0x27)
-      (λ t. rw (list-none D p 0 0 f end φ (eqb-true (byte p 0) 0x27 t) reads .0))
-      (λ t.
-      let P = list-parts D p 0 0 f end φ (eqb-false (byte p 0) 0x27 t) reads in
-      rw (P .is, text-is D p 0 0 (P .fuel) (P .next) (P .first) other (P .reads) .0))
+is-none : (φ : Items) → isNone φ ≡ true → φ ≡ none
+is-none none e = refl
+is-none (more i φ) e = absurd (false≢true e)
 
-  module _ (code : byte p 0 ≡ 0x23) where
-    open-first : byte p 0 ≡ 0x27 → ⊥
-    open-first q = omega arith
+-- A list outside all elements: it ends at `27`, and goes on at any other byte.
+ends-there : (f : ℕ) (ruled : ℕ → Bool) (p : List ℕ) (at : ℕ) (φ : Items) (end : ℕ) → items f Page ruled p 0 at ≡ whole φ end → isNone φ ≡ eqb (byte p at) 0x27
+unfolding items
+ends-there zero ruled p at φ end e = never-unfinished e
+ends-there (suc f) ruled p at φ end e = elim (items-whole f Page ruled p 0 at φ end e) [
+  | inl r ↦ rw (r .no-more, eq-eqb (byte p at) 0x27 (r .ended))
+  | inr r ↦ rw (r .is-more, ne-eqb (byte p at) 0x27 (r .not-ended))
+]
+
+module _ (D : Vocabulary) (p : List ℕ) (f : ℕ) (φ : Items) (end : ℕ) (reads : items f Page (declared (D .rules)) p 0 0 ≡ whole φ end)
+    (h : ItemHere) (is : h ≡ itemHere p 0) where
+  abbrev ruled : ℕ → Bool
+  ruled = declared (D .rules)
+
+  -- What does not begin with an element is not the root alone.
+  no-element : (e : ℕ) → ((x : ℕ) (next : Position) → h ≡ Element x next → ⊥) → isAlone e φ ≡ false
+  no-element e other = elim h as (λ x. h ≡ x → isAlone e φ ≡ false) [
+    | Text next ↦ λ q. rw (text-first f Page ruled p 0 0 φ end reads h is next q .is-more)
+    | Gap g next ↦ λ q. no-template (gap-first f Page ruled p 0 0 φ end reads h is g next q .in-template)
+    | Element x next ↦ λ q. absurd (other x next q)
+    | End next ↦ λ q. rw (end-first f Page ruled p 0 0 φ end reads h is next q .no-more)
+  ] refl
+
+  module _ (x : ℕ) (start : Position) (opens : h ≡ Element x start) where
+    abbrev first : ElementFirst Page ruled p 0 0 x start φ end
+    first = element-first f Page ruled p 0 0 φ end reads h is x start opens
 
     -- Nor is another element.
-    other-element : (e : ℕ) → (byte p 1 ≡ e → ⊥) → isAlone e φ ≡ false
-    other-element e other =
-        let P = list-parts D p 0 0 f end φ open-first reads in
-        let Q = parts D p 0 0 (P .fuel) (P .next) (P .first) code (P .reads) in
-        rw (P .is, Q .is, ne-eqb (byte p 1) e other)
+    other-element : (e : ℕ) → (x ≡ e → ⊥) → isAlone e φ ≡ false
+    other-element e other = rw (first .is-more, ne-eqb x e other)
 
     module _ (r : Judged) (J : JudgesItem D p 0 r) where
-      -- Nor is an element that others follow.
-      more-follow : (e : ℕ) → (byte p (r .next .at) ≡ 0x27 → ⊥) → isAlone e φ ≡ false
-      more-follow e other =
-          let P = list-parts D p 0 0 f end φ open-first reads in
-          let j = J (P .fuel) 0 (P .next) (P .first) (P .reads) in
-          let O = list-parts D p 0 (P .next) (P .fuel) end (P .others-read) (λ q. other (ap (byte p) (j .ends) ∙ q)) (P .reads-others) in
-          rw (P .is, O .is) (and-false (isElement e (P .first)))
+      -- The root is alone, if the page ends after it; and what is wrong is wrong in it.
+      alone-if : (e : ℕ) → x ≡ e → isAlone e φ ≡ eqb (byte p (r .next .at)) 0x27
+      alone-if e root =
+          let j = J (first .fuel) 0 (first .middle) _ (first .reads-first) in
+          rw (first .is-more, eq-eqb x e root, j .ends) (ends-there (first .fuel) ruled p (first .middle) (first .rest) end (first .reads-rest))
 
-      root-alone : (e : ℕ) → byte p 1 ≡ e → byte p (r .next .at) ≡ 0x27 → (isAlone e φ ≡ true) × (firstWrong D φ ≡ wrongOf (r .wrong))
+      wrong-in : byte p (r .next .at) ≡ 0x27 → firstWrong D φ ≡ markOf (r .wrong)
       unfolding firstWrong
-      root-alone e is-root last =
-          let P = list-parts D p 0 0 f end φ open-first reads in
-          let Q = parts D p 0 0 (P .fuel) (P .next) (P .first) code (P .reads) in
-          let j = J (P .fuel) 0 (P .next) (P .first) (P .reads) in
-          let o = list-none D p 0 (P .next) (P .fuel) end (P .others-read) (ap (byte p) (sym (j .ends)) ∙ last) (P .reads-others) in
-          (rw (P .is, o .0, Q .is) (rw (eq-eqb (byte p 1) e is-root)), rw (P .is, o .0) (or-none _ ∙ sym (j .finds)))
+      wrong-in last =
+          let j = J (first .fuel) 0 (first .middle) _ (first .reads-first) in
+          let n : isNone (first .rest) ≡ true = ends-there (first .fuel) ruled p (first .middle) (first .rest) end (first .reads-rest) ∙ eq-eqb _ 0x27 (rw (j .ends) at last) in
+          rw (first .is-more, is-none (first .rest) n) (or-none _ ∙ sym (j .finds))
 
 abbrev unreadable : Form → ℕ → ℕ → Verdict
 unreadable f at slice = Refused (Refusals.Form f (record { at = at; slice = slice }))
 
-pub wrong-at : (n : ℕ) → (n ≡ 0 → ⊥) → Refused (Refusals.Page (WrongElement 0 0 (n - 1))) ≡ wrongVerdict (wrongOf n)
-wrong-at zero other = absurd (other refl)
-wrong-at (suc n) other =
-    let e : suc n - 1 ≡ n = omega arith in
-    rw e
-
 -- ---- a page that was read
 
 module _ (v p : List ℕ) (t : Tables) (r : Verdict) where
-  pub no-element-first : r ≡ notRoot → (b : ℕ) → b ≡ byte p 0 → (b ≡ 0x23 → ⊥) → JudgesRead v p t r
-  no-element-first is b e other D H φ end reads = is ∙ rw (no-element D p (enough p) φ end reads (D .root) (λ q. other (e ∙ q)))
+  module _ (h : ItemHere) (first-is : h ≡ itemHere p 0) where
+    pub no-element-first : r ≡ notRoot → ((x : ℕ) (next : Position) → h ≡ Element x next → ⊥) → JudgesRead v p t r
+    no-element-first is other D H φ end reads = is ∙ rw (no-element D p (enough p) φ end reads h first-is (D .root) other)
 
-  module _ (b₀ : ℕ) (e₀ : b₀ ≡ byte p 0) (opens : b₀ ≡ 0x23) (b₁ : ℕ) (e₁ : b₁ ≡ byte p 1) where
-    pub other-root-first : r ≡ notRoot → (b₁ ≡ t .root → ⊥) → JudgesRead v p t r
-    other-root-first is other D H φ end reads =
-        is ∙ rw (other-element D p (enough p) φ end reads (sym e₀ ∙ opens) (D .root) (λ q. other (e₁ ∙ q ∙ sym (H .names-root))))
+    module _ (x : ℕ) (start : Position) (opens : h ≡ Element x start) where
+      pub other-root-first : r ≡ notRoot → (x ≡ t .root → ⊥) → JudgesRead v p t r
+      other-root-first is other D H φ end reads =
+          is ∙ rw (other-element D p (enough p) φ end reads h first-is x start opens (D .root) (λ q. other (q ∙ sym (H .names-root))))
 
-    module _ (i : Judged) (J : (D : Vocabulary) → Describes v D t → JudgesItem D p 0 i) where
-      -- 11 by what follows the root, before 12.
-      pub root-judged : b₁ ≡ t .root → r ≡ firstRefusal (cond (eqb (byte p (i .next .at)) 0x27) Accepted notRoot) (wrongVerdict (wrongOf (i .wrong)))
-          → JudgesRead v p t r
-      root-judged root is D H φ end reads = is ∙ by-test (eqb (byte p (i .next .at)) 0x27)
-          (λ e.
-          let q = root-alone D p (enough p) φ end reads (sym e₀ ∙ opens) i (J D H) (D .root) (sym e₁ ∙ root ∙ H .names-root) (eqb-true (byte p (i .next .at)) 0x27 e) in
-          rw (e, q .0, q .1))
-          (λ e. rw (e, more-follow D p (enough p) φ end reads (sym e₀ ∙ opens) i (J D H) (D .root) (eqb-false (byte p (i .next .at)) 0x27 e)))
+      module _ (i : Judged) (J : (D : Vocabulary) → Describes v D t → JudgesItem D p 0 i) where
+        -- 11 by what follows the root, before 12.
+        pub root-judged : x ≡ t .root → r ≡ firstRefusal (cond (eqb (byte p (i .next .at)) 0x27) Accepted notRoot) (wrongVerdict (markOf (i .wrong)))
+            → JudgesRead v p t r
+        root-judged root is D H φ end reads =
+            let a = alone-if D p (enough p) φ end reads h first-is x start opens i (J D H) (D .root) (root ∙ H .names-root) in
+            is ∙ by-test (eqb (byte p (i .next .at)) 0x27)
+            (λ e. rw (a, e, wrong-in D p (enough p) φ end reads h first-is x start opens i (J D H) (eqb-true (byte p (i .next .at)) 0x27 e)))
+            (λ e. rw (a, e))
 
 -- ---- a page under a vocabulary that was read
 

@@ -6,7 +6,8 @@ use mathlib.Core.Bool.{cond}
 use Rattle.verdicts.specs.declared.Fault.the-variants.{NotRoot}
 use Rattle.verdicts.specs.declared.Refusal.the-variants as Refusals
 use Rattle.verdicts.specs.declared.Verdict.{Verdict}
-use Rattle.verdicts.specs.declared.Verdict.the-variants.{Accepted, Refused}
+use Rattle.verdicts.specs.declared.Verdict.the-variants.{Refused}
+use Rattle.verdicts.specs.Acceptance.{accepts}
 use Rattle.commands.specs.Reading.{whole, enough}
 use Rattle.vocabularies.specs.declared.Tables.{Tables}
 use Rattle.vocabularies.specs.Vocabulary.{Vocabulary, declared}
@@ -20,8 +21,7 @@ abbrev pub notRoot : Verdict
 notRoot = Refused (Refusals.Page (NotRoot 0 0))
 
 abbrev pub firstRefusal : Verdict → Verdict → Verdict
-firstRefusal Accepted second = second
-firstRefusal (Refused r) second = Refused r
+firstRefusal first second = cond (accepts first) second first
 
 -- Under a vocabulary that these tables describe, the verdict of a page that can be read.
 abbrev pub JudgesRead : List ℕ → List ℕ → Tables → Verdict → Type 0

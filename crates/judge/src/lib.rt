@@ -1,13 +1,18 @@
 // The judge of one page under a vocabulary (document 01, "Verdicts", Judge a page).
 ghost use mathlib.Core.Path.{_≡_};
 ghost use mathlib.Core.Bool.{cond};
+ghost use Prim.Native.Nat.{_^_, _≤_};
+ghost use lib.ListN.{length};
 ghost use lib.Dec.{eqb};
 ghost use Rattle.commands.specs.Commands.{byte};
 ghost use Rattle.judging.specs.Judgement.{pageVerdict, wrongVerdict};
-ghost use Rattle.judging.specs.Promises.{wrongOf};
+ghost use Rattle.judging.specs.Promises.{markOf};
 ghost use Rattle.judge.specs.Answers.{notRoot, firstRefusal, JudgesRead, JudgesPage};
 use commands::Part;
+use commands::Past;
 use commands::Position;
+use judging::FirstWrong;
+use pages::ItemHere;
 use pages::MOST_BYTES;
 use verdicts::Fault;
 use verdicts::Form;
@@ -32,70 +37,71 @@ fn not_root() -> Verdict
     Verdict::Refused(Refusal::Page(fault))
 }
 
-// 12 at the wrong element whose offset and 1 is given; no refusal at 0.
-fn wrong_element(wrong: usize) -> Verdict
-    ensures { λ r. ⌜ r ≡ wrongVerdict (wrongOf wrong) ⌝ }
+// 12 at the first wrong element; no refusal where there is none.
+fn wrong_element(wrong: FirstWrong) -> Verdict
+    ensures { λ r. ⌜ r ≡ wrongVerdict (markOf wrong) ⌝ }
 {
-    if wrong == 0 {
+    let FirstWrong::At(at) = wrong else {
         return Verdict::Accepted;
-    }
+    };
     let element = Fault::WrongElement {
         point: 0,
         template: 0,
-        at: wrong - 1,
+        at,
     };
     Verdict::Refused(Refusal::Page(element))
 }
 
 // 11, unless the page ends here.
-fn page_end(page: &[u8], at: usize) -> Verdict
-    ensures { λ r. ⌜ r ≡ cond (eqb (byte (now (page .entry)) at) 0x27) Verdict.Accepted notRoot ⌝ }
+fn page_end(page: &[u8], here: Position) -> Verdict
+    ensures { λ r. ⌜ r ≡ cond (eqb (byte (now (page .entry)) (here .at)) 0x27) Verdict.Accepted notRoot ⌝ }
 {
-    if commands::byte_at(page, at) != 0x27 {
+    let past = here.past(page, 0x27);
+    let Past::Over(_) = past else {
         return not_root();
-    }
+    };
     Verdict::Accepted
 }
 
 fn first_refusal(first: Verdict, second: Verdict) -> Verdict
     ensures { λ r. ⌜ r ≡ firstRefusal first second ⌝ }
 {
-    match first {
-        Verdict::Accepted => second,
-        Verdict::Refused(refusal) => Verdict::Refused(refusal),
+    if verdicts::is_accepted(first) {
+        return second;
     }
+    first
 }
 
 // 11, unless the page is exactly one element, the root; then 12.
 fn judge_read(vocabulary: &[u8], tables: Tables, page: &[u8]) -> Verdict
+    requires { ⌜ length (now page) ≤ 2 ^ 16 ⌝ }
     ensures { λ r. ⌜ JudgesRead (now (vocabulary .entry)) (now (page .entry)) tables r ⌝ }
 {
-    if commands::byte_at(page, 0) != 0x23 {
+    let start = Position::new(0);
+    let first = pages::item_here(page, start);
+    let ItemHere::Element(e, _) = first else {
         return not_root();
-    }
-    if commands::byte_at(page, 1) != tables.root {
+    };
+    if e != tables.root {
         return not_root();
     }
     let attributes = tables.attributes;
     let contents = tables.contents;
     let clauses = tables.clauses;
-    let mut strings = [0u8; 32];
-    let mut texts = [0u64; 64];
-    let mut shapes = [0u64; 192];
+    let mut shapes = judging::no_shapes(vocabulary);
     let root = judging::judge_item(
         vocabulary,
         &attributes,
         &contents,
         &clauses,
         page,
-        Position { at: 0 },
-        &mut strings,
-        &mut texts,
+        start,
         &mut shapes,
     );
     let next = root.next;
-    let alone = page_end(page, next.at);
-    let right = wrong_element(root.wrong);
+    let wrong = root.wrong;
+    let alone = page_end(page, next);
+    let right = wrong_element(wrong);
     first_refusal(alone, right)
 }
 

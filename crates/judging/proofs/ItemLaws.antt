@@ -1,56 +1,63 @@
 -- Items and lists of items: what the judgement of the parts says of the whole.
-use Prim.Native.Nat.{ℕ, zero, suc, _+_, _%_, _≤_, _<_}
-use mathlib.Core.Path.{_≡_, refl, sym, ap, subst, subst₂, _∙_}
-use mathlib.Core.List.{List, [], _∷_}
+use Prim.Native.Nat.{ℕ, _+_, _≤_, _<_}
+use mathlib.Core.Path.{_≡_, refl, sym, ap, subst, _∙_}
+use mathlib.Core.Logic.{_⊎_, inl, inr}
+use mathlib.Core.List.{List, [], _∷_, _++_, append-assoc, append-nil}
 use mathlib.Core.Bool.{Bool, true, false, cond, false≢true}
 use mathlib.Core.Option.{Option, some, none}
 use native.Mathlib.Numerals.{add-one}
 use native.Mathlib.Omega.{arith}
-use lib.ListN.{length, getD}
-use lib.Dec.{eqb, ltb, leb}
-use borrow.Author.Tests.{eq-eqb, ne-eqb, eqb-true, leb-true, ltb-true, ltb-false}
-use Rattle.verdicts.specs.declared.Form.the-variants.{TooMany, Missing}
-use Rattle.commands.specs.declared.Context.the-variants.{PageItems}
-use Rattle.commands.specs.Commands.{byte, operandBytes, operandsOf, allInRange, allowed}
-use Rattle.commands.specs.Reading.{Read, whole, refused, andThen, when}
-use Rattle.commands.proofs.Laws.{byte-past, moved, MovedOver, andThen-whole, onCommand-whole, when-whole}
-use Rattle.vocabularies.specs.Vocabulary.{Rule, Vocabulary, ruleOf, declared, isSome}
+use lib.ListN.{length}
+use Rattle.commands.specs.declared.Position.{Position}
+use Rattle.commands.specs.Reading.{whole}
+use Rattle.vocabularies.specs.Vocabulary.{Vocabulary, ruleOf, declared, isSome}
+use Rattle.vocabularies.specs.Vocabulary as Vocabularies
 use Rattle.pages.specs.declared.Kind.the-variants.{Page}
-use Rattle.pages.specs.Items.{Attribute, Item, text, element, Items, more}
-use Rattle.pages.specs.Items as Items
-use Rattle.pages.specs.ItemReading.{attributes, item, items, leafAt, nesting, endOf}
+use Rattle.pages.specs.declared.ItemHere.{ItemHere}
+use Rattle.pages.specs.declared.ItemHere.the-variants.{Text, Gap, Element, End}
+use Rattle.pages.specs.Items.{Item, text, element, Items, more}
+use Rattle.pages.specs.ItemReading.{item, items}
 use Rattle.pages.specs.RightPages.{word, wordItem}
+use Rattle.pages.specs.Steps.{itemHere}
+use Rattle.pages.proofs.Steps.{no-attribute, text-first, gap-first, element-first, end-first, text-item, gap-item, element-item, no-item}
+use Rattle.judging.specs.declared.FirstWrong.{FirstWrong}
+use Rattle.judging.specs.declared.FirstWrong.the-variants.{Nowhere, At}
 use Rattle.judging.specs.declared.Judged.{Judged}
 use Rattle.judging.specs.declared.Listed.{Listed}
 use Rattle.judging.specs.declared.Named.{Named}
 use Rattle.judging.specs.Judgement.{rightUnder, orElse, firstWrong, firstWrongItem}
-use Rattle.judging.specs.Promises.{Names, IsRight, Tabled, wrongOf, JudgesItem, JudgesItems}
-use Rattle.judging.proofs.Booleans.{by-test, and-left, and-right, or-left}
+use Rattle.judging.specs.Promises.{markOf, firstMark, elementMark, stepNext, Containing, Remembered, Names, IsRight, ruleAt, Tabled, ItemJudged, JudgesItem, ItemsJudged, JudgesItems, wrongOf}
+use Rattle.judging.proofs.AttributeLaws.{no-template}
+use Rattle.judging.proofs.WordLaws.{later-content}
 
 pub or-none : (o : Option ℕ) → orElse o none ≡ o
 or-none none = refl
 or-none (some n) = refl
 
-pub or-or : (a b c : Option ℕ) → orElse (orElse a b) c ≡ orElse a (orElse b c)
+or-or : (a b c : Option ℕ) → orElse (orElse a b) c ≡ orElse a (orElse b c)
 or-or none b c = refl
 or-or (some n) b c = refl
-
--- A wrong element that was found stays the first.
-pub stays-first : (a b : ℕ) → (a ≡ 0 → ⊥) → wrongOf a ≡ orElse (wrongOf a) (wrongOf b)
-stays-first zero b n = absurd (n refl)
-stays-first (suc a) b n = refl
 
 pub found-at : (at : ℕ) → wrongOf (at + 1) ≡ some at
 found-at at = rw (add-one at)
 
-pub inner-end : (depth : ℕ) → endOf (depth + 1) ≡ 0x26
-inner-end depth = rw (ne-eqb (depth + 1) 0 (λ q. omega arith))
+-- The variant's number is none of the others'.
+pub no-tag : (_≡_ {A = ℕ} 2 0) ⊎ ((_≡_ {A = ℕ} 2 1) ⊎ (_≡_ {A = ℕ} 2 3)) → ⊥
+no-tag (inl e) = omega (arith, e)
+no-tag (inr (inl e)) = omega (arith, e)
+no-tag (inr (inr e)) = omega (arith, e)
 
--- What is no 0 stands before the end of the bytes.
-pub stands-inside : (p : List ℕ) (at c : ℕ) → byte p at ≡ c → 0 < c → at < length p
-stands-inside p at c code some-code = by-test (ltb at (length p))
-    (λ e. ltb-true at (length p) e)
-    (λ e. let z : byte p at ≡ 0 = byte-past p at (ltb-false at (length p) e) in absurd (omega (arith, z, code, some-code)))
+first-marked : (a b : FirstWrong) → markOf (firstMark a b) ≡ orElse (markOf a) (markOf b)
+first-marked Nowhere b = refl
+first-marked (At at) b = refl
+
+element-marked : (right : Bool) (at : ℕ) (w : FirstWrong) → markOf (elementMark right at w) ≡ cond right (markOf w) (some at)
+element-marked true at w = refl
+element-marked false at w = refl
+
+found-rule : (o : Option Vocabularies.Rule) → isSome o ≡ true → (R : Vocabularies.Rule) × (o ≡ some R)
+found-rule none h = absurd (false≢true h)
+found-rule (some R) h = (R, refl)
 
 module _ (D : Vocabulary) (p : List ℕ) where
   abbrev ruled : ℕ → Bool
@@ -58,179 +65,118 @@ module _ (D : Vocabulary) (p : List ℕ) where
 
   -- ---- an item
 
-  module _ (depth at : ℕ) where
-    abbrev insides : ℕ → List Attribute → ℕ → Read Item
-    insides f δ inside = andThen (items f Page ruled p (depth + 1) inside) λ φ end. whole (element (byte p (at + 1)) at δ φ) end
+  module _ (at : ℕ) (h : ItemHere) (is : h ≡ itemHere p at) where
+    -- What is no element is text.
+    pub leaf-judged : ((e : ℕ) (next : Position) → h ≡ Element e next → ⊥) → JudgesItem D p at (record { next = stepNext h; wrong = Nowhere })
+    unfolding firstWrongItem
+    leaf-judged other f depth end i reads = elim h as (λ x. h ≡ x → ItemJudged D i end (record { next = stepNext x; wrong = Nowhere })) [
+      | Text next ↦ λ q. let t = text-item f Page ruled p depth at i end reads h is next q in rw (t .0) (record { ends = t .1; finds = refl })
+      | Gap g next ↦ λ q. no-template (gap-item f Page ruled p depth at i end reads h is g next q .in-template)
+      | Element e next ↦ λ q. absurd (other e next q)
+      | End next ↦ λ q. no-item f Page ruled p depth at i end reads h is next q
+    ] refl
 
-    abbrev opened : ℕ → ℕ → Read Item
-    opened f next = andThen (attributes f Page p [] next) λ δ inside. insides f δ inside
-
-    abbrev nested : ℕ → ℕ → Read Item
-    nested f next = when (ltb depth (nesting Page)) (λ _. opened f next) (λ _. refused TooMany at)
-
-    abbrev bound : ℕ → ℕ → Read Item
-    bound f next = when (ruled (byte p (at + 1))) (λ _. nested f next) (λ _. refused Missing at)
-
-    abbrev begun : ℕ → ℕ → ℕ → Read Item
-    begun f code next = when (eqb code 0x23) (λ _. bound f next) (λ _. whole (leafAt p at code) next)
-
-    record Begun (i : Item) (end : ℕ) : Type 0 where
-      fuel : ℕ
-      here : at < length p
-      permitted : allowed PageItems (byte p at) ≡ true
-      ranges : allInRange (operandsOf (byte p at)) p (at + 1) ≡ true
-      goes : begun fuel (byte p at) (at + 1 + operandBytes (byte p at)) ≡ whole i end
-
-    begins : (f end : ℕ) (i : Item) → item f Page ruled p depth at ≡ whole i end → Begun i end
-    unfolding item
-    begins zero end i e = absurd (let z : _≡_ {A = ℕ} 0 1 = cc in omega arith)
-    begins (suc f) end i e =
-        let q = onCommand-whole PageItems p at (begun f) i end e in
-        let m : MovedOver PageItems p at (q .0) (q .1) = moved PageItems p at (q .0) (q .1) (q .2) in
-        record {
-          fuel = f;
-          here = omega arith;
-          permitted = m .permitted;
-          ranges = m .ranges;
-          goes = subst₂ (λ (c n : ℕ). begun f c n ≡ whole i end) (m .first) (m .after) (q .3);
-        }
-
-  -- Past the end no item stands.
-  pub past-item : (at : ℕ) (r : Judged) → length p ≤ at → JudgesItem D p at r
-  past-item at r past f depth end i e =
-      let h : at < length p = begins depth at f end i e .here in
-      absurd (omega arith)
-
-  -- What is no element is text.
-  pub text-is : (depth at f end : ℕ) (i : Item) → (byte p at ≡ 0x23 → ⊥) → item f Page ruled p depth at ≡ whole i end → (i ≡ text) × (at + 1 ≡ end)
-  unfolding allowed operandBytes
-  text-is depth at f end i other e =
-      let B = begins depth at f end i e in
-      let c : byte p at ≡ 0x21 = eqb-true (byte p at) 0x21 (or-left (eqb (byte p at) 0x21) (eqb (byte p at) 0x23) (ne-eqb (byte p at) 0x23 other) (B .permitted)) in
-      let g : whole text (at + 1 + operandBytes 0x21) ≡ whole i end = subst (λ (x : ℕ). begun depth at (B .fuel) x (at + 1 + operandBytes x) ≡ whole i end) c (B .goes) in
-      let t : at + 1 + operandBytes 0x21 ≡ end = cc in
-      (cc, omega arith)
-
-  pub text-item : (at : ℕ) → (byte p at ≡ 0x23 → ⊥) → JudgesItem D p at (record { content = 0; next = record { at = at + 1 }; wrong = 0 })
-  unfolding wordItem firstWrongItem
-  text-item at other f depth end i e =
-      let t = text-is depth at f end i other e in
-      rw (t .0) (record { is = λ w. refl; ends = t .1; finds = refl })
-
-  found-rule : (o : Option Rule) → isSome o ≡ true → (R : Rule) × (o ≡ some R)
-  found-rule none h = absurd (false≢true h)
-  found-rule (some R) h = (R, refl)
-
-  -- An element's parts, as they were read.
-  pub record Parts (depth at : ℕ) (i : Item) (end : ℕ) : Type 0 where
-    pub fuel : ℕ
-    pub δ : List Attribute
-    pub inside : ℕ
-    pub φ : Items
-    pub rule : Rule
-    pub short : byte p (at + 1) ≤ 63
-    pub declares : ruleOf (D .rules) (byte p (at + 1)) ≡ some rule
-    pub reads : attributes fuel Page p [] (at + 2) ≡ whole δ inside
-    pub reads-inside : items fuel Page ruled p (depth + 1) inside ≡ whole φ end
-    pub is : i ≡ element (byte p (at + 1)) at δ φ
-
-  pub parts : (depth at f end : ℕ) (i : Item) → byte p at ≡ 0x23 → item f Page ruled p depth at ≡ whole i end → Parts depth at i end
-  unfolding operandBytes allInRange
-  parts depth at f end i code e =
-      let B = begins depth at f end i e in
-      let n : at + 1 + operandBytes 0x23 ≡ at + 2 = omega arith in
-      let g : bound depth at (B .fuel) (at + 2) ≡ whole i end = subst (λ (x : ℕ). bound depth at (B .fuel) x ≡ whole i end) n
-      (subst (λ (x : ℕ). begun depth at (B .fuel) x (at + 1 + operandBytes x) ≡ whole i end) code (B .goes)) in
-      let u = when-whole (ruled (byte p (at + 1))) (λ _. nested depth at (B .fuel) (at + 2)) Missing at i end g in
-      let w = when-whole (ltb depth (nesting Page)) (λ _. opened depth at (B .fuel) (at + 2)) TooMany at i end (u .1) in
-      let a = andThen-whole (attributes (B .fuel) Page p [] (at + 2)) (insides depth at (B .fuel)) i end (w .1) in
-      let l = andThen-whole (items (B .fuel) Page ruled p (depth + 1) (a .1)) (λ φ m. whole (element (byte p (at + 1)) at (a .0) φ) m) i end (a .3) in
-      let R = found-rule (ruleOf (D .rules) (byte p (at + 1))) (u .0) in
-      let range = rw code at (B .ranges) in
-      let t : l .1 ≡ end = cc in
-      record {
-        fuel = B .fuel;
-        δ = a .0;
-        inside = a .1;
-        φ = l .0;
-        rule = R .0;
-        short = leb-true (byte p (at + 1)) 63 (and-right (leb 1 (byte p (at + 1))) (leb (byte p (at + 1)) 63) (and-left _ true range));
-        declares = R .1;
-        reads = a .2;
-        reads-inside = subst (λ (m : ℕ). items (B .fuel) Page ruled p (depth + 1) (a .1) ≡ whole (l .0) m) t (l .2);
-        is = cc;
-      }
-
-  -- An element: itself, by the tests of its rule, before those inside it.
-  module _ (v allowed held from : List ℕ) (T : Tabled v D allowed held from) (at b : ℕ) (is-name : b ≡ byte p (at + 1))
-      (code : byte p at ≡ 0x23) (first : Named) (strings₀ : List ℕ) (N₀ : Names p (at + 2) first strings₀)
-      (list : Listed) (before : List ℕ) (L : JudgesItems D p (first .next .at) list before)
-      (named : Named) (strings : List ℕ) (N : Names p (at + 2) named strings) (right : Bool)
-      (R : IsRight v (getD allowed (b % 64) 0) (getD held (b % 64) 0) (getD from (b % 64) 0) (named .names) strings (list .inside) before right) where
-    pub element-item : (wrong : ℕ) → wrongOf wrong ≡ cond right (wrongOf (list .wrong)) (some at)
-        → JudgesItem D p at (record { content = b % 64; next = list .next; wrong = wrong })
-    unfolding wordItem firstWrongItem
-    element-item wrong is-wrong f depth end i e =
-        let P = parts depth at f end i code e in
-        let h : byte p (at + 1) ≤ 63 = P .short in
-        let q : b % 64 ≡ byte p (at + 1) = omega arith in
-        let n₀ = N₀ (P .fuel) (P .inside) (P .δ) (P .reads) in
-        let n = N (P .fuel) (P .inside) (P .δ) (P .reads) in
-        let l = L (P .fuel) depth end (P .φ) (subst (λ (m : ℕ). items (P .fuel) Page ruled p (depth + 1) m ≡ whole (P .φ) end) (sym (n₀ .0)) (P .reads-inside)) in
-        let r : right ≡ rightUnder (P .rule) (P .δ) (word (P .φ)) = R (P .rule) (P .δ) (word (P .φ)) (T (b % 64) (P .rule) (rw q (P .declares))) (n .1) (l .contains) in
-        rw (P .is) (record {
-          is = λ w. ap (λ (m : ℕ). m ∷ w) (sym q);
-          ends = l .ends;
-          finds = is-wrong ∙ rw (P .declares, ← r, l .finds);
-        })
+    -- An element: itself, by the tests of its rule, before those inside it.
+    module _ (v allowed held from : List ℕ) (T : Tabled v D allowed held from) (e : ℕ) (start : Position) (opens : h ≡ Element e start)
+        (named : Named) (strings : List ℕ) (N : Names p (start .at) named strings)
+        (list : Listed) (order : List (List ℕ)) (L : JudgesItems D p (named .next .at) list order)
+        (right : Bool) (R : IsRight v (ruleAt allowed held from e) (record { names = named .names; contents = list .contents }) strings order right) where
+      pub element-judged : JudgesItem D p at (record { next = list .next; wrong = elementMark right at (list .wrong) })
+      unfolding firstWrongItem
+      element-judged f depth end i reads =
+          let P = element-item f Page ruled p depth at i end reads h is e start opens in
+          let done = no-attribute (P .fuel) Page ruled p (depth + 1) (P .inside) (P .contents) end (P .reads-contents) in
+          let n = N (P .fuel) (P .inside) (P .named) (P .reads-attributes) done in
+          let l = L (P .fuel) (depth + 1) end (P .contents) (subst (λ (m : ℕ). items (P .fuel) Page ruled p (depth + 1) m ≡ whole (P .contents) end) (sym (n .0)) (P .reads-contents)) in
+          let rule = found-rule (ruleOf (D .rules) e) (P .has-rule) in
+          let r : right ≡ rightUnder (rule .0) (P .named) (word (P .contents)) = R (rule .0) (P .named) (word (P .contents)) end (T e (rule .0) (rule .1)) (n .1) (l .contains) in
+          rw (P .is-it) (record {
+            ends = l .ends;
+            finds = element-marked right at (list .wrong) ∙ rw (rule .1, ← r, l .finds);
+          })
 
   -- ---- a list of items
 
-  -- A list of items, at any depth: it ends, or goes on with an item and the others.
-  module _ (depth at : ℕ) where
-    abbrev others : ℕ → Item → ℕ → Read Items
-    others f i next = andThen (items f Page ruled p depth next) λ φ end. whole (more i φ) end
-
-    abbrev listed : ℕ → Bool → Read Items
-    listed f ended = when ended (λ _. whole Items.none (at + 1)) (λ _. andThen (item f Page ruled p depth at) λ i next. others f i next)
-
-    record ListBegun (φ : Items) (end : ℕ) : Type 0 where
+  module _ (depth : ℕ) (φ : Items) (end : ℕ) where
+    -- What is left of a list behind the items of the word `before`.
+    record Left (before : List ℕ) (wrong : Option ℕ) (at : ℕ) : Type 0 where
       fuel : ℕ
-      goes : listed fuel (eqb (byte p at) (endOf depth)) ≡ whole φ end
+      left : Items
+      reads : items fuel Page ruled p depth at ≡ whole left end
+      is : word φ ≡ before ++ word left
+      finds : firstWrong D φ ≡ orElse wrong (firstWrong D left)
 
-    list-begins : (f end : ℕ) (φ : Items) → items f Page ruled p depth at ≡ whole φ end → ListBegun φ end
-    unfolding items
-    list-begins zero end φ e = absurd (let z : _≡_ {A = ℕ} 0 1 = cc in omega arith)
-    list-begins (suc f) end φ e = record { fuel = f; goes = e }
+    -- Where judging has come, of a list that reads.
+    pub record Judging (order : List (List ℕ)) (at contents : ℕ) (wrong : FirstWrong) : Type 0 where
+      before : List ℕ
+      contains : Containing before contents order at
+      left : Left before (markOf wrong) at
 
-    pub list-none : (f end : ℕ) (φ : Items) → byte p at ≡ endOf depth → items f Page ruled p depth at ≡ whole φ end → (φ ≡ Items.none) × (at + 1 ≡ end)
-    list-none f end φ code e =
-        let B = list-begins f end φ e in
-        let g : listed (B .fuel) true ≡ whole φ end = subst (λ (t : Bool). listed (B .fuel) t ≡ whole φ end) (eq-eqb (byte p at) (endOf depth) code) (B .goes) in
-        (cc, cc)
+    pub all-left : (f at : ℕ) (order : List (List ℕ)) → items f Page ruled p depth at ≡ whole φ end → Containing [] 0 order at → Judging order at 0 Nowhere
+    all-left f at order e C = record { before = []; contains = C; left = record { fuel = f; left = φ; reads = e; is = refl; finds = refl } }
 
-    pub record ListParts (φ : Items) (end : ℕ) : Type 0 where
-      pub fuel : ℕ
-      pub first : Item
-      pub next : ℕ
-      pub others-read : Items
-      pub reads : item fuel Page ruled p depth at ≡ whole first next
-      pub reads-others : items fuel Page ruled p depth next ≡ whole others-read end
-      pub is : φ ≡ more first others-read
+    module _ (order : List (List ℕ)) (at contents : ℕ) (wrong : FirstWrong) (J : Judging order at contents wrong) (h : ItemHere) (is : h ≡ itemHere p at) where
+      pub list-ends : (next : Position) → h ≡ End next → at ≤ next .at → ItemsJudged D φ end (record { contents = contents; next = next; wrong = wrong }) order
+      unfolding word firstWrong
+      list-ends next e on =
+          let L = J .left in
+          let E = end-first (L .fuel) Page ruled p depth at (L .left) end (L .reads) h is next e in
+          let w : word φ ≡ J .before = L .is ∙ rw (E .no-more) (append-nil (J .before)) in
+          record {
+            contains = rw w (later-content (J .contains) end (omega (arith, E .after)));
+            ends = E .after;
+            finds = sym (L .finds ∙ rw (E .no-more) (or-none (markOf wrong)));
+          }
 
-    pub list-parts : (f end : ℕ) (φ : Items) → (byte p at ≡ endOf depth → ⊥) → items f Page ruled p depth at ≡ whole φ end → ListParts φ end
-    list-parts f end φ other e =
-        let B = list-begins f end φ e in
-        let g : listed (B .fuel) false ≡ whole φ end = subst (λ (t : Bool). listed (B .fuel) t ≡ whole φ end) (ne-eqb (byte p at) (endOf depth) other) (B .goes) in
-        let q = andThen-whole (item (B .fuel) Page ruled p depth at) (others (B .fuel)) φ end g in
-        let o = andThen-whole (items (B .fuel) Page ruled p depth (q .1)) (λ φ′ m. whole (more (q .0) φ′) m) φ end (q .3) in
-        let t : o .1 ≡ end = cc in
-        record {
-          fuel = B .fuel;
-          first = q .0;
-          next = q .1;
-          others-read = o .0;
-          reads = q .2;
-          reads-others = subst (λ (k : ℕ). items (B .fuel) Page ruled p depth (q .1) ≡ whole (o .0) k) t (o .2);
-          is = cc;
+      -- One content more.
+      module _ (c r : ℕ) (last : List (List ℕ)) (next : ℕ)
+          (one : (w : List ℕ) (end′ : ℕ) → at < end′ → Containing w contents order at → Containing (w ++ (c ∷ [])) r last end′) (on : at < next) where
+        item-left : (fuel : ℕ) (i : Item) (rest : Items) → J .left .left ≡ more i rest → ((w : List ℕ) → wordItem i w ≡ c ∷ w)
+            → items fuel Page ruled p depth next ≡ whole rest end → (w : FirstWrong) → orElse (markOf wrong) (firstWrongItem D i) ≡ markOf w → Judging last next r w
+        unfolding word firstWrong
+        item-left fuel i rest is-more is-c reads w found = record {
+          before = J .before ++ (c ∷ []);
+          contains = one (J .before) next on (J .contains);
+          left = record {
+            fuel = fuel;
+            left = rest;
+            reads = reads;
+            is = J .left .is ∙ ap (λ (x : Items). J .before ++ word x) is-more ∙ ap (λ (x : List ℕ). J .before ++ x) (is-c (word rest))
+                ∙ sym (append-assoc (J .before) (c ∷ []) (word rest));
+            finds = J .left .finds ∙ ap (λ (x : Items). orElse (markOf wrong) (firstWrong D x)) is-more
+                ∙ sym (or-or (markOf wrong) (firstWrongItem D i) (firstWrong D rest)) ∙ ap (λ (o : Option ℕ). orElse o (firstWrong D rest)) found;
+          };
         }
+
+      pub text-more : (next : Position) → h ≡ Text next → at < next .at → (r : ℕ) (last : List (List ℕ))
+          → ((w : List ℕ) (end′ : ℕ) → at < end′ → Containing w contents order at → Containing (w ++ (0 ∷ [])) r last end′) → Judging last (next .at) r wrong
+      unfolding wordItem firstWrongItem
+      text-more next e on r last one =
+          let L = J .left in
+          let F = text-first (L .fuel) Page ruled p depth at (L .left) end (L .reads) h is next e in
+          item-left 0 r last (next .at) one on (F .fuel) text (F .rest) (F .is-more) (λ w. refl) (F .reads-rest) wrong (or-none (markOf wrong))
+
+      pub gap-more : {A : Type 0} (g : ℕ) (next : Position) → h ≡ Gap g next → A
+      gap-more g next e =
+          let L = J .left in
+          no-template (gap-first (L .fuel) Page ruled p depth at (L .left) end (L .reads) h is g next e .in-template)
+
+      pub element-more : (x : ℕ) (start : Position) → h ≡ Element x start → (i : Judged) → JudgesItem D p at i → at < i .next .at
+          → (r : ℕ) (last : List (List ℕ))
+          → ((w : List ℕ) (end′ : ℕ) → at < end′ → Containing w contents order at → Containing (w ++ (x ∷ [])) r last end′)
+          → Judging last (i .next .at) r (firstMark wrong (i .wrong))
+      unfolding wordItem
+      element-more x start e i judges on r last one =
+          let L = J .left in
+          let F = element-first (L .fuel) Page ruled p depth at (L .left) end (L .reads) h is x start e in
+          let j = judges (F .fuel) depth (F .middle) _ (F .reads-first) in
+          item-left x r last (i .next .at) one on (F .fuel) _ (F .rest) (F .is-more) (λ w. refl) (rw (j .ends) (F .reads-rest)) (firstMark wrong (i .wrong))
+          (rw (← j .finds) (sym (first-marked wrong (i .wrong))))
+
+-- The state of the walk over a list.
+pub record Going (v attributes contents clauses p : List ℕ) (at₀ : ℕ) (order shapes : List (List ℕ)) (at inside : ℕ) (wrong : FirstWrong) : Type 0 where
+  pub forward : at₀ ≤ at
+  pub room : length order ≡ 64
+  pub remembered : Remembered v shapes
+  pub judging : (D : Vocabulary) → Tabled v D attributes contents clauses → (f depth : ℕ) (φ : Items) (end : ℕ) → items f Page (declared (D .rules)) p depth at₀ ≡ whole φ end
+      → Judging D p depth φ end order at inside wrong

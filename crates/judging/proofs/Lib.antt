@@ -1,9 +1,8 @@
 pub mod Booleans
 pub mod Formulas
+pub mod Evaluation
 pub mod Rules
 pub mod AttributeLaws
 pub mod WordLaws
 pub mod ItemLaws
-pub mod Spelling
-pub mod Lists
 pub mod Shapes

@@ -5,15 +5,18 @@ use mathlib.Core.List.{List, [], _∷_}
 use mathlib.Core.Bool.{Bool, true, false, not, _&&_, _||_, or-true, false≢true}
 use native.Mathlib.Omega.{arith}
 use lib.ListN.{length, getD}
-use lib.Dec.{eqb}
+use lib.Dec.{eqb, ltb}
 use borrow.Author.Tests.{eq-eqb, eqb-true}
 use Rattle.sets.specs.Sets.{member, Within}
-use Rattle.vocabularies.specs.Vocabulary.{Formula, conj, disj, neg, truth, attr, content, order, value, Rule, isIn}
+use Rattle.vocabularies.specs.Vocabulary.{Formula, conj, disj, neg, truth, attr, content, order, value, isIn}
+use Rattle.vocabularies.specs.Vocabulary as Vocabularies
 use Rattle.vocabularies.specs.Promises.{RuleTables}
 use Rattle.pages.specs.Items.{Attribute}
 use Rattle.pages.specs.RightPages.{names}
+use Rattle.judging.specs.declared.Shape.{Shape}
+use Rattle.judging.specs.declared.Rule.{Rule}
 use Rattle.judging.specs.Judgement.{Atoms, truthOf, allTrue, atomsOf, allIn, rightUnder, precedes, holdsValue}
-use Rattle.judging.specs.Promises.{tableAtoms, AllHold, Naming, Containing, IsRight}
+use Rattle.judging.specs.Promises.{firstPlace, lastPlace, tableAtoms, AllHold, Naming, Containing, IsRight}
 use Rattle.judging.proofs.Booleans.{by-test, and-false-left, and-false-right, or-right}
 use Rattle.judging.proofs.WordLaws.{none-precedes, precedes-none}
 
@@ -66,19 +69,19 @@ module _ (A B : Atoms) (s : Same A B) where
   same-all [] = refl
   same-all (ψ ∷ ψs) = ap₂ _&&_ (same-truth ψ) (same-all ψs)
 
-module _ (δ : List Attribute) (w : List ℕ) (named : ℕ) (strings : List ℕ) (contents : ℕ) (before : List ℕ)
-    (N : Naming δ named strings) (C : Containing w contents before) where
-  order-same : (c d : ℕ) → (member contents c && (member contents d && member (getD before c 0) d)) ≡ precedes w d c
+module _ (δ : List Attribute) (w : List ℕ) (shape : Shape) (strings : List ℕ) (order : List (List ℕ)) (end : ℕ)
+    (N : Naming δ (shape .names) strings) (C : Containing w (shape .contents) order end) where
+  order-same : (c d : ℕ) → (member (shape .contents) c && (member (shape .contents) d && ltb (firstPlace order d) (lastPlace order c))) ≡ precedes w d c
   order-same c d = by-test (isIn c w)
       (λ e. by-test (isIn d w)
-      (λ e′. rw (C .has c, e, C .has d, e′) (C .ordered c d e))
+      (λ e′. rw (C .has c, e, C .has d, e′) (C .ordered c d e e′))
       (λ e′. rw (C .has c, e, C .has d, e′) (sym (precedes-none w d c e′))))
       (λ e. rw (C .has c, e) (sym (none-precedes w d c e)))
 
-  value-same : (a m : ℕ) → (not (member named a) || member m (getD strings (a % 32) 0)) ≡ (not (isIn a (names δ)) || holdsValue δ a m)
+  value-same : (a m : ℕ) → (not (member (shape .names) a) || member m (getD strings (a % 32) 0)) ≡ (not (isIn a (names δ)) || holdsValue δ a m)
   value-same a m = by-test (isIn a (names δ)) (λ e. rw (N .has a, e) (N .holds a m e)) (λ e. rw (N .has a, e))
 
-  table-same : Same (tableAtoms named strings contents before) (atomsOf δ w)
+  table-same : Same (tableAtoms shape strings order) (atomsOf δ w)
   unfolding atomsOf
   table-same = record {
     attrs = N .has;
@@ -87,45 +90,44 @@ module _ (δ : List Attribute) (w : List ℕ) (named : ℕ) (strings : List ℕ)
     values = value-same;
   }
 
-  module _ (v : List ℕ) (R : Rule) (allowed held from : ℕ) (T : RuleTables v R allowed held from) where
+  module _ (v : List ℕ) (R : Vocabularies.Rule) (allowed held from : ℕ) (T : RuleTables v R allowed held from) where
     abbrev Right : Bool → Type 0
     Right b = b ≡ rightUnder R δ w
 
-    names-wrong : Within named allowed false → Right false
+    names-wrong : Within (shape .names) allowed false → Right false
     unfolding rightUnder
-    names-wrong h = rw (within-lists named allowed (names δ) (R .attributes) (N .has) (T .allows) false h)
+    names-wrong h = rw (within-lists (shape .names) allowed (names δ) (R .attributes) (N .has) (T .allows) false h)
 
-    module _ (names-right : Within named allowed true) where
-      contents-wrong : Within contents held false → Right false
+    module _ (names-right : Within (shape .names) allowed true) where
+      contents-wrong : Within (shape .contents) held false → Right false
       unfolding rightUnder
       contents-wrong h =
           rw (
-            within-lists named allowed (names δ) (R .attributes) (N .has) (T .allows) true names-right,
-            within-lists contents held w (R .contents) (C .has) (T .holds) false h,
+            within-lists (shape .names) allowed (names δ) (R .attributes) (N .has) (T .allows) true names-right,
+            within-lists (shape .contents) held w (R .contents) (C .has) (T .holds) false h,
           )
 
-      clauses-tell : Within contents held true → (b : Bool) → AllHold (tableAtoms named strings contents before) v from b → Right b
+      clauses-tell : Within (shape .contents) held true → (b : Bool) → AllHold (tableAtoms shape strings order) v from b → Right b
       unfolding rightUnder
       clauses-tell h b H =
           let f = length v + length v + 2 in
           let q = T .stands f (omega arith) in
           let e : b ≡ allTrue (atomsOf δ w) (R .clauses) = H f (q .0) (R .clauses) (q .1) ∙ same-all _ _ table-same (R .clauses) in
           rw (
-            within-lists named allowed (names δ) (R .attributes) (N .has) (T .allows) true names-right,
-            within-lists contents held w (R .contents) (C .has) (T .holds) true h,
+            within-lists (shape .names) allowed (names δ) (R .attributes) (N .has) (T .allows) true names-right,
+            within-lists (shape .contents) held w (R .contents) (C .has) (T .holds) true h,
           ) e
 
 -- What the three tests tell, in the code's order.
-module _ (v : List ℕ) (allowed held from named : ℕ) (strings : List ℕ) (contents : ℕ) (before : List ℕ) where
-  pub names-fail : (t : Bool) → Within named allowed t → t ≡ false → IsRight v allowed held from named strings contents before false
-  names-fail t h e R δ w T N C = names-wrong δ w named strings contents before N C v R allowed held from T (subst (Within named allowed) e h)
+module _ (v : List ℕ) (rule : Rule) (shape : Shape) (strings : List ℕ) (order : List (List ℕ)) where
+  pub names-fail : (t : Bool) → Within (shape .names) (rule .attributes) t → t ≡ false → IsRight v rule shape strings order false
+  names-fail t h e R δ w end T N C = names-wrong δ w shape strings order end N C v R _ _ _ T (subst (Within (shape .names) (rule .attributes)) e h)
 
-  pub contents-fail : (t u : Bool) → Within named allowed t → t ≡ true → Within contents held u → u ≡ false
-      → IsRight v allowed held from named strings contents before false
-  contents-fail t u h e h′ e′ R δ w T N C =
-      contents-wrong δ w named strings contents before N C v R allowed held from T (subst (Within named allowed) e h) (subst (Within contents held) e′ h′)
+  module _ (t u : Bool) (h : Within (shape .names) (rule .attributes) t) (e : t ≡ true) (h′ : Within (shape .contents) (rule .contents) u) where
+    pub contents-fail : u ≡ false → IsRight v rule shape strings order false
+    contents-fail e′ R δ w end T N C =
+        contents-wrong δ w shape strings order end N C v R _ _ _ T (subst (Within (shape .names) (rule .attributes)) e h) (subst (Within (shape .contents) (rule .contents)) e′ h′)
 
-  pub clauses-decide : (t u b : Bool) → Within named allowed t → t ≡ true → Within contents held u → u ≡ true
-      → AllHold (tableAtoms named strings contents before) v from b → IsRight v allowed held from named strings contents before b
-  clauses-decide t u b h e h′ e′ H R δ w T N C =
-      clauses-tell δ w named strings contents before N C v R allowed held from T (subst (Within named allowed) e h) (subst (Within contents held) e′ h′) b H
+    pub clauses-decide : u ≡ true → (b : Bool) → AllHold (tableAtoms shape strings order) v (rule .clauses .at) b → IsRight v rule shape strings order b
+    clauses-decide e′ b H R δ w end T N C =
+        clauses-tell δ w shape strings order end N C v R _ _ _ T (subst (Within (shape .names) (rule .attributes)) e h) (subst (Within (shape .contents) (rule .contents)) e′ h′) b H

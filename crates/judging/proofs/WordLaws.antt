@@ -1,25 +1,31 @@
 -- Words of contents, one content at a time.
-use Prim.Native.Nat.{ℕ, zero, suc, _^_, _<_}
+use Prim.Native.Nat.{ℕ, _^_, _≤_, _<_}
 use mathlib.Core.Path.{_≡_, refl, sym, _∙_}
-use mathlib.Core.List.{List, [], _∷_, _++_, append-assoc, append-nil}
-use mathlib.Core.Bool.{Bool, true, false, _&&_, _||_, and-false, or-false, or-true, or-comm, false≢true}
+use mathlib.Core.List.{List, [], _∷_, _++_}
+use mathlib.Core.Bool.{Bool, true, false, cond, not, _&&_, _||_, and-false, or-false, or-true, or-comm, false≢true}
 use native.Mathlib.Omega.{arith}
-use lib.ListN.{length, getD, set, replicate, length-set}
+use lib.ListN.{length, getD, set}
 use lib.Seq.{getD-set-same, getD-set-other}
-use lib.Dec.{eqb, ltb}
-use borrow.Author.Tests.{eq-eqb, ne-eqb, eqb-true, eqb-false, ltb-true, ltb-false}
+use lib.Dec.{eqb, leb, ltb}
+use borrow.Author.Tests.{eq-eqb, ne-eqb, eqb-true, eqb-false, ltb-true, ltb-false, lt-ltb, le-ltb, le-leb, lt-leb}
 use Rattle.sets.specs.Sets.{member}
 use Rattle.sets.proofs.Laws.{member-zero, member-high}
 use Rattle.vocabularies.specs.Vocabulary.{isIn}
 use Rattle.judging.specs.Judgement.{precedes}
-use Rattle.judging.specs.Promises.{Containing}
-use Rattle.judging.proofs.Booleans.{by-test, or-left}
+use Rattle.judging.specs.Promises.{firstPlace, lastPlace, Containing}
+use Rattle.judging.proofs.Booleans.{by-test, or-left, or-right}
 
 -- The members of a word are below its width.
 pub member-small : (set k : ℕ) → set < 2 ^ 64 → member set k ≡ true → k < 64
 member-small set k fits is = by-test (ltb k 64)
     (λ e. ltb-true k 64 e)
     (λ e. absurd (false≢true (sym (member-high 64 set k fits (ltb-false k 64 e)) ∙ is)))
+
+-- At most is not above.
+pub at-most : (a b : ℕ) → leb a b ≡ not (ltb b a)
+at-most a b = by-test (ltb b a)
+    (λ e. rw (e, lt-leb a b (ltb-true b a e)))
+    (λ e. rw (e, le-leb a b (ltb-false b a e)))
 
 -- What is not in the word follows nothing in it.
 pub none-precedes : (w : List ℕ) (d c : ℕ) → isIn c w ≡ false → precedes w d c ≡ false
@@ -66,81 +72,94 @@ precedes-more d k c (x ∷ w) =
     rw (is-in-more k c w, precedes-more d k c w, eqb-sym d x)
     (regrouped (eqb x d) (isIn k w) (eqb k c) (precedes w d k) (isIn d w))
 
--- All that is in the word stands before what is set at its end.
-all-precede : (w : List ℕ) (d c : ℕ) → precedes (w ++ (c ∷ [])) d c ≡ isIn d w
-all-precede w d c = rw (precedes-more d c c w, eq-eqb c c refl) (by-test (isIn d w)
-    (λ e. rw e (or-true (precedes w d c)))
-    (λ e. rw (e, precedes-none w d c e)))
+-- One content more, behind all others: it stands last there, and first too, if it was not inside.
+module _ (w : List ℕ) (contents : ℕ) (order : List (List ℕ)) (at : ℕ) (C : Containing w contents order at) (c : ℕ) (room : c < length order)
+    (r : ℕ) (with-content : (k : ℕ) → member r k ≡ (eqb k c || member contents k))
+    (first : ℕ) (is-first : first ≡ cond (isIn c w) (firstPlace order c) at) where
+  abbrev more : List (List ℕ)
+  more = set order c (first ∷ at ∷ [])
 
-module _ (w : List ℕ) (contents : ℕ) (before : List ℕ) (C : Containing w contents before) (c : ℕ) (room : c < length before)
-    (r : ℕ) (with-content : (k : ℕ) → member r k ≡ (eqb k c || member contents k)) where
-  ordered-more : (k d : ℕ) → isIn k (w ++ (c ∷ [])) ≡ true → member (getD (set before c contents) k 0) d ≡ precedes (w ++ (c ∷ [])) d k
-  ordered-more k d is = by-test (eqb k c)
-      (λ e. rw (eqb-true k c e, getD-set-same before c contents 0 room, C .has d) (sym (all-precede w d c)))
+  abbrev longer : List ℕ
+  longer = w ++ (c ∷ [])
+
+  row-here : getD more c [] ≡ first ∷ at ∷ []
+  row-here = getD-set-same order c (first ∷ at ∷ []) [] room
+
+  row-other : (k : ℕ) → (k ≡ c → ⊥) → getD more k [] ≡ getD order k []
+  row-other k n = getD-set-other order c k (first ∷ at ∷ []) [] n
+
+  in-before : (k : ℕ) → isIn k longer ≡ true → eqb k c ≡ false → isIn k w ≡ true
+  in-before k is e = or-left (isIn k w) (eqb k c) e (sym (is-in-more k c w) ∙ is)
+
+  -- Where contents of the word stand first.
+  first-more : (k : ℕ) → isIn k w ≡ true → firstPlace more k ≡ firstPlace order k
+  first-more k is = by-test (eqb k c)
       (λ e.
-      let i : isIn k w ≡ true = or-left (isIn k w) (eqb k c) e (sym (is-in-more k c w) ∙ is) in
-      rw (getD-set-other before c k contents 0 (eqb-false k c e), C .ordered k d i, precedes-more d k c w, e) (sym (or-false (precedes w d k))))
+      let q : k ≡ c = eqb-true k c e in
+      rw (q, row-here) (is-first ∙ rw (← q, is)))
+      (λ e. rw (row-other k (eqb-false k c e)))
 
-  -- One content more: the set, and what stands before the content, as the tables have them.
-  pub one-content : Containing (w ++ (c ∷ [])) r (set before c contents)
-  one-content = record {
+  first-new : isIn c w ≡ false → firstPlace more c ≡ at
+  first-new out = rw row-here (is-first ∙ rw out)
+
+  last-here : lastPlace more c ≡ at
+  last-here = rw row-here
+
+  last-other : (k : ℕ) → eqb k c ≡ false → lastPlace more k ≡ lastPlace order k
+  last-other k e = rw (row-other k (eqb-false k c e))
+
+  first-within : (k : ℕ) → isIn k longer ≡ true → firstPlace more k ≤ at
+  first-within k is = by-test (isIn k w)
+      (λ i. omega (arith, first-more k i, C .before k i .0))
+      (λ i.
+      let e : eqb k c ≡ true = or-right (isIn k w) (eqb k c) i (sym (is-in-more k c w) ∙ is) in
+      let q : k ≡ c = eqb-true k c e in
+      let f : firstPlace more c ≡ at = first-new (rw q at i) in
+      rw q (omega (arith, f)))
+
+  last-within : (k : ℕ) → isIn k longer ≡ true → lastPlace more k ≤ at
+  last-within k is = by-test (eqb k c)
+      (λ e. let q : k ≡ c = eqb-true k c e in rw q (omega (arith, last-here)))
+      (λ e. omega (arith, last-other k e, C .before k (in-before k is e) .1))
+
+  ordered-more : (k d : ℕ) → isIn k longer ≡ true → isIn d longer ≡ true → ltb (firstPlace more d) (lastPlace more k) ≡ precedes longer d k
+  ordered-more k d is is′ = rw (precedes-more d k c w) (by-test (eqb k c)
+      (λ e.
+      let q : k ≡ c = eqb-true k c e in
+      rw (e, q, last-here) (by-test (isIn d w)
+      (λ i. rw (i, first-more d i, lt-ltb _ _ (C .before d i .0)) (sym (or-true (precedes w d c))))
+      (λ i.
+      let z : d ≡ c = eqb-true d c (or-right (isIn d w) (eqb d c) i (sym (is-in-more d c w) ∙ is′)) in
+      rw (i, precedes-none w d c i) (rw (z, first-new (rw z at i)) (le-ltb at at (omega arith))))))
+      (λ e.
+      let in-word : isIn k w ≡ true = in-before k is e in
+      rw (e, last-other k e, or-false (precedes w d k)) (by-test (isIn d w)
+      (λ i. rw (first-more d i) (C .ordered k d in-word i))
+      (λ i.
+      let z : d ≡ c = eqb-true d c (or-right (isIn d w) (eqb d c) i (sym (is-in-more d c w) ∙ is′)) in
+      rw (precedes-none w d k i) (rw (z, first-new (rw z at i)) (le-ltb at (lastPlace order k) (omega (arith, C .before k in-word .1))))))))
+
+  pub one-content : (end : ℕ) → at < end → Containing longer r more end
+  one-content end on = record {
     has = λ k. with-content k ∙ rw (is-in-more k c w, C .has k) (or-comm (eqb k c) (isIn k w));
+    before = λ k is. (omega (arith, first-within k is), omega (arith, last-within k is));
     ordered = ordered-more;
   }
 
 -- The tables of no content: any will do.
-pub no-content : (before : List ℕ) → Containing [] 0 before
+pub no-content : (order : List (List ℕ)) (end : ℕ) → Containing [] 0 order end
 unfolding isIn
-no-content before = record {
+no-content order end = record {
   has = λ k. member-zero k;
+  before = λ c is. absurd (false≢true is);
   ordered = λ c d is. absurd (false≢true is);
 }
 
--- A content that stands twice at the end: once more changes nothing.
-module _ (c : ℕ) where
-  again-in : (u : List ℕ) (k : ℕ) → isIn c u ≡ true → isIn k (u ++ (c ∷ [])) ≡ isIn k u
-  again-in u k is = rw (is-in-more k c u) (by-test (eqb k c)
-      (λ e. rw (eqb-true k c e, is))
-      (λ e. rw e (or-false (isIn k u))))
-
-  or-twice : (a b : Bool) → ((a || b) || b) ≡ (a || b)
-  or-twice true b = refl
-  or-twice false true = refl
-  or-twice false false = refl
-
-  again-content : (u : List ℕ) (contents : ℕ) (before : List ℕ) → isIn c u ≡ true → Containing (u ++ (c ∷ [])) contents before
-      → Containing ((u ++ (c ∷ [])) ++ (c ∷ [])) contents before
-  again-content u contents before is C = record {
-    has = λ k. C .has k ∙ sym (again-in (u ++ (c ∷ [])) k (again-in u c is ∙ is));
-    ordered = λ k d in-word.
-        C .ordered k d (sym (again-in (u ++ (c ∷ [])) k (again-in u c is ∙ is)) ∙ in-word) ∙ rw (precedes-more d k c (u ++ (c ∷ [])), again-in u d is, precedes-more d k c u) (sym (or-twice (precedes u d k) (eqb k c && isIn d u)));
-  }
-
-  contents-again : (n : ℕ) (u : List ℕ) (contents : ℕ) (before : List ℕ) → isIn c u ≡ true → Containing (u ++ (c ∷ [])) contents before
-      → Containing ((u ++ (c ∷ [])) ++ replicate n c) contents before
-  contents-again zero u contents before is C = rw (append-nil (u ++ (c ∷ []))) C
-  contents-again (suc n) u contents before is C =
-      rw (← append-assoc (u ++ (c ∷ [])) (c ∷ []) (replicate n c))
-      (contents-again n (u ++ (c ∷ [])) contents before (again-in u c is ∙ is) (again-content u contents before is C))
-
-  -- Any number from two on.
-  pub contents-more : (n : ℕ) (w : List ℕ) (contents : ℕ) (before : List ℕ) → 0 < n → (n ≡ 1 → ⊥) → Containing ((w ++ (c ∷ [])) ++ (c ∷ [])) contents before
-      → Containing (w ++ replicate n c) contents before
-  contents-more zero w contents before some two C = absurd (omega arith)
-  contents-more (suc zero) w contents before some two C = absurd (two refl)
-  contents-more (suc (suc n)) w contents before some two C =
-      rw (← append-assoc w (c ∷ []) (c ∷ replicate n c), ← append-assoc (w ++ (c ∷ [])) (c ∷ []) (replicate n c))
-      (contents-again n (w ++ (c ∷ [])) contents before (is-in-more c c w ∙ rw (eq-eqb c c refl) (or-true (isIn c w))) C)
-
--- Texts alone, in a table that has a place for them.
-module _ (before : List ℕ) (room : 0 < length before) (text : ℕ) (is-text : (k : ℕ) → member text k ≡ (eqb k 0 || member 0 k)) where
-  pub one-text : (n : ℕ) → n ≡ 1 → Containing (replicate n 0) text (set before 0 0)
-  one-text n one = rw one (one-content [] 0 before (no-content before) 0 room text is-text)
-
-  pub some-texts : (n : ℕ) → (n ≡ 0 → ⊥) → (n ≡ 1 → ⊥) → Containing (replicate n 0) text (set (set before 0 0) 0 text)
-  some-texts n any two =
-      contents-more 0 n [] text (set (set before 0 0) 0 text) (omega (arith, any)) two
-      (one-content (0 ∷ []) text (set before 0 0) (one-text 1 refl) 0 (rw (length-set before 0 0) room) text twice)
-    where
-      twice : (k : ℕ) → member text k ≡ (eqb k 0 || member text k)
-      twice k = by-test (eqb k 0) (λ e. rw (is-text k, e)) (λ e. rw e)
+-- Further on, the tables stay what they are.
+pub later-content : {w : List ℕ} {contents : ℕ} {order : List (List ℕ)} {at : ℕ} → Containing w contents order at → (end : ℕ) → at ≤ end
+    → Containing w contents order end
+later-content C end on = record {
+  has = C .has;
+  before = λ c is. (omega (arith, C .before c is .0), omega (arith, C .before c is .1));
+  ordered = C .ordered;
+}

@@ -1,29 +1,43 @@
 // The elements of a page under the rules of a vocabulary: their attributes, their contents, and the clauses that they meet.
 ghost use mathlib.Core.Path.{_≡_};
 ghost use mathlib.Core.Bool.{cond, not, _&&_, _||_};
-ghost use mathlib.Core.Option.{some};
 ghost use mathlib.Core.List.{List, [], _∷_, _++_};
-ghost use Prim.Native.Nat.{ℕ, _/_, _%_, _^_, _≤_, _<_};
-ghost use lib.ListN.{length, getD, replicate};
-ghost use lib.Dec.{eqb};
+ghost use Prim.Native.Nat.{ℕ, _+_, _%_, _^_, _≤_, _<_};
+ghost use lib.ListN.{length, getD};
+ghost use lib.Dec.{ltb};
 ghost use Rattle.sets.specs.Sets.{member};
-ghost use Rattle.commands.specs.Commands.{byte};
 ghost use Rattle.vocabularies.specs.Vocabulary.{Vocabulary};
-ghost use Rattle.pages.specs.Promises.{PastText};
-ghost use Rattle.judging.specs.Judgement.{orElse};
-ghost use Rattle.judging.specs.Promises.{tableAtoms, heldOf, NoConnective, Closed, Decides, AllHold, Settled, Remembered, Lent, Names, Containing, IsRight, Tabled, SpeltAgain, wrongOf, JudgesItem, JudgesItems};
+ghost use Rattle.pages.specs.Steps.{itemHere};
+ghost use Rattle.judging.specs.Promises.{firstPlace, lastPlace, tableAtoms, markOf, firstMark, elementMark, Holds, Decides, AllHold, Settled, Remembered, Names, Containing, IsRight, Tabled, ruleAt, stepNext, JudgesItem, JudgesItems};
+use commands::Decoded;
+use commands::Past;
 use commands::Position;
+use pages::AttributeHere;
+use pages::ItemHere;
 
-// The truth of a formula, and the position after it. `heldOf` of the definitions says how code has both in one number.
+// The truth of a formula, and the position after it.
 pub struct Held {
     pub value: bool,
     pub next: Position,
 }
 
-// Whether all clauses are met, and the offset from which on they are whatever the strings and the order are; 0 if it is not known.
+// The attributes and the contents of an element, as sets.
+pub struct Shape {
+    pub names: u64,
+    pub contents: u64,
+}
+
+// A rule: the allowed attributes and contents as sets, and where its clauses stand.
+pub struct Rule {
+    pub attributes: u64,
+    pub contents: u64,
+    pub clauses: Position,
+}
+
+// Whether all clauses are met, and the offset from which on all elements of the same shape meet them.
 pub struct Met {
     pub value: bool,
-    pub sure: usize,
+    pub settled: usize,
 }
 
 // The names of an element's attributes, and the position after them.
@@ -32,523 +46,402 @@ pub struct Named {
     pub next: Position,
 }
 
-// An item that was judged: what content it is, the position after it, and the first wrong element in it, as its offset and 1, or 0 if
-// none is wrong.
+// The first wrong element of a page or of a part of it.
+pub enum FirstWrong {
+    Nowhere,
+    At(usize),
+}
+
+// An item that was judged: the position after it, and the first wrong element in it.
 pub struct Judged {
-    pub content: u8,
     pub next: Position,
-    pub wrong: usize,
+    pub wrong: FirstWrong,
 }
 
-impl Judged {
-    fn text(at: usize) -> Self
-        ensures { λ r. ⌜ r ≡ record { content = 0; next = record { at = at }; wrong = 0 } ⌝ }
-    {
-        Judged {
-            content: 0,
-            next: Position { at },
-            wrong: 0,
-        }
-    }
-}
-
-// A list of items that was judged: its contents as a set, the position after it, and the first wrong element in it, as for an item.
+// A list of items that was judged: its contents as a set, the position after it, and the first wrong element in it.
 pub struct Listed {
-    pub inside: u64,
+    pub contents: u64,
     pub next: Position,
-    pub wrong: usize,
+    pub wrong: FirstWrong,
 }
 
-// No number above 63 is a member.
-pub fn is_member(set: u64, i: u8) -> bool
-    ensures { λ r. ⌜ r ≡ member set i ⌝ }
-{
-    if 64 <= i {
-        return false;
+// Where a content of an element stands first, and where last: its row in the table of the order.
+const FIRST: usize = 0;
+
+const LAST: usize = 1;
+
+impl Held {
+    // A formula of this one and the one after it, both of which are to hold, or one.
+    fn and(self, second: Held) -> Held
+        ensures { λ r. ⌜ r ≡ record { value = self .value && second .value; next = second .next } ⌝ }
+    {
+        if self.value {
+            return second;
+        }
+        let next = second.next;
+        Held { value: false, next }
     }
-    sets::has(set, i)
+
+    fn or(self, second: Held) -> Held
+        ensures { λ r. ⌜ r ≡ record { value = self .value || second .value; next = second .next } ⌝ }
+    {
+        if !self.value {
+            return second;
+        }
+        let next = second.next;
+        Held { value: true, next }
+    }
+
+    fn not(self) -> Held
+        ensures { λ r. ⌜ r ≡ record { value = not (self .value); next = self .next } ⌝ }
+    {
+        let next = self.next;
+        Held {
+            value: !self.value,
+            next,
+        }
+    }
 }
 
-// No d stands before a c. Where both are inside, the order decides, and `unsure` is set.
-fn is_ordered(inside: u64, preceding: &[u64; 64], c: u8, d: u8, unsure: &mut usize) -> bool
-    ensures truth { λ r. ⌜ r ≡ not (member inside c && (member inside d && member (getD (now (preceding .entry)) c 0) d)) ⌝ }
-    ensures sure { λ r. ⌜ Closed (now (unsure .entry)) (now (unsure .exit)) (member inside c && member inside d) r ⌝ }
+impl FirstWrong {
+    // The first of two parts, one after the other.
+    fn or(self, later: FirstWrong) -> FirstWrong
+        ensures { λ r. ⌜ r ≡ firstMark self later ⌝ }
+    {
+        match self {
+            FirstWrong::Nowhere => later,
+            FirstWrong::At(at) => FirstWrong::At(at),
+        }
+    }
+
+    // That of an element at an offset: itself, or what is wrong inside it.
+    fn of_element(self, right: bool, at: usize) -> FirstWrong
+        ensures { λ r. ⌜ r ≡ elementMark right at self ⌝ }
+    {
+        if right {
+            return self;
+        }
+        FirstWrong::At(at)
+    }
+}
+
+// No d stands before a c.
+fn is_ordered(contents: u64, order: &[[u16; 2]; 64], c: u8, d: u8) -> bool
+    ensures { λ r. ⌜ r ≡ not (member contents c && (member contents d && ltb (firstPlace (now (order .entry)) d) (lastPlace (now (order .entry)) c))) ⌝ }
 {
-    if !is_member(inside, c) {
+    if !sets::is_member(contents, c) {
         return true;
     }
-    if !is_member(inside, d) {
+    if !sets::is_member(contents, d) {
         return true;
     }
-    *unsure = 1;
-    let k = c as usize;
-    !is_member(preceding[k], d)
+    let i = c as usize;
+    let j = d as usize;
+    order[i][LAST] <= order[j][FIRST]
 }
 
-// Attribute a is absent, or has a string of the set m. Where it is present, its string decides, and `unsure` is set.
-fn is_valued(names: u64, strings: &[u8; 32], a: u8, m: u64, unsure: &mut usize) -> bool
-    ensures truth { λ r. ⌜ r ≡ (not (member names a) || member m (getD (now (strings .entry)) (a % 32) 0)) ⌝ }
-    ensures sure { λ r. ⌜ Closed (now (unsure .entry)) (now (unsure .exit)) (member names a) r ⌝ }
+// Attribute a is absent, or has a string of the set m.
+fn is_valued(names: u64, strings: &[u8; 32], a: u8, m: u64) -> bool
+    ensures { λ r. ⌜ r ≡ (not (member names a) || member m (getD (now (strings .entry)) (a % 32) 0)) ⌝ }
 {
-    if !is_member(names, a) {
+    if !sets::is_member(names, a) {
         return true;
     }
-    *unsure = 1;
-    let k = (a % 32) as usize;
-    is_member(m, strings[k])
+    let i = (a % 32) as usize;
+    sets::is_member(m, strings[i])
 }
 
-// A truth and the offset after its formula as one number: twice the offset, and 1 for true.
-fn packed(value: bool, next: usize) -> usize
-    requires { ⌜ next < 2 ^ 63 ⌝ }
-    ensures { λ r. ⌜ (heldOf r ≡ record { value = value; next = record { at = next } }) × (r / 2 ≡ next) ⌝ }
+// The formula here, for an element with these tables; the forms stand in the order of source 000's grammar.
+fn holds(v: &[u8], here: Position, shape: Shape, strings: &[u8; 32], order: &[[u16; 2]; 64]) -> Held
+    ensures forward { λ r. ⌜ here .at ≤ r .next .at ⌝ }
+    ensures truth { λ r. ⌜ Holds (tableAtoms shape (now (strings .entry)) (now (order .entry))) (now (v .entry)) (here .at) r ⌝ }
 {
-    if value {
-        return next * 2 + 1;
-    }
-    next * 2
-}
-
-// The formula of one command here, for an element with these tables; 0 where none is whole. `unsure` is set where the strings or the order
-// decide.
-fn atom(
-    v: &[u8],
-    at: usize,
-    names: u64,
-    strings: &[u8; 32],
-    inside: u64,
-    preceding: &[u64; 64],
-    unsure: &mut usize,
-) -> usize
-    requires { ⌜ (at < length (now v)) × NoConnective (now v) at ⌝ }
-    ensures forward { λ r. ⌜ (0 < r → at < r / 2) ⌝ }
-    ensures truth { λ r. ⌜ Decides (tableAtoms names (now (strings .entry)) inside (now (preceding .entry))) names inside (now (v .entry)) at (now (unsure .entry)) (now (unsure .exit)) (heldOf r) ⌝ }
-{
-    let left = v.len() - at;
-    match v[at] {
-        0x13 => packed(true, at + 1),
-        0x14 => {
-            if left < 2 {
-                return 0;
-            }
-            packed(is_member(names, v[at + 1]), at + 2)
-        }
-        0x15 => {
-            if left < 2 {
-                return 0;
-            }
-            packed(is_member(inside, v[at + 1]), at + 2)
-        }
-        0x16 => {
-            if left < 3 {
-                return 0;
-            }
-            packed(
-                is_ordered(inside, preceding, v[at + 1], v[at + 2], unsure),
-                at + 3,
-            )
-        }
-        0x17 => {
-            if left < 10 {
-                return 0;
-            }
-            let m = commands::inner_set(v, at + 2);
-            packed(is_valued(names, strings, v[at + 1], m, unsure), at + 10)
-        }
-        _ => 0,
-    }
-}
-
-// The formula here, for an element with these tables; the forms stand in the order of source 000's grammar, the last five in `atom`. 0
-// where no formula is whole.
-fn holds(
-    v: &[u8],
-    at: usize,
-    names: u64,
-    strings: &[u8; 32],
-    inside: u64,
-    preceding: &[u64; 64],
-    unsure: &mut usize,
-) -> usize
-    ensures forward { λ r. ⌜ (0 < r → at < r / 2) ⌝ }
-    ensures truth { λ r. ⌜ Decides (tableAtoms names (now (strings .entry)) inside (now (preceding .entry))) names inside (now (v .entry)) at (now (unsure .entry)) (now (unsure .exit)) (heldOf r) ⌝ }
-{
-    if v.len() <= at {
-        return 0;
-    }
-    match v[at] {
+    let d = here.step(v);
+    let Decoded::Moved(code, next) = d else {
+        return Held {
+            value: false,
+            next: here,
+        };
+    };
+    match code {
         0x10 => {
-            let first = holds(v, at + 1, names, strings, inside, preceding, unsure);
-            if first == 0 {
-                return 0;
-            }
-            let second = holds(v, first / 2, names, strings, inside, preceding, unsure);
-            if first % 2 == 1 {
-                return second;
-            }
-            second / 2 * 2
+            let first = holds(v, next, shape, strings, order);
+            let second = holds(v, first.next, shape, strings, order);
+            first.and(second)
         }
         0x11 => {
-            let first = holds(v, at + 1, names, strings, inside, preceding, unsure);
-            if first == 0 {
-                return 0;
-            }
-            let second = holds(v, first / 2, names, strings, inside, preceding, unsure);
-            if first % 2 == 0 {
-                return second;
-            }
-            if second == 0 {
-                return 0;
-            }
-            second / 2 * 2 + 1
+            let first = holds(v, next, shape, strings, order);
+            let second = holds(v, first.next, shape, strings, order);
+            first.or(second)
         }
         0x12 => {
-            let only = holds(v, at + 1, names, strings, inside, preceding, unsure);
-            if only == 0 {
-                return 0;
-            }
-            if only % 2 == 1 {
-                return only - 1;
-            }
-            only + 1
+            let only = holds(v, next, shape, strings, order);
+            only.not()
         }
-        _ => atom(v, at, names, strings, inside, preceding, unsure),
+        0x13 => Held { value: true, next },
+        0x14 => Held {
+            value: sets::is_member(shape.names, here.operand(v, 1)),
+            next,
+        },
+        0x15 => Held {
+            value: sets::is_member(shape.contents, here.operand(v, 1)),
+            next,
+        },
+        0x16 => Held {
+            value: is_ordered(
+                shape.contents,
+                order,
+                here.operand(v, 1),
+                here.operand(v, 2),
+            ),
+            next,
+        },
+        _ => Held {
+            value: is_valued(
+                shape.names,
+                strings,
+                here.operand(v, 1),
+                commands::set_at(v, here.at + 2),
+            ),
+            next,
+        },
     }
 }
 
-// The formula of a clause here, as `holds` has it. Most are one command, and take no call of `holds`.
-fn clause_holds(
-    v: &[u8],
-    at: usize,
-    names: u64,
-    strings: &[u8; 32],
-    inside: u64,
-    preceding: &[u64; 64],
-    unsure: &mut usize,
-) -> usize
-    ensures forward { λ r. ⌜ (0 < r → at < r / 2) ⌝ }
-    ensures truth { λ r. ⌜ Decides (tableAtoms names (now (strings .entry)) inside (now (preceding .entry))) names inside (now (v .entry)) at (now (unsure .entry)) (now (unsure .exit)) (heldOf r) ⌝ }
+// One of two is no member.
+fn lacks_one(set: u64, c: u8, d: u8) -> bool
+    ensures { λ r. ⌜ r ≡ not (member set c && member set d) ⌝ }
 {
-    if v.len() <= at {
-        return 0;
+    if !sets::is_member(set, c) {
+        return true;
     }
-    match v[at] {
-        0x10 => holds(v, at, names, strings, inside, preceding, unsure),
-        0x11 => holds(v, at, names, strings, inside, preceding, unsure),
-        0x12 => holds(v, at, names, strings, inside, preceding, unsure),
-        _ => atom(v, at, names, strings, inside, preceding, unsure),
+    !sets::is_member(set, d)
+}
+
+// Whether the formula here is as true of one element of this shape as of another: it looks at no order of two contents that both stand
+// inside, and at no string of an attribute that is there.
+fn is_settled(v: &[u8], here: Position, shape: Shape) -> Held
+    ensures forward { λ r. ⌜ here .at ≤ r .next .at ⌝ }
+    ensures settled { λ r. ⌜ Decides shape (now (v .entry)) (here .at) r ⌝ }
+{
+    let d = here.step(v);
+    let Decoded::Moved(code, next) = d else {
+        return Held {
+            value: false,
+            next: here,
+        };
+    };
+    match code {
+        0x10 | 0x11 => {
+            let first = is_settled(v, next, shape);
+            let second = is_settled(v, first.next, shape);
+            first.and(second)
+        }
+        0x12 => is_settled(v, next, shape),
+        0x16 => Held {
+            value: lacks_one(shape.contents, here.operand(v, 1), here.operand(v, 2)),
+            next,
+        },
+        0x17 => Held {
+            value: !sets::is_member(shape.names, here.operand(v, 1)),
+            next,
+        },
+        _ => Held { value: true, next },
     }
 }
 
-// Whether all clauses that stand from an offset on are met, by an element with these tables. Those from `to` on are met whatever its
-// strings and its order are.
+// Whether all clauses from here on are met, by an element with these tables. Those from `to` on are met by all of its shape.
 fn all_hold(
     v: &[u8],
-    from: usize,
+    from: Position,
     to: usize,
-    names: u64,
+    shape: Shape,
     strings: &[u8; 32],
-    inside: u64,
-    preceding: &[u64; 64],
+    order: &[[u16; 2]; 64],
 ) -> Met
-    requires { ⌜ Settled (now v) names inside to ⌝ }
-    ensures truth { λ r. ⌜ AllHold (tableAtoms names (now (strings .entry)) inside (now (preceding .entry))) (now (v .entry)) from (r .value) ⌝ }
-    ensures sure { λ r. ⌜ (0 < r .sure → Settled (now (v .entry)) names inside (r .sure)) ⌝ }
+    requires { ⌜ Settled (now v) shape to ⌝ }
+    ensures truth { λ r. ⌜ AllHold (tableAtoms shape (now (strings .entry)) (now (order .entry))) (now (v .entry)) (from .at) (r .value) ⌝ }
+    ensures settled { λ r. ⌜ Settled (now (v .entry)) shape (r .settled) ⌝ }
 {
-    let mut at = from;
-    let mut sure = from;
-    while at < v.len() {
-        if at == to {
-            return Met { value: true, sure };
-        }
-        if v[at] != 0x04 {
-            return Met { value: true, sure };
-        }
-        let mut unsure: usize = 0;
-        let held = clause_holds(v, at + 1, names, strings, inside, preceding, &mut unsure);
-        if held % 2 == 0 {
+    let mut place = from;
+    let mut settled = from.at;
+    while place.at != to {
+        let past = place.past(v, 0x04);
+        let Past::Over(start) = past else {
+            return Met {
+                value: true,
+                settled,
+            };
+        };
+        let held = holds(v, start, shape, strings, order);
+        if !held.value {
             return Met {
                 value: false,
-                sure: 0,
+                settled: v.len(),
             };
         }
-        at = held / 2;
-        sure = kept(unsure, sure, at);
+        let same = is_settled(v, start, shape);
+        place = held.next;
+        if !same.value {
+            settled = place.at;
+        }
     }
-    Met { value: true, sure }
+    Met {
+        value: true,
+        settled,
+    }
 }
 
-// The place in the table of shapes of an element e with these attributes and contents. Any would do; shapes that are met often should
-// not share one.
-fn shape_place(e: u8, names: u64, inside: u64) -> u8
+// The table of shapes before the first element: no clauses stand from the end of the bytes on.
+pub fn no_shapes(v: &[u8]) -> [[u64; 3]; 64]
+    ensures { λ r. ⌜ Remembered (now (v .entry)) r ⌝ }
+{
+    let none = [0u64, 0u64, v.len() as u64];
+    [none; 64]
+}
+
+// The place in the table of shapes of an element with this shape, whose rule has its clauses at an offset. Any would do; shapes that
+// are met often should not share one.
+fn shape_place(shape: Shape, from: usize) -> usize
     ensures { λ r. ⌜ r < 64 ⌝ }
 {
-    let both = names ^ inside ^ (inside >> 32);
+    let both = shape.names ^ shape.contents ^ (shape.contents >> 32);
     let folded = both ^ (both >> 16);
-    ((folded ^ (folded >> 6) ^ (folded >> 12) ^ e as u64) % 64) as u8
+    ((folded ^ (folded >> 6) ^ (folded >> 12) ^ from as u64) % 64) as usize
 }
 
-// The offset from which on an element with these attributes and contents is known to meet all clauses, whatever its strings and its order
-// are, by what stands at a place of the table.
-fn sure_from(v: &[u8], shapes: &[u64; 192], place: u8, names: u64, inside: u64) -> usize
+// The offset from which on all elements of this shape are known to meet all clauses, by what stands at a place of the table.
+fn settled_from(v: &[u8], shapes: &[[u64; 3]; 64], place: usize, shape: Shape) -> usize
     requires { ⌜ (place < 64) × Remembered (now v) (now shapes) ⌝ }
-    ensures { λ r. ⌜ Settled (now (v .entry)) names inside r ⌝ }
+    ensures { λ r. ⌜ Settled (now (v .entry)) shape r ⌝ }
 {
-    let k = place as usize;
-    if shapes[k] != names {
+    let known = shapes[place];
+    if known[0] != shape.names {
         return v.len();
     }
-    if shapes[k + 64] != inside {
+    if known[1] != shape.contents {
         return v.len();
     }
-    if shapes[k + 128] == 0 {
-        return v.len();
-    }
-    shapes[k + 128] as usize
+    known[2] as usize
 }
 
-// That offset is kept at the place, for elements that come later; 0 if there is none.
-fn remember(v: &[u8], shapes: &mut [u64; 192], place: u8, names: u64, inside: u64, sure: usize)
-    requires { ⌜ (place < 64) × Remembered (now v) (now shapes) × (0 < sure → Settled (now v) names inside sure) ⌝ }
+// That offset is kept at the place, for elements that come later.
+fn remember(v: &[u8], shapes: &mut [[u64; 3]; 64], place: usize, shape: Shape, settled: usize)
+    requires { ⌜ (place < 64) × Remembered (now v) (now shapes) × Settled (now v) shape settled ⌝ }
     ensures { λ _. ⌜ Remembered (now (v .entry)) (now (shapes .exit)) ⌝ }
 {
-    let k = place as usize;
-    shapes[k] = names;
-    shapes[k + 64] = inside;
-    shapes[k + 128] = sure as u64;
+    let known = [shape.names, shape.contents, settled as u64];
+    shapes[place] = known;
 }
 
-// Whether an element e with these tables is right under its rule, of the attributes, contents and clauses at its number.
+// Whether an element with these tables is right under a rule.
 fn is_right(
     v: &[u8],
-    attributes: &[u64; 64],
-    contents: &[u64; 64],
-    clauses: &[usize; 64],
-    e: u8,
-    names: u64,
+    rule: Rule,
+    shape: Shape,
     strings: &[u8; 32],
-    inside: u64,
-    preceding: &[u64; 64],
-    shapes: &mut [u64; 192],
+    order: &[[u16; 2]; 64],
+    shapes: &mut [[u64; 3]; 64],
 ) -> bool
-    requires { ⌜ (e < 64) × Remembered (now v) (now shapes) ⌝ }
-    ensures right { λ r. ⌜ IsRight (now (v .entry)) (getD (now (attributes .entry)) e 0) (getD (now (contents .entry)) e 0) (getD (now (clauses .entry)) e 0) names (now (strings .entry)) inside (now (preceding .entry)) r ⌝ }
+    requires { ⌜ Remembered (now v) (now shapes) ⌝ }
+    ensures right { λ r. ⌜ IsRight (now (v .entry)) rule shape (now (strings .entry)) (now (order .entry)) r ⌝ }
     ensures remembered { λ _. ⌜ Remembered (now (v .entry)) (now (shapes .exit)) ⌝ }
 {
-    let k = e as usize;
-    if !sets::is_within(names, attributes[k]) {
+    if !sets::is_within(shape.names, rule.attributes) {
         return false;
     }
-    if !sets::is_within(inside, contents[k]) {
+    if !sets::is_within(shape.contents, rule.contents) {
         return false;
     }
-    let place = shape_place(e, names, inside);
-    let to = sure_from(v, shapes, place, names, inside);
-    let met = all_hold(v, clauses[k], to, names, strings, inside, preceding);
-    remember(v, shapes, place, names, inside, met.sure);
+    let from = rule.clauses;
+    let place = shape_place(shape, from.at);
+    let to = settled_from(v, shapes, place, shape);
+    let met = all_hold(v, from, to, shape, strings, order);
+    remember(v, shapes, place, shape, met.settled);
     met.value
 }
 
-// The attributes straight after `23 e`: their names, and in `strings` the string of each, 64 for one outside 0 to 63.
+// The attributes straight after `23 e`: their names, and in `strings` the string of each.
 fn read_attributes(p: &[u8], here: Position, strings: &mut [u8; 32]) -> Named
     requires { ⌜ length (now strings) ≡ 32 ⌝ }
     ensures forward { λ r. ⌜ here .at ≤ r .next .at ⌝ }
     ensures named { λ r. ⌜ Names (now (p .entry)) (here .at) r (now (strings .exit)) ⌝ }
-    ensures long { λ _. ⌜ length (now (strings .exit)) ≡ 32 ⌝ }
 {
-    let mut at = here.at;
     let mut names: u64 = 0;
-    while at < p.len() {
-        let a = commands::byte_at(p, at + 1) % 32;
-        let i = a as usize;
-        if p[at] == 0x24 {
-            names = sets::with(names, a);
-            strings[i] = commands::byte_at(p, at + 2);
-            at += 3;
-        } else {
-            if p[at] != 0x28 {
-                return Named {
-                    names,
-                    next: Position { at },
-                };
+    let mut place = here;
+    loop {
+        let attribute = pages::attribute_here(p, place);
+        match attribute {
+            AttributeHere::Fixed { name, string, next } => {
+                let i = name as usize;
+                names = sets::with(names, name);
+                strings[i] = string;
+                place = next;
             }
-            names = sets::with(names, a);
-            strings[i] = 64;
-            at += 2;
+            AttributeHere::Open { name, gap: _, next } => {
+                names = sets::with(names, name);
+                place = next;
+            }
+            AttributeHere::Done => {
+                return Named { names, next: place };
+            }
         }
     }
-    Named {
-        names,
-        next: Position { at },
-    }
 }
 
-// The first wrong element of two parts.
-fn first_of(a: usize, b: usize) -> usize
-    ensures { λ r. ⌜ wrongOf r ≡ orElse (wrongOf a) (wrongOf b) ⌝ }
+// Where a content stands first that stands at a place, behind those inside.
+fn first_place(order: &[[u16; 2]; 64], contents: u64, c: u8, place: u16) -> u16
+    requires { ⌜ c < 64 ⌝ }
+    ensures { λ r. ⌜ r ≡ cond (member contents c) (firstPlace (now (order .entry)) c) place ⌝ }
 {
-    if a == 0 {
-        return b;
+    if !sets::has(contents, c) {
+        return place;
     }
-    a
+    let i = c as usize;
+    order[i][FIRST]
 }
 
-// The first wrong element of an element at an offset: itself, or what is wrong inside it.
-fn element_first(right: bool, at: usize, inside: usize) -> usize
-    requires { ⌜ at < 2 ^ 63 ⌝ }
-    ensures { λ r. ⌜ wrongOf r ≡ cond right (wrongOf inside) (some at) ⌝ }
+// One content more, at an offset behind those inside.
+fn add_content(order: &mut [[u16; 2]; 64], contents: u64, c: u8, at: usize) -> u64
+    requires { ⌜ (length (now order) ≡ 64) × (c < 64) × (at < 2 ^ 16) ⌝ }
+    ensures long { λ _. ⌜ length (now (order .exit)) ≡ 64 ⌝ }
+    ensures more { λ r. ⌜ ((w : List ℕ) (end : ℕ) → at < end → Containing w contents (now (order .entry)) at → Containing (w ++ (c ∷ [])) r (now (order .exit)) end) ⌝ }
 {
-    if right {
-        return inside;
-    }
-    at + 1
+    let i = c as usize;
+    let place = at as u16;
+    let row = [first_place(order, contents, c, place), place];
+    order[i] = row;
+    sets::with(contents, c)
 }
 
-// One content more, after those inside: all of them stand before it.
-fn add_content(preceding: &mut [u64; 64], inside: u64, c: u8) -> u64
-    requires { ⌜ (length (now preceding) ≡ 64) × (c < 64) ⌝ }
-    ensures long { λ _. ⌜ length (now (preceding .exit)) ≡ 64 ⌝ }
-    ensures more { λ r. ⌜ ((w : List ℕ) → Containing w inside (now (preceding .entry)) → Containing (w ++ (c ∷ [])) r (now (preceding .exit))) ⌝ }
+// The rule of an element.
+fn rule_of(attributes: &[u64; 64], contents: &[u64; 64], clauses: &[usize; 64], e: u8) -> Rule
+    requires { ⌜ e < 64 ⌝ }
+    ensures { λ r. ⌜ r ≡ ruleAt (now (attributes .entry)) (now (contents .entry)) (now (clauses .entry)) e ⌝ }
 {
-    let k = c as usize;
-    preceding[k] = inside;
-    sets::with(inside, c)
+    let i = e as usize;
+    Rule {
+        attributes: attributes[i],
+        contents: contents[i],
+        clauses: Position::new(clauses[i]),
+    }
 }
 
-// So many texts more, after the contents inside: from the third on they change nothing.
-fn add_texts(preceding: &mut [u64; 64], inside: u64, n: usize) -> u64
-    requires { ⌜ length (now preceding) ≡ 64 ⌝ }
-    ensures long { λ _. ⌜ length (now (preceding .exit)) ≡ 64 ⌝ }
-    ensures more { λ r. ⌜ ((w : List ℕ) → Containing w inside (now (preceding .entry)) → Containing (w ++ replicate n 0) r (now (preceding .exit))) ⌝ }
+// An item that is no element has nothing in it.
+fn judge_leaf(item: ItemHere) -> Judged
+    ensures { λ r. ⌜ r ≡ record { next = stepNext item; wrong = FirstWrong.Nowhere } ⌝ }
 {
-    if n == 0 {
-        return inside;
-    }
-    let once = add_content(preceding, inside, 0);
-    if n == 1 {
-        return once;
-    }
-    add_content(preceding, once, 0)
-}
-
-// So many texts and no other contents. Only their own place of the table is needed.
-fn texts_alone(preceding: &mut [u64; 64], n: usize) -> u64
-    requires { ⌜ length (now preceding) ≡ 64 ⌝ }
-    ensures long { λ _. ⌜ length (now (preceding .exit)) ≡ 64 ⌝ }
-    ensures texts { λ r. ⌜ Containing (replicate n 0) r (now (preceding .exit)) ⌝ }
-{
-    if n == 0 {
-        return 0;
-    }
-    let text = sets::with(0, 0);
-    preceding[0] = 0;
-    if n == 1 {
-        return text;
-    }
-    preceding[0] = text;
-    text
-}
-
-// Where `23 e 24 a s` has its string. Elements that differ mostly do so there.
-const FIRST_STRING: usize = 4;
-
-// The offset after the bytes here that spell the same as those from `seen` on up to `past`; 0 if they do not, or none are seen.
-fn after_same(p: &[u8], seen: usize, past: usize, at: usize) -> usize
-    requires { ⌜ (seen ≤ past) × (past ≤ at) × (at < length (now p)) ⌝ }
-    ensures { λ r. ⌜ (0 < r → SpeltAgain (now (p .entry)) seen past at r) ⌝ }
-{
-    let n = past - seen;
-    if n == 0 {
-        return 0;
-    }
-    if p.len() - at < n {
-        return 0;
-    }
-    if FIRST_STRING < n {
-        if p[at + FIRST_STRING] != p[seen + FIRST_STRING] {
-            return 0;
-        }
-    }
-    let mut i = 0;
-    while i < n {
-        if p[at + i] != p[seen + i] {
-            return 0;
-        }
-        i += 1;
-    }
-    at + n
-}
-
-// The new of two, or the old if something speaks against the new.
-fn kept(wrong: usize, new: usize, old: usize) -> usize
-    ensures { λ r. ⌜ r ≡ cond (eqb wrong 0) new old ⌝ }
-{
-    if wrong == 0 {
-        return new;
-    }
-    old
-}
-
-// The offset after a text, if one stands here.
-fn after_one_text(p: &[u8], here: Position) -> Position
-    ensures { λ r. ⌜ PastText (now (p .entry)) (here .at) (r .at) ⌝ }
-{
-    let at = here.at;
-    if commands::byte_at(p, at) != 0x21 {
-        return here;
-    }
-    Position { at: at + 1 }
-}
-
-// The element here, if it has no more than one text inside; otherwise the position after it is given as 0. Most elements are such, and
-// need no table of their own.
-fn judge_leaf(
-    v: &[u8],
-    attributes: &[u64; 64],
-    contents: &[u64; 64],
-    clauses: &[usize; 64],
-    p: &[u8],
-    here: Position,
-    strings: &mut [u8; 32],
-    texts: &mut [u64; 64],
-    shapes: &mut [u64; 192],
-) -> Judged
-    requires { ⌜ (byte (now p) (here .at) ≡ 0x23) × (here .at < length (now p)) × Lent (now v) (now strings) (now texts) (now shapes) ⌝ }
-    ensures lent { λ _. ⌜ Lent (now (v .entry)) (now (strings .exit)) (now (texts .exit)) (now (shapes .exit)) ⌝ }
-    ensures small { λ r. ⌜ r .content < 64 ⌝ }
-    ensures judged { λ r. ⌜ ((r .next .at ≡ 0 → ⊥) → (here .at < r .next .at) × ((D : Vocabulary) → Tabled (now (v .entry)) D (now (attributes .entry)) (now (contents .entry)) (now (clauses .entry)) → JudgesItem D (now (p .entry)) (here .at) r)) ⌝ }
-{
-    let at = here.at;
-    let e = commands::byte_at(p, at + 1) % 64;
-    let named = read_attributes(p, Position { at: at + 2 }, strings);
-    let start = named.next;
-    let end = after_one_text(p, start);
-    if commands::byte_at(p, end.at) != 0x26 {
-        return Judged::text(0);
-    }
-    let inside = texts_alone(texts, end.at - start.at);
-    let right = is_right(
-        v,
-        attributes,
-        contents,
-        clauses,
-        e,
-        named.names,
-        strings,
-        inside,
-        texts,
-        shapes,
-    );
-    Judged {
-        content: e,
-        next: Position { at: end.at + 1 },
-        wrong: element_first(right, at, 0),
+    let wrong = FirstWrong::Nowhere;
+    match item {
+        ItemHere::Text(next) => Judged { next, wrong },
+        ItemHere::Gap(_, next) => Judged { next, wrong },
+        ItemHere::Element(_, next) => Judged { next, wrong },
+        ItemHere::End(next) => Judged { next, wrong },
     }
 }
 
-// The item here, under the rules whose tables are given. An element is judged before those inside it. Three tables are lent from one
-// element to the next: `strings` and `texts` serve while one is judged; `shapes` has attributes and contents of some that were judged, and
-// from where on such elements meet all clauses.
+// The item here, under the rules whose tables are given. An element is judged before those inside it. `shapes` has the shapes of some
+// that were judged, and from where on all elements of such a shape meet the clauses.
 pub fn judge_item(
     v: &[u8],
     attributes: &[u64; 64],
@@ -556,63 +449,44 @@ pub fn judge_item(
     clauses: &[usize; 64],
     p: &[u8],
     here: Position,
-    strings: &mut [u8; 32],
-    texts: &mut [u64; 64],
-    shapes: &mut [u64; 192],
+    shapes: &mut [[u64; 3]; 64],
 ) -> Judged
-    requires { ⌜ Lent (now v) (now strings) (now texts) (now shapes) ⌝ }
-    ensures lent { λ _. ⌜ Lent (now (v .entry)) (now (strings .exit)) (now (texts .exit)) (now (shapes .exit)) ⌝ }
-    ensures forward { λ r. ⌜ (here .at < length (now (p .entry)) → here .at < r .next .at) ⌝ }
-    ensures small { λ r. ⌜ r .content < 64 ⌝ }
+    requires { ⌜ (length (now p) ≤ 2 ^ 16) × Remembered (now v) (now shapes) ⌝ }
+    ensures remembered { λ _. ⌜ Remembered (now (v .entry)) (now (shapes .exit)) ⌝ }
+    ensures forward { λ r. ⌜ stepNext (itemHere (now (p .entry)) (here .at)) .at ≤ r .next .at ⌝ }
     ensures judged { λ r. ⌜ ((D : Vocabulary) → Tabled (now (v .entry)) D (now (attributes .entry)) (now (contents .entry)) (now (clauses .entry)) → JudgesItem D (now (p .entry)) (here .at) r) ⌝ }
 {
-    let at = here.at;
-    if p.len() <= at {
-        return Judged::text(at);
-    }
-    if p[at] != 0x23 {
-        return Judged::text(at + 1);
-    }
-    let e = commands::byte_at(p, at + 1) % 64;
-    let first = read_attributes(p, Position { at: at + 2 }, strings);
-    let start = first.next;
-    let mut preceding = [0u64; 64];
+    let item = pages::item_here(p, here);
+    let ItemHere::Element(e, start) = item else {
+        return judge_leaf(item);
+    };
+    let mut strings = [0u8; 32];
+    let named = read_attributes(p, start, &mut strings);
+    let inside = named.next;
+    let mut order = [[0u16; 2]; 64];
     let list = judge_items(
         v,
         attributes,
         contents,
         clauses,
         p,
-        start,
-        &mut preceding,
-        strings,
-        texts,
+        inside,
+        &mut order,
         shapes,
     );
-    // Those inside have used the table of strings.
-    let named = read_attributes(p, Position { at: at + 2 }, strings);
-    let right = is_right(
-        v,
-        attributes,
-        contents,
-        clauses,
-        e,
-        named.names,
-        strings,
-        list.inside,
-        &preceding,
-        shapes,
-    );
+    let shape = Shape {
+        names: named.names,
+        contents: list.contents,
+    };
+    let rule = rule_of(attributes, contents, clauses, e);
+    let right = is_right(v, rule, shape, &strings, &order, shapes);
     let next = list.next;
-    Judged {
-        content: e,
-        next,
-        wrong: element_first(right, at, list.wrong),
-    }
+    let within = list.wrong;
+    let wrong = within.of_element(right, here.at);
+    Judged { next, wrong }
 }
 
-// The items from here on, up to `26`. The last element that was right, with all in it, is kept: one that is spelt the same needs no
-// judging.
+// The items from here on, up to what ends their list.
 fn judge_items(
     v: &[u8],
     attributes: &[u64; 64],
@@ -620,83 +494,41 @@ fn judge_items(
     clauses: &[usize; 64],
     p: &[u8],
     here: Position,
-    preceding: &mut [u64; 64],
-    strings: &mut [u8; 32],
-    texts: &mut [u64; 64],
-    shapes: &mut [u64; 192],
+    order: &mut [[u16; 2]; 64],
+    shapes: &mut [[u64; 3]; 64],
 ) -> Listed
-    requires { ⌜ (length (now preceding) ≡ 64) × Lent (now v) (now strings) (now texts) (now shapes) ⌝ }
-    ensures lent { λ _. ⌜ Lent (now (v .entry)) (now (strings .exit)) (now (texts .exit)) (now (shapes .exit)) ⌝ }
+    requires { ⌜ (length (now p) ≤ 2 ^ 16) × (length (now order) ≡ 64) × Remembered (now v) (now shapes) ⌝ }
+    ensures remembered { λ _. ⌜ Remembered (now (v .entry)) (now (shapes .exit)) ⌝ }
     ensures forward { λ r. ⌜ here .at ≤ r .next .at ⌝ }
-    ensures judged { λ r. ⌜ ((D : Vocabulary) → Tabled (now (v .entry)) D (now (attributes .entry)) (now (contents .entry)) (now (clauses .entry)) → JudgesItems D (now (p .entry)) (here .at) r (now (preceding .exit))) ⌝ }
+    ensures judged { λ r. ⌜ ((D : Vocabulary) → Tabled (now (v .entry)) D (now (attributes .entry)) (now (contents .entry)) (now (clauses .entry)) → JudgesItems D (now (p .entry)) (here .at) r (now (order .exit))) ⌝ }
 {
-    let mut at = here.at;
+    let mut place = here;
     let mut inside: u64 = 0;
-    let mut wrong: usize = 0;
-    let mut seen = at;
-    let mut past = at;
-    while at < p.len() {
-        if p[at] == 0x26 {
-            return Listed {
-                inside,
-                next: Position { at: at + 1 },
-                wrong,
-            };
-        }
-        if p[at] != 0x23 {
-            let end = pages::after_text(p, Position { at: at + 1 });
-            inside = add_texts(preceding, inside, end.at - at);
-            at = end.at;
-        } else {
-            let same = after_same(p, seen, past, at);
-            if same != 0 {
-                let e = commands::byte_at(p, at + 1) % 64;
-                inside = add_content(preceding, inside, e);
-                at = same;
-            } else {
-                let leaf = judge_leaf(
-                    v,
-                    attributes,
-                    contents,
-                    clauses,
-                    p,
-                    Position { at },
-                    strings,
-                    texts,
-                    shapes,
-                );
-                let after = leaf.next;
-                if after.at != 0 {
-                    inside = add_content(preceding, inside, leaf.content);
-                    wrong = first_of(wrong, leaf.wrong);
-                    seen = kept(leaf.wrong, at, seen);
-                    past = kept(leaf.wrong, after.at, past);
-                    at = after.at;
-                } else {
-                    let item = judge_item(
-                        v,
-                        attributes,
-                        contents,
-                        clauses,
-                        p,
-                        Position { at },
-                        strings,
-                        texts,
-                        shapes,
-                    );
-                    inside = add_content(preceding, inside, item.content);
-                    wrong = first_of(wrong, item.wrong);
-                    let next = item.next;
-                    seen = kept(item.wrong, at, seen);
-                    past = kept(item.wrong, next.at, past);
-                    at = next.at;
-                }
+    let mut wrong = FirstWrong::Nowhere;
+    loop {
+        let item = pages::item_here(p, place);
+        match item {
+            ItemHere::Text(next) => {
+                inside = add_content(order, inside, 0, place.at);
+                place = next;
+            }
+            ItemHere::Gap(_, next) => {
+                place = next;
+            }
+            ItemHere::Element(e, _) => {
+                let judged = judge_item(v, attributes, contents, clauses, p, place, shapes);
+                inside = add_content(order, inside, e, place.at);
+                let later = judged.wrong;
+                wrong = wrong.or(later);
+                place = judged.next;
+            }
+            ItemHere::End(next) => {
+                return Listed {
+                    contents: inside,
+                    next,
+                    wrong,
+                };
             }
         }
-    }
-    Listed {
-        inside,
-        next: Position { at },
-        wrong,
     }
 }

@@ -1,10 +1,8 @@
 pub mod Uses
-pub mod Closing
 pub mod GapSets
-pub mod AttributeLaws
-pub mod ItemLaws
-pub mod TakeLaws
-pub mod SkipLaws
-pub mod LineLaws
-pub mod ListLaws
+pub mod AttributeGaps
+pub mod GapNumbers
+pub mod Lines
+pub mod Lists
 pub mod RoundLaws
+pub mod Settling

@@ -1,18 +1,21 @@
 -- The laws of the morphisms that the check uses, and words that are the same set.
 use Prim.Native.Nat.{ℕ, _<_}
-use mathlib.Core.Path.{_≡_, refl, sym, _∙_}
-use mathlib.Core.List.{List}
+use mathlib.Core.Path.{_≡_, refl, sym, ap, _∙_}
+use mathlib.Core.List.{List, []}
 use mathlib.Core.Bool.{Bool, true, false, false≢true}
-use lib.Dec.{ltb}
-use borrow.Author.Tests.{ltb-true, ltb-false}
+use native.Mathlib.Omega.{arith}
+use lib.Dec.{eqb, ltb}
+use borrow.Author.Tests.{ne-eqb, ltb-true, ltb-false}
 use Rattle.patterns.specs.Morphisms as Morphisms
-use Rattle.patterns.specs.Rounds.{Set, product}
+use Rattle.patterns.specs.Rounds.{Set, only, product}
 use Rattle.patterns.proofs.Tests.{same-test}
 use Rattle.patterns.proofs.Exact.{in-product, factors}
 use Rattle.patterns.proofs.Lawful.{Lawful, clause-lawful, root-lawful}
 use Rattle.patterns.proofs.Products.{Monoid, clause-monoid, root-monoid}
 use Rattle.pattern_sets.specs.PatternSets.{holds}
-use Rattle.readings.specs.Readings.{Is}
+use Rattle.readings.specs.declared.Reading.{Reading}
+use Rattle.readings.specs.Readings.{Reads, Is}
+use Rattle.readings.proofs.Joining.{empty-pattern}
 use Rattle.languages.specs.Tables.{Used, of-clause, of-root}
 
 pub lawful : {M : Morphisms.Morphism} → Used M → Lawful M
@@ -47,3 +50,12 @@ product-as M A A′ B B′ same-a same-b z = same-test (product M A B z) (produc
     let f = factors M A′ B′ z e in
     in-product M A B (f .first) (f .second) z (f .first-below) (f .second-below)
     (same-a (f .first) (f .first-below) ∙ f .in-first) (same-b (f .second) (f .second-below) ∙ f .in-second) (f .joined))
+
+-- Words that hold one pattern.
+pub one-pattern : {M : Morphisms.Morphism} (words : List ℕ) (p : ℕ) → p < M .size → ((y : ℕ) → holds words y ≡ eqb y p) → Is M words (only p)
+one-pattern words p h e = record { inside = λ x l. e x; outside = λ x l. e x ∙ ne-eqb x p (λ q. omega arith) }
+
+pub unit-set : {r : Reading} {M : Morphisms.Morphism} → Reads r M → Used M → (words : List ℕ) → ((y : ℕ) → holds words y ≡ eqb y 0) → Is M words (only (M .of []))
+unit-set reads used words e =
+    let z = empty-pattern reads in
+    one-pattern words _ (lawful used .below []) (λ y. e y ∙ ap (eqb y) (sym z))

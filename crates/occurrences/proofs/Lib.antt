@@ -1,5 +1,3 @@
-pub mod TemplateItems
-pub mod Names
-pub mod LoneElements
-pub mod OuterItems
+pub mod Elements
+pub mod Outlining
 pub mod Tables

@@ -1,10 +1,9 @@
 -- How the code that reads items agrees with the definitions: a law for each way that a turn of it goes.
 use Prim.Native.Nat.{ℕ, zero, suc, _+_, _-_, _≤_, _<_}
-use mathlib.Core.Path.{_≡_, refl, sym, ap, _∙_}
+use mathlib.Core.Path.{_≡_, refl, sym, _∙_}
 use mathlib.Core.List.{List, [], _∷_}
-use mathlib.Core.Bool.{Bool, true, false, cond}
+use mathlib.Core.Bool.{Bool, true, false}
 use native.Mathlib.Omega.{arith}
-use lib.ListN.{length}
 use lib.Dec.{eqb}
 use borrow.Author.Tests.{eq-eqb, ne-eqb, lt-ltb, le-ltb}
 use Rattle.verdicts.specs.declared.Form.{Form}
@@ -16,16 +15,18 @@ use Rattle.commands.specs.declared.Decoded.the-variants.{Moved}
 use Rattle.commands.specs.declared.Decoded.the-variants as Decoded
 use Rattle.commands.specs.declared.Part.{Part}
 use Rattle.commands.specs.declared.Part.the-variants.{Whole, Refused}
-use Rattle.commands.specs.Commands.{gap, byte, operandsOf, operandBytes, inRange, allowed, Single, command}
+use Rattle.commands.specs.declared.Past.{Past}
+use Rattle.commands.specs.declared.Past.the-variants.{Over, Other}
+use Rattle.commands.specs.Commands.{byte, allowed, command}
 use Rattle.commands.specs.Reading.{Read, whole, andThen}
-use Rattle.commands.specs.Parts.{Agrees}
-use Rattle.commands.proofs.Laws.{moved, single-moves}
+use Rattle.commands.specs.Parts.{Agrees, past}
+use Rattle.commands.proofs.Laws.{moved, past-over, past-other}
 use Rattle.vocabularies.specs.Vocabulary.{isIn}
 use Rattle.pages.specs.declared.Kind.{Kind}
 use Rattle.pages.specs.declared.Kind.the-variants.{Template, Page}
 use Rattle.pages.specs.ItemReading.{itemContext, attributeContext, nesting, endOf, attributes, items, item}
-use Rattle.pages.specs.Promises.{AttributesRead, ItemsRead, ItemRead, PastText, PastLeaves}
-use Rattle.pages.proofs.Laws.{stands-inside, item-move, attributes-move}
+use Rattle.pages.specs.Promises.{AttributesRead, ItemsRead, ItemRead}
+use Rattle.pages.proofs.Laws.{some-end, item-move, attributes-move}
 use Rattle.pages.proofs.Parts.{agrees-made, refused-first, whole-first}
 
 -- What a part is made into does not change where it ends.
@@ -79,6 +80,14 @@ module _ (k : Kind) (ruled : ℕ → Bool) (s : List ℕ) (depth at : ℕ) where
         (whole-first _ _ (item f k ruled s depth at) first (reads f (omega arith)) next r e λ i e.
         let m = item-move f k ruled s depth at i (next .at) e in
         made _ (items f k ruled s depth (next .at)) r (goes f (omega arith)))
+
+-- What ends a list is passed over, or the list goes on.
+module _ (s : List ℕ) (depth at end : ℕ) (is : end ≡ endOf depth) (r : Past) (here : r ≡ past s at end) where
+  pub list-ended : (next : Position) → r ≡ Over next → (byte s at ≡ endOf depth) × (next .at ≡ at + 1)
+  list-ended next e = let o = past-over s at end r next here e in (o .1 ∙ is, o .2)
+
+  pub list-goes-on : r ≡ Other → byte s at ≡ endOf depth → ⊥
+  list-goes-on e ended = past-other s at end r here e (λ z. some-end (eqb depth 0) (sym is ∙ z)) (ended ∙ sym is)
 
 -- An item; `x` is where it stands.
 module _ (k : Kind) (x : Context) (is : x ≡ itemContext k) (ruled : ℕ → Bool) (s : List ℕ) (depth at : ℕ) where
@@ -134,72 +143,3 @@ pub string-permitted : (k : Kind) → allowed (attributeContext k) 0x24 ≡ true
 unfolding allowed
 string-permitted Template = refl
 string-permitted Page = refl
-
-text-permitted : (k : Kind) → allowed (itemContext k) 0x21 ≡ true
-unfolding allowed
-text-permitted Template = refl
-text-permitted Page = refl
-
-text-bytes : operandBytes 0x21 ≡ 0
-unfolding operandBytes operandsOf
-text-bytes = refl
-
--- Text takes one byte, and may stand among the items of both kinds.
-text-command : (k : Kind) (s : List ℕ) (at : ℕ) → byte s at ≡ 0x21 → command (itemContext k) s at ≡ Moved 0x21 (record { at = at + 1 })
-unfolding command
-text-command k s at e =
-    let inside = stands-inside s at (λ past. omega (arith, e, past)) in
-    let ends : at + 0 ≡ at = omega arith in
-    let after : at + 1 + 0 ≡ at + 1 = omega arith in
-    rw (lt-ltb _ _ inside, e, text-permitted k, text-bytes, ends, after, lt-ltb _ _ inside) refl
-
--- A gap takes two bytes, and may stand among the items of a template.
-gap-single : Single (itemContext Template) 0x22 7
-unfolding allowed operandsOf inRange
-gap-single = record { may-stand = refl; operand = gap; alone = refl; is-byte = refl; range = λ s i. refl }
-
--- What ends a list is neither.
-no-end : (c : ℕ) → c < 0x26 → (depth : ℕ) → c ≡ endOf depth → ⊥
-no-end c l depth e = go (eqb depth 0) e
-  where
-    go : (t : Bool) → c ≡ cond t 0x27 0x26 → ⊥
-    go true e = omega (arith, l, e)
-    go false e = omega (arith, l, e)
-
-module _ (k : Kind) (ruled : ℕ → Bool) (s : List ℕ) (depth : ℕ) (r : Part) where
-  items-text : (at : ℕ) → byte s at ≡ 0x21 → ItemsRead k ruled s depth (at + 1) r → ItemsRead k ruled s depth at r
-  items-text at e h =
-      items-next k ruled s depth at (λ ended. no-end 0x21 (omega arith) depth (sym e ∙ ended)) (Whole (record { at = at + 1 }))
-      (item-leaf k (itemContext k) refl ruled s depth at 0x21 (record { at = at + 1 }) (text-command k s at e) (λ opens. omega (arith, opens)))
-      (record { at = at + 1 }) r refl h
-
-  items-gap : k ≡ Template → (at : ℕ) → at + 2 ≤ length s → byte s at ≡ 0x22 → byte s (at + 1) ≤ 7 → ItemsRead k ruled s depth (at + 2) r → ItemsRead k ruled s depth at r
-  items-gap is at fits e range h =
-      items-next k ruled s depth at (λ ended. no-end 0x22 (omega arith) depth (sym e ∙ ended)) (Whole (record { at = at + 2 }))
-      (item-leaf k (itemContext Template) (ap itemContext (sym is)) ruled s depth at 0x22 (record { at = at + 2 }) (sym (single-moves _ s at 0x22 7 gap-single (omega (arith, fits)) e fits range)) (λ opens. omega (arith, opens)))
-      (record { at = at + 2 }) r refl h
-
-  run : (n at next : ℕ) → at + n ≡ next → ((i : ℕ) → at ≤ i → i < next → byte s i ≡ 0x21) → ItemsRead k ruled s depth next r → ItemsRead k ruled s depth at r
-  run zero at next e texts h = let same : at ≡ next = omega (arith, e) in rw same h
-  run (suc n) at next e texts h =
-      items-text at (texts at (omega arith) (omega (arith, e)))
-      (run n (at + 1) next (omega (arith, e)) (λ i from to. texts i (omega (arith, from)) to) h)
-
-  -- Reading goes on after the text that stands at an offset.
-  pub items-past-text : (at next : ℕ) → PastText s at next → ItemsRead k ruled s depth next r → ItemsRead k ruled s depth at r
-  items-past-text at next past h = run (next - at) at next (omega (arith, past .forward)) (past .texts) h
-
--- The texts, and in a template the gaps, that were stepped over.
-module _ (k : Kind) (s : List ℕ) where
-  pub leaves-none : (at : ℕ) → PastLeaves k s at at
-  leaves-none at = record { forward = omega arith; reads = λ ruled depth r h. h }
-
-  pub leaves-texts : (at next : ℕ) → PastText s at next → PastLeaves k s at next
-  leaves-texts at next past = record { forward = past .forward; reads = λ ruled depth r h. items-past-text k ruled s depth r at next past h }
-
-  module _ (at₀ at : ℕ) (past : PastLeaves k s at₀ at) where
-    pub leaves-text : byte s at ≡ 0x21 → PastLeaves k s at₀ (at + 1)
-    leaves-text e = record { forward = omega (arith, past .forward); reads = λ ruled depth r h. past .reads ruled depth r (items-text k ruled s depth r at e h) }
-
-    pub leaves-gap : k ≡ Template → at + 2 ≤ length s → byte s at ≡ 0x22 → byte s (at + 1) ≤ 7 → PastLeaves k s at₀ (at + 2)
-    leaves-gap is fits e range = record { forward = omega (arith, past .forward); reads = λ ruled depth r h. past .reads ruled depth r (items-gap k ruled s depth r is at fits e range h) }

@@ -8,7 +8,7 @@ use mathlib.Core.Bool.{Bool, true, false, cond, _&&_, _||_, false≢true}
 use native.Mathlib.Omega.{arith}
 use lib.ListN.{length}
 use lib.Dec.{eqb, leb, ltb}
-use borrow.Author.Tests.{leb-true, ltb-true, ltb-false, eqb-true, ne-eqb}
+use borrow.Author.Tests.{leb-true, ltb-true, ltb-false, eqb-true}
 use Rattle.verdicts.specs.declared.Form.{Form}
 use Rattle.verdicts.specs.declared.Form.the-variants.{NotRising, TooMany, Missing}
 use Rattle.commands.specs.declared.Context.{Context}
@@ -28,15 +28,15 @@ use Rattle.pages.specs.ItemReading.{itemContext, attributeContext, nesti
 use Rattle.pages.specs.Promises.{EnoughForItem}
 use Rattle.pages.proofs.Whole.{never-unfinished, attributes-whole, items-whole, item-whole, templates-whole}
 
-and-left : (a b : Bool) → (a && b) ≡ true → a ≡ true
+pub and-left : (a b : Bool) → (a && b) ≡ true → a ≡ true
 and-left true b e = refl
 and-left false b e = e
 
-and-right : (a b : Bool) → (a && b) ≡ true → b ≡ true
+pub and-right : (a b : Bool) → (a && b) ≡ true → b ≡ true
 and-right true b e = e
 and-right false b e = absurd (false≢true e)
 
-or-cases : (a b : Bool) → (a || b) ≡ true → (a ≡ true) ⊎ (b ≡ true)
+pub or-cases : (a b : Bool) → (a || b) ≡ true → (a ≡ true) ⊎ (b ≡ true)
 or-cases true b e = inl refl
 or-cases false b e = inr e
 
@@ -92,12 +92,9 @@ attributes-move (suc f) k s before at δ end h e = elim (attributes-whole f k s 
       omega arith
 ]
 
-some-end : (t : Bool) → _≡_ {A = ℕ} (cond t 0x27 0x26) 0 → ⊥
+pub some-end : (t : Bool) → _≡_ {A = ℕ} (cond t 0x27 0x26) 0 → ⊥
 some-end true e = omega arith
 some-end false e = omega arith
-
-pub element-end : (depth : ℕ) → endOf (depth + 1) ≡ 0x26
-element-end depth = rw (ne-eqb (depth + 1) 0 (λ e. omega (arith, e)))
 
 -- What ends a list of items stands within the bytes.
 pub ended-inside : (s : List ℕ) (depth at : ℕ) → byte s at ≡ endOf depth → at < length s

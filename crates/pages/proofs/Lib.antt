@@ -5,3 +5,8 @@ pub mod Trees
 pub mod Slices
 mod Agreement
 mod TemplateAgreement
+pub mod Steps
+mod Walks
+mod Gathering
+pub mod Marks
+pub mod Shifts

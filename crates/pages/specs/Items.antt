@@ -1,6 +1,7 @@
 -- Templates as trees (source 000, section 2, "XML Templates"). Templates, the values of a run and pages are all lists of items; a
--- page has no gap left. An element keeps its mark, the offset of its `23`: no operation changes it, and it gives verdict 12 its place.
-use Prim.Native.Nat.{ℕ}
+-- page has no gap left. An element keeps its mark, the offset of its `23`: no step of a run and no derivation changes it, and it gives
+-- verdict 12 its place.
+use Prim.Native.Nat.{ℕ, zero, suc}
 use mathlib.Core.List.{List, [], _∷_}
 use mathlib.Core.Bool.{Bool, false, _||_}
 use lib.Dec.{eqb}
@@ -26,6 +27,13 @@ mutual
 
 abbrev pub one : Item → Items
 one i = more i none
+
+-- Template t of a job; template 0 is empty and always there.
+unfoldable pub templateAt : List Items → ℕ → Items
+templateAt [] t = none
+templateAt (φ ∷ φs) zero = none
+templateAt (φ ∷ φs) (suc zero) = φ
+templateAt (φ ∷ φs) (suc (suc t)) = templateAt φs (suc t)
 
 infixr 40 _⋈_
 -- Two lists of items, one after the other: the Φ₁Φ₂ of section 2.

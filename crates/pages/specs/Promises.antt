@@ -33,16 +33,6 @@ EnoughForItem s at f = (length s - at) + (length s - at) < f
 abbrev pub ItemRead : Kind → (ℕ → Bool) → List ℕ → ℕ → ℕ → Part → Type 0
 ItemRead k ruled s depth at r = (f : ℕ) → EnoughForItem s at f → Agrees (item f k ruled s depth at) r
 
--- Nothing but text, `21`, stands from an offset up to another.
-pub record PastText (s : List ℕ) (at next : ℕ) : Type 0 where
-  pub forward : at ≤ next
-  pub texts : (i : ℕ) → at ≤ i → i < next → byte s i ≡ 0x21
-
--- Only items without elements stand from an offset up to another: a list of items that is read from the second on is read from the first on.
-pub record PastLeaves (k : Kind) (s : List ℕ) (at next : ℕ) : Type 0 where
-  pub forward : at ≤ next
-  pub reads : (ruled : ℕ → Bool) (depth : ℕ) (r : Part) → ItemsRead k ruled s depth next r → ItemsRead k ruled s depth at r
-
 -- A template's items stand at an offset.
 abbrev pub StandsAt : (ℕ → Bool) → List ℕ → ℕ → Items → Type 0
 StandsAt ruled s at φ = (f : ℕ) → Enough s at f → (end : ℕ) × (items f Template ruled s 0 at ≡ whole φ end)

@@ -1,9 +1,10 @@
 -- Right pages: the acceptance relation and the language of source 000, section 6, and document 01's "exactly one element, the root".
--- The relation is written as functions into types, in the order of the paper; how it is decided is another matter.
+-- The relation is written as functions into types and as records; how it is decided is another matter.
 use Prim.Native.Nat.{ℕ, _≤_, _<_}
 use mathlib.Core.Path.{_≡_}
 use mathlib.Core.List.{List, [], _∷_, map, List·Memᴰ}
 use mathlib.Core.Option.{some}
+use mathlib.Core.Option as Option
 use mathlib.Core.Logic.{_⊎_}
 use mathlib.Core.Bool.{true, false}
 use lib.ListN.{length, getD}
@@ -77,7 +78,8 @@ pub record Gapless (φ : Items) : Type 0 where
   pub gaps : (g : ℕ) → gapIn φ g ≡ false
   pub attribute-gaps : (h : ℕ) → attributeGapIn φ h ≡ false
 
--- 𝓛(D): the root element alone, accepted, with no gap left.
+-- 𝓛(D): the root element alone, accepted, with no gap left, in the root's own attributes as well, of which section 6's formula says
+-- nothing.
 pub record Right (D : Vocabulary) (φ : Items) : Type 0 where
   pub alone : RootAlone D φ
   pub accepted : Accepts D φ
@@ -94,7 +96,25 @@ unfoldable mutual
   SomeElementOf P (gap g) = ⊥
   SomeElementOf P (element e mark δ φ) = P e mark δ φ ⊎ SomeElement P φ
 
+-- How an element can be wrong, document 01's word for one that fails what section 6 asks of it besides D ⊨ φ: it has no rule; it has this
+-- attribute, or this content, which its rule does not allow; it does not meet the clause at this place of its rule, from 0.
+pub data Way : Type 0 where
+  no-rule : Way
+  in-attribute : ℕ → Way
+  in-content : ℕ → Way
+  in-clause : ℕ → Way
+
+-- The element e(δ)φ is wrong in this way. It is wrong in some way exactly if it is not `ElementRight`.
+pub data ElementWrong (D : Vocabulary) (e : ℕ) (δ : List Attribute) (φ : Items) : Way → Type 0 where
+  unruled : ruleOf (D .rules) e ≡ Option.none → ElementWrong D e δ φ no-rule
+  attribute-not-allowed : {rule : Rule} (a : ℕ) → ruleOf (D .rules) e ≡ some rule → a ∈ names δ → (a ∈ rule .attributes → ⊥)
+      → ElementWrong D e δ φ (in-attribute a)
+  content-not-allowed : {rule : Rule} (c : ℕ) → ruleOf (D .rules) e ≡ some rule → c ∈ word φ → (c ∈ rule .contents → ⊥)
+      → ElementWrong D e δ φ (in-content c)
+  clause-not-met : {rule : Rule} (i : ℕ) → ruleOf (D .rules) e ≡ some rule → i < length (rule .clauses)
+      → (Meets δ φ (getD (rule .clauses) i truth) → ⊥) → ElementWrong D e δ φ (in-clause i)
+
 -- An element with this mark stands in the page and is wrong there.
 unfoldable pub WrongAt : Vocabulary → ℕ → Items → Type 0
 unfolding SomeElement
-WrongAt D mark φ = SomeElement (λ e m δ contents. (m ≡ mark) × (ElementRight D e δ contents → ⊥)) φ
+WrongAt D mark φ = SomeElement (λ e m δ contents. (m ≡ mark) × ((way : Way) × ElementWrong D e δ contents way)) φ

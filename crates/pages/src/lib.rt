@@ -1,17 +1,22 @@
 // Pages and templates: how their items are read (document 01, "A job, command by command", Templates; "Judge a page").
 ghost use mathlib.Core.Path.{_≡_};
-ghost use mathlib.Core.List.{[]};
+ghost use mathlib.Core.List.{List, []};
+ghost use Prim.Native.Nat.{ℕ, _≤_, _<_};
+ghost use lib.ListN.{length, getD};
 ghost use Rattle.sets.specs.Sets.{member};
 ghost use Rattle.commands.specs.Reading.{enough};
 ghost use Rattle.commands.specs.Parts.{Agrees};
 ghost use Rattle.pages.specs.ItemReading.{itemContext, attributeContext, nesting, endOf, items};
-ghost use Rattle.pages.specs.Promises.{AttributesRead, ItemsRead, ItemRead, TemplatesFrom, alonePart, PastText, PastLeaves};
+ghost use Rattle.pages.specs.Steps.{itemHere, ItemMoves, attributeHere, AttributeMoves, AfterAttributes, NamesAt};
+ghost use Rattle.pages.specs.Gaps.{AttributeGaps, ElementGaps, ItemsGaps, ItemsStand, StartsAt, GapsAre};
+ghost use Rattle.pages.specs.Items.{Items, templateAt};
+ghost use Rattle.pages.specs.Promises.{AttributesRead, ItemsRead, ItemRead, TemplatesFrom, alonePart};
 use commands::Context;
 use commands::Decoded;
 use commands::Part;
+use commands::Past;
 use commands::Position;
 use verdicts::Form;
-use vocabularies::part_of;
 
 pub const MOST_BYTES: usize = 65535;
 
@@ -29,6 +34,46 @@ pub struct TemplatesRead {
     pub count: usize,
     pub starts: [usize; 32],
 }
+
+// What stands at a position in a list of items that was read: an item, with the position after its first command, or what ends the
+// list. After the first command of an element stand its attributes.
+pub enum ItemHere {
+    Text(Position),
+    Gap(u8, Position),
+    Element(u8, Position),
+    End(Position),
+}
+
+// What stands at a position in attributes that were read: one with a string (64 is any string outside 0 to 63), or with an attribute
+// gap; or none more.
+pub enum AttributeHere {
+    Fixed {
+        name: u8,
+        string: u8,
+        next: Position,
+    },
+    Open {
+        name: u8,
+        gap: u8,
+        next: Position,
+    },
+    Done,
+}
+
+// The names of attributes as a set, and the position after them.
+pub struct Named {
+    pub names: u64,
+    pub next: Position,
+}
+
+// The gaps found, bit g for gap g and bit 8 + h for attribute gap h, and the position after what was searched.
+pub struct GapsFound {
+    pub gaps: u64,
+    pub next: Position,
+}
+
+// What an attribute of `28` has: a string outside 0 to 63.
+const OUTSIDE: u8 = 64;
 
 fn item_context(kind: Kind) -> Context
     ensures { λ r. ⌜ r ≡ itemContext kind ⌝ }
@@ -65,52 +110,181 @@ fn end_of(depth: usize) -> u8
     if depth == 0 { 0x27 } else { 0x26 }
 }
 
-// Steps over the `21`s that stand one after the other: each of them is an item, text.
-pub fn after_text(s: &[u8], here: Position) -> Position
-    ensures { λ r. ⌜ PastText (now (s .entry)) (here .at) (r .at) ⌝ }
+// One step of a walk over items that were read.
+pub fn item_here(s: &[u8], here: Position) -> ItemHere
+    ensures is { λ r. ⌜ r ≡ itemHere (now (s .entry)) (here .at) ⌝ }
+    ensures moves { λ r. ⌜ ItemMoves (now (s .entry)) (here .at) r ⌝ }
 {
-    let mut at = here.at;
-    while at < s.len() {
-        if s[at] != 0x21 {
-            return Position { at };
-        }
-        at += 1;
+    if s.len() <= here.at {
+        return ItemHere::End(here);
     }
-    Position { at }
+    match here.operand(s, 0) {
+        0x21 => ItemHere::Text(here.on(1)),
+        0x22 => ItemHere::Gap(here.operand(s, 1) % 8, here.on(2)),
+        0x23 => ItemHere::Element(here.operand(s, 1) % 64, here.on(2)),
+        _ => ItemHere::End(here.on(1)),
+    }
 }
 
-// Steps over the texts and the gaps of a template that stand one after the other.
-fn after_gaps(s: &[u8], here: Position) -> Position
-    ensures { λ r. ⌜ PastLeaves Kind.Template (now (s .entry)) (here .at) (r .at) ⌝ }
+// One step of a walk over attributes that were read.
+pub fn attribute_here(s: &[u8], here: Position) -> AttributeHere
+    ensures is { λ r. ⌜ r ≡ attributeHere (now (s .entry)) (here .at) ⌝ }
+    ensures moves { λ r. ⌜ AttributeMoves (now (s .entry)) (here .at) r ⌝ }
 {
-    let mut at = here.at;
-    while at < s.len() {
-        if s[at] == 0x22 {
-            if s.len() - at < 2 {
-                return Position { at };
-            }
-            if 7 < s[at + 1] {
-                return Position { at };
-            }
-            at += 2;
-        } else {
-            if s[at] != 0x21 {
-                return Position { at };
-            }
-            at += 1;
-        }
+    if s.len() <= here.at {
+        return AttributeHere::Done;
     }
-    Position { at }
+    let name = here.operand(s, 1) % 32;
+    match here.operand(s, 0) {
+        0x24 => AttributeHere::Fixed {
+            name,
+            string: here.operand(s, 2) % 64,
+            next: here.on(3),
+        },
+        0x25 => AttributeHere::Open {
+            name,
+            gap: here.operand(s, 2) % 8,
+            next: here.on(3),
+        },
+        0x28 => AttributeHere::Fixed {
+            name,
+            string: OUTSIDE,
+            next: here.on(2),
+        },
+        _ => AttributeHere::Done,
+    }
 }
 
-// Steps over the items without elements that stand one after the other: texts, and in a template gaps.
-fn after_leaves(kind: Kind, s: &[u8], here: Position) -> Position
-    ensures { λ r. ⌜ PastLeaves kind (now (s .entry)) (here .at) (r .at) ⌝ }
+// The position after the attributes here.
+pub fn after_attributes(s: &[u8], here: Position) -> Position
+    ensures forward { λ r. ⌜ here .at ≤ r .at ⌝ }
+    ensures after { λ r. ⌜ AfterAttributes (now (s .entry)) (here .at) r ⌝ }
 {
-    match kind {
-        Kind::Template => after_gaps(s, here),
-        Kind::Page => after_text(s, here),
+    let mut p = here;
+    loop {
+        let attribute = attribute_here(s, p);
+        match attribute {
+            AttributeHere::Fixed {
+                name: _,
+                string: _,
+                next,
+            } => p = next,
+            AttributeHere::Open {
+                name: _,
+                gap: _,
+                next,
+            } => p = next,
+            AttributeHere::Done => return p,
+        }
     }
+}
+
+// The names of the attributes here.
+pub fn names_at(s: &[u8], here: Position) -> Named
+    ensures forward { λ r. ⌜ here .at ≤ r .next .at ⌝ }
+    ensures named { λ r. ⌜ NamesAt (now (s .entry)) (here .at) r ⌝ }
+{
+    let mut names: u64 = 0;
+    let mut p = here;
+    loop {
+        let attribute = attribute_here(s, p);
+        match attribute {
+            AttributeHere::Fixed {
+                name,
+                string: _,
+                next,
+            } => {
+                names = sets::with(names, name);
+                p = next;
+            }
+            AttributeHere::Open { name, gap: _, next } => {
+                names = sets::with(names, name);
+                p = next;
+            }
+            AttributeHere::Done => return Named { names, next: p },
+        }
+    }
+}
+
+// The gaps of the attributes here, added to others.
+fn attribute_gaps(s: &[u8], here: Position, gaps: u64) -> GapsFound
+    ensures forward { λ r. ⌜ here .at ≤ r .next .at ⌝ }
+    ensures found { λ r. ⌜ AttributeGaps (now (s .entry)) (here .at) gaps r ⌝ }
+{
+    let mut all = gaps;
+    let mut p = here;
+    loop {
+        let attribute = attribute_here(s, p);
+        match attribute {
+            AttributeHere::Fixed {
+                name: _,
+                string: _,
+                next,
+            } => p = next,
+            AttributeHere::Open { name: _, gap, next } => {
+                all = sets::with(all, 8 + gap);
+                p = next;
+            }
+            AttributeHere::Done => return GapsFound { gaps: all, next: p },
+        }
+    }
+}
+
+// The same of an element, whose attributes stand here.
+fn element_gaps(s: &[u8], here: Position, gaps: u64) -> GapsFound
+    ensures forward { λ r. ⌜ here .at ≤ r .next .at ⌝ }
+    ensures found { λ r. ⌜ ElementGaps (now (s .entry)) (here .at) gaps r ⌝ }
+{
+    let named = attribute_gaps(s, here, gaps);
+    items_gaps(s, named.next, named.gaps)
+}
+
+// The same of a list of items.
+fn items_gaps(s: &[u8], here: Position, gaps: u64) -> GapsFound
+    ensures forward { λ r. ⌜ here .at ≤ r .next .at ⌝ }
+    ensures found { λ r. ⌜ ItemsGaps (now (s .entry)) (here .at) gaps r ⌝ }
+{
+    let mut all = gaps;
+    let mut p = here;
+    loop {
+        let item = item_here(s, p);
+        match item {
+            ItemHere::Text(next) => p = next,
+            ItemHere::Gap(g, next) => {
+                all = sets::with(all, g);
+                p = next;
+            }
+            ItemHere::Element(_, next) => {
+                let inside = element_gaps(s, next, all);
+                all = inside.gaps;
+                p = inside.next;
+            }
+            ItemHere::End(next) => return GapsFound { gaps: all, next },
+        }
+    }
+}
+
+// The gaps of the template whose items stand here.
+pub fn gaps_at(s: &[u8], here: Position) -> u64
+    ensures { λ r. ⌜ ((φ : Items) → ItemsStand (now (s .entry)) (here .at) φ → GapsAre r φ) ⌝ }
+{
+    items_gaps(s, here, 0).gaps
+}
+
+// The gaps of every template. Template 0 has none.
+pub fn gaps_of(s: &[u8], starts: &[usize; 32], count: usize) -> [u64; 32]
+    ensures { λ r. ⌜ ((φs : List Items) → StartsAt (now (s .entry)) φs (now (starts .entry)) → count ≡ length φs → (t : ℕ) → t ≤ count → t < 32 → GapsAre (getD r t 0) (templateAt φs t)) ⌝ }
+{
+    let mut table = [0u64; 32];
+    let mut t = 1;
+    while t < 32 {
+        if count < t {
+            return table;
+        }
+        table[t] = gaps_at(s, Position::new(starts[t]));
+        t += 1;
+    }
+    table
 }
 
 // A list of items below `depth` open elements, up to and with what ends it; `declared` is the set of elements that have a rule.
@@ -118,29 +292,32 @@ pub fn read_items(kind: Kind, declared: u64, s: &[u8], here: Position, depth: us
     ensures { λ r. ⌜ ItemsRead kind (member declared) (now (s .entry)) depth (here .at) r ⌝ }
 {
     let end = end_of(depth);
-    let mut p = after_leaves(kind, s, here);
-    while commands::byte_at(s, p.at) != end {
+    let mut p = here;
+    loop {
+        let past = p.past(s, end);
+        if let Past::Over(next) = past {
+            return Part::Whole(next);
+        }
         let part = read_item(kind, declared, s, p, depth);
         let Part::Whole(next) = part else {
             return part;
         };
-        p = after_leaves(kind, s, next);
+        p = next;
     }
-    Part::Whole(Position { at: p.at + 1 })
 }
 
-// Text, a gap, or an element with its attributes and contents. An element without elements inside ends where these leaves do.
+// Text, a gap, or an element with its attributes and contents.
 fn read_item(kind: Kind, declared: u64, s: &[u8], here: Position, depth: usize) -> Part
     ensures { λ r. ⌜ ItemRead kind (member declared) (now (s .entry)) depth (here .at) r ⌝ }
 {
     let d = here.item_command(s, item_context(kind));
     let Decoded::Moved(code, next) = d else {
-        return part_of(d);
+        return d.part();
     };
     if code != 0x23 {
         return Part::Whole(next);
     }
-    if !sets::has(declared, commands::byte_at(s, here.at + 1)) {
+    if !sets::has(declared, here.operand(s, 1)) {
         return Part::Refused(Form::Missing, here.at);
     }
     if most_nested(kind) <= depth {
@@ -150,11 +327,7 @@ fn read_item(kind: Kind, declared: u64, s: &[u8], here: Position, depth: usize) 
     let Part::Whole(inside) = attributes else {
         return attributes;
     };
-    let first = after_leaves(kind, s, inside);
-    if commands::byte_at(s, first.at) == 0x26 {
-        return Part::Whole(Position { at: first.at + 1 });
-    }
-    read_items(kind, declared, s, first, depth + 1)
+    read_items(kind, declared, s, inside, depth + 1)
 }
 
 // The attributes straight after `23 e`: none is named twice.
@@ -167,9 +340,9 @@ fn read_attributes(kind: Kind, s: &[u8], here: Position) -> Part
     while commands::is_allowed(context, commands::byte_at(s, p.at)) {
         let d = p.attribute_command(s, context);
         let Decoded::Moved(_, next) = d else {
-            return part_of(d);
+            return d.part();
         };
-        let name = commands::byte_at(s, p.at + 1);
+        let name = p.operand(s, 1);
         if sets::has(seen, name) {
             return Part::Refused(Form::NotRising, p.at);
         }
@@ -183,7 +356,7 @@ fn read_attributes(kind: Kind, s: &[u8], here: Position) -> Part
 pub fn read_page(declared: u64, s: &[u8]) -> Part
     ensures { λ r. ⌜ Agrees (items (enough (now (s .entry))) Kind.Page (member declared) (now (s .entry)) 0 0) r ⌝ }
 {
-    read_items(Kind::Page, declared, s, Position { at: 0 }, 0)
+    read_items(Kind::Page, declared, s, Position::new(0), 0)
 }
 
 // A part of bytes that are a slice of their own: they are not too long, and nothing stands after the part.
@@ -224,7 +397,7 @@ pub fn read_templates(declared: u64, s: &[u8], here: Position) -> TemplatesRead
     loop {
         let d = p.command(s, Context::Templates);
         let Decoded::Moved(code, next) = d else {
-            return TemplatesRead::new(part_of(d), count, starts);
+            return TemplatesRead::new(d.part(), count, starts);
         };
         if code == 0x2F {
             return TemplatesRead::new(Part::Whole(next), count, starts);

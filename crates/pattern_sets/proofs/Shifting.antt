@@ -95,36 +95,3 @@ module _ (set : List ℕ) where
       go zero l = refl
       go (suc zero) l = refl
       go (suc (suc j)) l = absurd (omega arith)
-
--- ---- what one word has and another lacks
-
-bit : (n : ℕ) → n % 2 < 2
-bit n = mod-lt n (lit< tt)
-
-bit-without : (x y : ℕ) → x < 2 → y < 2 → eqb (differ x (min x y)) 1 ≡ (eqb x 1 && not (eqb y 1))
-bit-without zero zero p q = refl
-bit-without zero (suc zero) p q = refl
-bit-without (suc zero) zero p q = refl
-bit-without (suc zero) (suc zero) p q = refl
-bit-without (suc (suc x)) y p q = absurd (omega arith)
-bit-without zero (suc (suc y)) p q = absurd (omega arith)
-bit-without (suc zero) (suc (suc y)) p q = absurd (omega arith)
-
-small : (x y : ℕ) → x < 2 → y < 2 → differ x (min x y) < 2
-small zero zero p q = omega arith
-small zero (suc zero) p q = omega arith
-small (suc zero) zero p q = omega arith
-small (suc zero) (suc zero) p q = omega arith
-small (suc (suc x)) y p q = absurd (omega arith)
-small zero (suc (suc y)) p q = absurd (omega arith)
-small (suc zero) (suc (suc y)) p q = absurd (omega arith)
-
-pub member-without : (a b k : ℕ) → member (bitXor a (bitAnd a b)) k ≡ (member a k && not (member b k))
-unfolding member
-member-without a b k =
-    let x : ℕ = a / 2 ^ k in
-    let y : ℕ = b / 2 ^ k in
-    let f : bitAnd x y % 2 ≡ min (x % 2) (y % 2) = rw (and-step x y) (digits-mod (bitAnd (x / 2) (y / 2)) (omega (arith, bit x))) in
-    let g : bitXor x (bitAnd x y) % 2 ≡ differ (x % 2) (min (x % 2) (y % 2)) =
-    rw (xor-step x (bitAnd x y), f) (digits-mod (bitXor (x / 2) (bitAnd x y / 2)) (small (x % 2) (y % 2) (bit x) (bit y))) in
-    rw (xor-shr a (bitAnd a b) k, and-shr a b k, g) (bit-without (x % 2) (y % 2) (bit x) (bit y))

@@ -16,13 +16,6 @@ pub record First (set : List ℕ) (from first : ℕ) : Type 0 where
   pub is-held : first < 256 → holds set first ≡ true
   pub skips : (x : ℕ) → from ≤ x → x < first → holds set x ≡ false
 
--- The same of the numbers 0 to 63 of a word, or 64.
-pub record FirstMember (word from first : ℕ) : Type 0 where
-  pub after : from ≤ first
-  pub within : first ≤ 64
-  pub is-held : first < 64 → member word first ≡ true
-  pub skips : (x : ℕ) → from ≤ x → x < first → member word x ≡ false
-
 -- By the answer: the set has no pattern; or it has one.
 abbrev pub IsEmpty : List ℕ → Bool → Type 0
 IsEmpty set true = (x : ℕ) → holds set x ≡ false

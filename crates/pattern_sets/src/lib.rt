@@ -3,8 +3,7 @@ ghost use mathlib.Core.Path.{_≡_};
 ghost use mathlib.Core.Bool.{not, _&&_, _||_, true, false};
 ghost use Prim.Native.Nat.{ℕ, _<_, _≤_};
 ghost use lib.Dec.{eqb};
-ghost use Rattle.sets.specs.Sets.{member};
-ghost use Rattle.pattern_sets.specs.PatternSets.{holds, First, FirstMember, IsEmpty, SameMembers, Same};
+ghost use Rattle.pattern_sets.specs.PatternSets.{holds, First, IsEmpty, SameMembers, Same};
 ghost use Rattle.pattern_sets.specs.Images.{AllFlagged, ShiftedMembers, Shifted, Image, raisedAt, crossedAt, raisedBy, crossedBy, joinedBy, Apart, Joined};
 
 pub fn empty() -> [u64; 4]
@@ -53,38 +52,25 @@ pub fn union(a: [u64; 4], b: [u64; 4]) -> [u64; 4]
     ]
 }
 
-pub fn common(a: u64, b: u64) -> u64
-    ensures { λ r. ⌜ ((k : ℕ) → member r k ≡ (member a k && member b k)) ⌝ }
-{
-    a & b
-}
-
 pub fn intersection(a: [u64; 4], b: [u64; 4]) -> [u64; 4]
     ensures { λ r. ⌜ ((y : ℕ) → holds r y ≡ (holds a y && holds b y)) ⌝ }
 {
     [
-        common(a[0], b[0]),
-        common(a[1], b[1]),
-        common(a[2], b[2]),
-        common(a[3], b[3]),
+        sets::common(a[0], b[0]),
+        sets::common(a[1], b[1]),
+        sets::common(a[2], b[2]),
+        sets::common(a[3], b[3]),
     ]
-}
-
-// The members of `a` that `b` lacks.
-pub fn without(a: u64, b: u64) -> u64
-    ensures { λ r. ⌜ ((k : ℕ) → member r k ≡ (member a k && not (member b k))) ⌝ }
-{
-    a ^ (a & b)
 }
 
 pub fn difference(a: [u64; 4], b: [u64; 4]) -> [u64; 4]
     ensures { λ r. ⌜ ((y : ℕ) → holds r y ≡ (holds a y && not (holds b y))) ⌝ }
 {
     [
-        without(a[0], b[0]),
-        without(a[1], b[1]),
-        without(a[2], b[2]),
-        without(a[3], b[3]),
+        sets::without(a[0], b[0]),
+        sets::without(a[1], b[1]),
+        sets::without(a[2], b[2]),
+        sets::without(a[3], b[3]),
     ]
 }
 
@@ -206,18 +192,6 @@ pub fn joined_sets(a: [u64; 4], b: [u64; 4], firsts: [u8; 8], seconds: [u8; 8]) 
     set
 }
 
-// The first member of a word at a place or after it, or 64 where there is none.
-pub fn first_member(word: u64, from: u32) -> u32
-    requires { ⌜ from < 64 ⌝ }
-    ensures { λ r. ⌜ FirstMember word from r ⌝ }
-{
-    let rest = word >> from;
-    if rest == 0 {
-        return 64;
-    }
-    from + u64::trailing_zeros(rest)
-}
-
 // The first member of a set at a place or after it, or 256 where there is none.
 pub fn next(set: [u64; 4], from: usize) -> usize
     requires { ⌜ from ≤ 256 ⌝ }
@@ -226,7 +200,7 @@ pub fn next(set: [u64; 4], from: usize) -> usize
     let mut at = from;
     while at < 256 {
         let start = at / 64 * 64;
-        let first = first_member(set[at / 64], (at % 64) as u32);
+        let first = sets::first_member(set[at / 64], (at % 64) as u32);
         if first < 64 {
             return start + first as usize;
         }

@@ -11,11 +11,12 @@ use mathlib.Core.Logic.{_↔_, inl, inr}
 use lib.ListN.{length}
 use Rattle.vocabularies.specs.Vocabulary.{Vocabulary}
 use Rattle.pages.specs.Items.{Attribute, Item, Items}
-use Rattle.pages.specs.RightPages.{ElementRight, Accepts, RootAlone, Right, SomeElement, SomeElementOf, WrongAt}
+use Rattle.pages.specs.RightPages.{ElementRight, Way, ElementWrong, Accepts, RootAlone, Right, SomeElement, SomeElementOf, WrongAt}
 use Rattle.programs.specs.Program.{templateAt}
 use Rattle.summaries.specs.Summaries.{Summary}
 use Rattle.summaries.specs.Languages.{AttributesDerive, Derives, ItemDerives, Language, DerivedFrom, nothing, item-then, text-stays, gap-takes, element-keeps}
 use Rattle.agreement.proofs.Deciding.{Decided, holds, fails}
+use Rattle.agreement.proofs.Elements.{wrong-iff}
 use Rattle.agreement.proofs.Roots.{decided-alone}
 use Rattle.agreement.proofs.Gaps.{NoGap}
 use Rattle.agreement.proofs.Pages.{Found, no-wrong, wrong, found, accepts-right}
@@ -30,9 +31,9 @@ use Rattle.patterns.proofs.Reaching.{reached-there}
 use Rattle.patterns.proofs.WrongElements.{wrong-exact}
 use Rattle.patterns.proofs.Lowest.{least-iff, none-of, least-none, least-test, least-over, least-mark}
 
--- An element of this mark that is not right.
+-- An element of this mark that is wrong.
 abbrev pub Wrong : Vocabulary → ℕ → Saying
-Wrong D at e mark δ φ = (mark ≡ at) × (ElementRight D e δ φ → ⊥)
+Wrong D at e mark δ φ = (mark ≡ at) × ((way : Way) × ElementWrong D e δ φ way)
 
 module _ (φs : List Items) (G : Summary) where
   -- An element of template n whose gaps can be filled, and whose contents have names in range.
@@ -95,10 +96,10 @@ module _ (φs : List Items) (G : Summary) (bounded : Bounded φs G) (named : Nam
   tested-made : (at n e mark : ℕ) (δ : List Attribute) (φ : Items) → Fillable φs G n δ φ → Tested at n e mark δ φ → Made φs G (Wrong D at) n e mark δ φ
   tested-made at n e mark δ φ f (q, t) =
       let (δ′, φ′, a, d, p) = element-decided n e δ φ f .0 t in
-      (δ′, φ′, a, d, (q, p))
+      (δ′, φ′, a, d, (q, wrong-iff D e δ′ φ′ .1 p))
 
   made-tested : (at n e mark : ℕ) (δ : List Attribute) (φ : Items) → Fillable φs G n δ φ → Made φs G (Wrong D at) n e mark δ φ → Tested at n e mark δ φ
-  made-tested at n e mark δ φ f (δ′, φ′, a, d, (q, p)) = (q, element-decided n e δ φ f .1 (δ′, φ′, a, d, p))
+  made-tested at n e mark δ φ f (δ′, φ′, a, d, (q, p)) = (q, element-decided n e δ φ f .1 (δ′, φ′, a, d, wrong-iff D e δ′ φ′ .0 p))
 
   -- The lowest element of a template that is wrong in some page.
   pub lowest-wrong-in : (n : ℕ) → n ≤ length φs

@@ -25,3 +25,4 @@ pub mod ReadJobs
 pub mod JobShows
 pub mod Bits
 pub mod Products
+pub mod LowestOf

@@ -16,11 +16,12 @@ use Rattle.commands.specs.Commands.{byte, strings, allowed, operandsOf, inRange
 use Rattle.commands.specs.Commands as Commands
 use Rattle.pages.specs.Items.{Items}
 use Rattle.pages.specs.RightPages.{_∈_}
-use Rattle.programs.specs.Program.{Variable, templates, Statement, statementAt}
+use Rattle.programs.specs.Program.{Act, copyTemplate, setTemplate, copyString, setString, plug, plugString, show, Variable, templates, Statement, step, stop, statementAt}
+use Rattle.programs.specs.Program as Program
 use Rattle.summaries.specs.Proposal.{root, edge, string, gapFrom, attributeGapFrom, Fact, claim, anyAt, oneString, anyString, Head}
 use Rattle.summaries.specs.ProposalReading.{factAt, factThere, rank, facts, variableOf, factContext, proposal}
-use Rattle.summaries.specs.Summaries.{Summary, sameNumbers, saysClaim, held, sameVariable, under, entries}
-use Rattle.summaries.specs.Languages.{closedSummary, statementShows, graphOf, graphShown}
+use Rattle.summaries.specs.Summaries.{Summary, Environment, sameNumbers, saysClaim, held, sameVariable, under, entries}
+use Rattle.summaries.specs.Languages.{closedSummary, summaryShown, closedIfShown, statementGraph, graphShown}
 use Rattle.agreement.proofs.Readings.{Gives, gives, refuses, runs-out, gives-when, gives-then}
 use Rattle.patterns.specs.Given.{Bounded}
 use Rattle.patterns.proofs.Tests.{or-cases, and-left, and-right}
@@ -171,6 +172,9 @@ module _ (count : ℕ) where
   strings-alike (oneString t) n h s k l = refl
   strings-alike anyString n h s k l = refl
 
+none-is-some : {A : Type 0} {a : A} → none ≡ some a → ⊥
+none-is-some q = let z : _≡_ {A = ℕ} 0 1 = cc in omega arith
+
 -- The closed graph of items in range is bounded.
 closed-bounded : (φs : List Items) (fs : List Fact) → FactsInRange (length φs) fs → Bounded φs (closedSummary (held saysClaim fs))
 closed-bounded φs fs h = record { roots = roots; edges = edges; others-alike = alike }
@@ -196,13 +200,26 @@ closed-bounded φs fs h = record { roots = roots; edges = edges; others-alike = 
 
 -- The graph that a point shows.
 pub shown-bounded : (φs : List Items) (program : List Statement) (hs : List Head) → HeadsInRange (length φs) hs
-    → (p : ℕ) (G : Summary) → graphShown program hs p ≡ some G → Bounded φs G
+    → (p : ℕ) (G : Summary) → graphShown φs program (entries hs) p ≡ some G → Bounded φs G
 unfolding graphShown entries
-shown-bounded φs program hs h p G e = go (statementShows (statementAt program p)) e
+shown-bounded φs program hs h p G e = of-statement (statementAt program p) e
   where
-    go : (o : Option ℕ) → graphOf hs p o ≡ some G → Bounded φs G
-    go none q = let z : _≡_ {A = ℕ} 0 1 = cc in absurd (omega arith)
-    go (some x) q =
-        let shown : Summary = closedSummary (entries hs p .template x) in
-        let same : shown ≡ G = cc in
-        subst (Bounded φs) same (closed-bounded φs (under hs p (templates x)) (under-in-range (length φs) hs p (templates x) h))
+    E : Environment
+    E = entries hs p
+
+    of-entry : (x : ℕ) → Bounded φs (closedSummary (E .template x))
+    of-entry x = closed-bounded φs (under hs p (templates x)) (under-in-range (length φs) hs p (templates x) h)
+
+    of-act : (a : Act) → closedIfShown (summaryShown φs a E) ≡ some G → Bounded φs G
+    of-act (copyTemplate x x′) q = absurd (none-is-some q)
+    of-act (setTemplate x t) q = absurd (none-is-some q)
+    of-act (copyString y y′) q = absurd (none-is-some q)
+    of-act (setString y t) q = absurd (none-is-some q)
+    of-act (Program.anyString y) q = absurd (none-is-some q)
+    of-act (plug x x′ g x″) q = absurd (none-is-some q)
+    of-act (plugString x x′ k y) q = absurd (none-is-some q)
+    of-act (show x) q = let shown : Summary = closedSummary (E .template x) in let same : shown ≡ G = cc in subst (Bounded φs) same (of-entry x)
+
+    of-statement : (t : Statement) → statementGraph φs t E ≡ some G → Bounded φs G
+    of-statement stop q = absurd (none-is-some q)
+    of-statement (step a n m) q = of-act a q

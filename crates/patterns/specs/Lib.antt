@@ -6,3 +6,4 @@ pub mod Reached
 pub mod Exactness
 pub mod Elements
 pub mod Shows
+pub mod LowestWrong

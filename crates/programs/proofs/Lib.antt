@@ -1,6 +1,7 @@
 pub mod Agreement
 pub mod Ranges
 mod Statements
+pub mod Decoding
 mod Here
 mod Naming
 mod Reading

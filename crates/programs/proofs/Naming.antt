@@ -1,18 +1,16 @@
 -- The variables that a statement names, as a set.
 use Prim.Native.Nat.{ℕ, _+_, _<_}
 use mathlib.Core.Path.{_≡_, refl, sym, ap, _∙_}
-use mathlib.Core.List.{List}
 use mathlib.Core.Bool.{Bool, true, false, _||_, or-false, or-assoc}
 use native.Mathlib.Omega.{arith}
 use lib.Dec.{eqb}
 use borrow.Author.Tests.{eq-eqb, ne-eqb, eqb-true, eqb-false}
 use Rattle.sets.specs.Sets.{member}
 use Rattle.sets.proofs.Laws.{member-zero}
-use Rattle.commands.specs.Commands.{byte}
-use Rattle.programs.specs.Program.{Variable, templates, strings, stop, statementNames}
-use Rattle.programs.specs.ProgramReading.{statementRead}
-use Rattle.programs.proofs.Statements.{NoneOfThese, no-step}
-use Rattle.programs.specs.Promises.{numberOf, IsVariable, isTemplate, isString, Adds, Names}
+use Rattle.programs.specs.declared.Act.{Act}
+use Rattle.programs.specs.declared.Statement.{Statement}
+use Rattle.programs.specs.Program.{copyTemplate, setTemplate, copyString, setString, anyString, plug, plugString, show, stop, Variable, templates, strings, actNames, statementNames}
+use Rattle.programs.specs.Promises.{asAct, asStatement, ActFits, StatementFits, numberOf, IsVariable, isTemplate, isString, Adds, Names}
 
 same-shifted : (k y : ℕ) → eqb (4 + k) (4 + y) ≡ eqb k y
 same-shifted k y = decided (eqb k y) refl
@@ -46,50 +44,49 @@ module _ (names p : Variable → Bool) (r : ℕ) where
   pub names-3 : (q u : Variable → Bool) (r′ r″ : ℕ) → Adds p r′ r → Adds q r″ r′ → Adds u 0 r″ → ((v : Variable) → (p v || q v || u v) ≡ names v) → Names names r
   names-3 q u r′ r″ A B C e = record { holds = λ v t. (A .holds v t ∙ rw (B .holds v t, C .holds v t) (simp (member-zero, or-false, or-assoc))) ∙ e v }
 
--- The operands that may be variables, as they were read.
-pub record Operands (s : List ℕ) (at a b d : ℕ) : Type 0 where
-  pub first : a ≡ byte s (at + 1)
-  pub second : b ≡ byte s (at + 2)
-  pub fourth : d ≡ byte s (at + 4)
+-- The ranges of an act that is known.
+pub fits-as : (act b : Act) → act ≡ b → ActFits (asAct act) → ActFits (asAct b)
+fits-as act b e f = rw e at f
 
--- What each command names.
-module _ {s : List ℕ} {at a b d : ℕ} (o : Operands s at a b d) (code : ℕ) where
-  pub names-30 : code ≡ 0x30 → (v : Variable) → (isTemplate a v || isTemplate b v) ≡ statementNames (statementRead s at code) v
-  names-30 e (templates k) = rw (o .first, o .second, e)
-  names-30 e (strings k) = rw e
+pub statement-fits-as : (t u : Statement) → t ≡ u → StatementFits (asStatement t) → StatementFits (asStatement u)
+statement-fits-as t u e f = rw e at f
 
-  pub names-31 : code ≡ 0x31 → (v : Variable) → isTemplate a v ≡ statementNames (statementRead s at code) v
-  names-31 e (templates k) = rw (o .first, e)
-  names-31 e (strings k) = rw e
+-- What each act names.
+pub copy-names : (x y : ℕ) (v : Variable) → (isTemplate x v || isTemplate y v) ≡ actNames (copyTemplate x y) v
+copy-names x y (templates k) = refl
+copy-names x y (strings k) = refl
 
-  pub names-32 : code ≡ 0x32 → (v : Variable) → (isString a v || isString b v) ≡ statementNames (statementRead s at code) v
-  names-32 e (templates k) = rw e
-  names-32 e (strings k) = rw (o .first, o .second, e)
+pub set-names : (x y : ℕ) (v : Variable) → isTemplate x v ≡ actNames (setTemplate x y) v
+set-names x y (templates k) = refl
+set-names x y (strings k) = refl
 
-  pub names-33 : code ≡ 0x33 → (v : Variable) → isString a v ≡ statementNames (statementRead s at code) v
-  names-33 e (templates k) = rw e
-  names-33 e (strings k) = rw (o .first, e)
+pub copy-string-names : (x y : ℕ) (v : Variable) → (isString x v || isString y v) ≡ actNames (copyString x y) v
+copy-string-names x y (templates k) = refl
+copy-string-names x y (strings k) = refl
 
-  pub names-34 : code ≡ 0x34 → (v : Variable) → isString a v ≡ statementNames (statementRead s at code) v
-  names-34 e (templates k) = rw e
-  names-34 e (strings k) = rw (o .first, e)
+pub set-string-names : (x y : ℕ) (v : Variable) → isString x v ≡ actNames (setString x y) v
+set-string-names x y (templates k) = refl
+set-string-names x y (strings k) = refl
 
-  pub names-35 : code ≡ 0x35 → (v : Variable) → (isTemplate a v || isTemplate b v || isTemplate d v) ≡ statementNames (statementRead s at code) v
-  names-35 e (templates k) = rw (o .first, o .second, o .fourth, e)
-  names-35 e (strings k) = rw e
+pub any-string-names : (x : ℕ) (v : Variable) → isString x v ≡ actNames (anyString x) v
+any-string-names x (templates k) = refl
+any-string-names x (strings k) = refl
 
-  pub names-36 : code ≡ 0x36 → (v : Variable) → (isTemplate a v || isTemplate b v || isString d v) ≡ statementNames (statementRead s at code) v
-  names-36 e (templates k) = rw (o .first, o .second, e, or-false)
-  names-36 e (strings k) = rw (o .fourth, e)
+pub plug-names : (x y g z : ℕ) (v : Variable) → (isTemplate x v || isTemplate y v || isTemplate z v) ≡ actNames (plug x y g z) v
+plug-names x y g z (templates k) = refl
+plug-names x y g z (strings k) = refl
 
-  pub names-37 : code ≡ 0x37 → (v : Variable) → isTemplate a v ≡ statementNames (statementRead s at code) v
-  names-37 e (templates k) = rw (o .first, e)
-  names-37 e (strings k) = rw e
+pub plug-string-names : (x y g z : ℕ) (v : Variable) → (isTemplate x v || isTemplate y v || isString z v) ≡ actNames (plugString x y g z) v
+plug-string-names x y g z (templates k) = rw or-false
+plug-string-names x y g z (strings k) = refl
 
--- Every other command is `38`, or none of a program.
-pub names-none : (s : List ℕ) (at code : ℕ) → NoneOfThese code → Names (statementNames (statementRead s at code)) 0
-names-none s at code n = record { holds = none (no-step code (λ i. byte s (at + i)) n) }
+pub show-names : (x : ℕ) (v : Variable) → isTemplate x v ≡ actNames (show x) v
+show-names x (templates k) = refl
+show-names x (strings k) = refl
+
+pub no-names : Names (statementNames stop) 0
+no-names = record { holds = none }
   where
-    none : statementRead s at code ≡ stop → (v : Variable) → IsVariable v → member 0 (numberOf v) ≡ statementNames (statementRead s at code) v
-    none e (templates k) h = rw e (member-zero k)
-    none e (strings k) h = rw e (member-zero (4 + k))
+    none : (v : Variable) → IsVariable v → member 0 (numberOf v) ≡ statementNames stop v
+    none (templates k) h = member-zero k
+    none (strings k) h = member-zero (4 + k)

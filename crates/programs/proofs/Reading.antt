@@ -15,16 +15,18 @@ use Rattle.commands.specs.declared.Position.{Position}
 use Rattle.commands.specs.declared.Decoded.{Decoded}
 use Rattle.commands.specs.declared.Decoded.the-variants.{Moved, Refused}
 use Rattle.commands.specs.declared.Part.the-variants as Parts
-use Rattle.commands.specs.Commands.{operandsOf, allInRange, command}
+use Rattle.commands.specs.Commands.{command}
 use Rattle.commands.specs.Reading.{Read, whole, refused, andThen, onDecoded, when}
 use Rattle.commands.proofs.Laws.{MovedOver, moved}
 use Rattle.vocabularies.specs.Promises.{partOf}
 use Rattle.programs.specs.declared.ProgramRead.{ProgramRead}
+use Rattle.programs.specs.declared.Statement as Declared
 use Rattle.programs.specs.Program.{statementNames, named}
 use Rattle.programs.specs.ProgramReading.{Placed, statementRead, templatesThere, mostPoints, statementContext, statements}
 use Rattle.programs.proofs.Agreement.{agrees-map, enough-after, Stay}
 use Rattle.programs.proofs.Statements.{next-place}
-use Rattle.programs.specs.Promises.{testedHere, statementHere, numberOf, Names, placedAt, placed, Stands, Kept, StatementsRead}
+use Rattle.programs.proofs.Decoding.{statement-fits}
+use Rattle.programs.specs.Promises.{asStatement, statementHere, StatementFits, testedHere, testedStatement, numberOf, Names, placedAt, placed, Stands, Kept, StatementsRead}
 
 never-ends : {A : Type 0} (f : Form) (n code : ℕ) (next : Position) → Refused f n ≡ Moved code next → A
 never-ends f n code next e = absurd (let z : _≡_ {A = ℕ} 0 1 = cc in omega arith)
@@ -57,7 +59,7 @@ module _ (count : ℕ) (s : List ℕ) (before at : ℕ) where
   by-tests f code next false true false e₁ e₂ e₃ = refl
   by-tests f code next false false b₃ e₁ e₂ e₃ = refl
 
-  reads-here : (f : ℕ) → statements (suc f) count s before at ≡ onHere f (statementHere count s before at)
+  reads-here : (f : ℕ) → statements (suc f) count s before at ≡ onHere f (testedStatement count s before at)
   unfolding statements
   reads-here f = by-decoded (command (statementContext before) s at)
     where
@@ -83,7 +85,7 @@ module _ (count : ℕ) (s : List ℕ) (before at : ℕ) where
   stands-by-tests code code′ next next′ false true false e₁ e₂ e₃ e on r = never-ends _ _ _ _ e
   stands-by-tests code code′ next next′ false false b₃ e₁ e₂ e₃ e on r = never-ends _ _ _ _ e
 
-  pub may-stand : (d : Decoded) (code : ℕ) (next : Position) → d ≡ statementHere count s before at → d ≡ Moved code next → (code ≡ 0x3F → ⊥) → MayStand count s before at code next
+  pub may-stand : (d : Decoded) (code : ℕ) (next : Position) → d ≡ testedStatement count s before at → d ≡ Moved code next → (code ≡ 0x3F → ⊥) → MayStand count s before at code next
   may-stand d code next d-is e on = by-decoded (command (statementContext before) s at) refl (sym d-is ∙ e)
     where
       by-decoded : (d : Decoded) → command (statementContext before) s at ≡ d → testedHere count s before at d ≡ Moved code next → MayStand count s before at code next
@@ -92,13 +94,13 @@ module _ (count : ℕ) (s : List ℕ) (before at : ℕ) where
       by-decoded (Refused form n) r q = never-ends form n code next q
 
   -- A refusal here is the answer.
-  pub refused-here : (now : ℕ) (d : Decoded) (form : Form) (n : ℕ) (r : ProgramRead) → d ≡ statementHere count s before at → d ≡ Refused form n
+  pub refused-here : (now : ℕ) (d : Decoded) (form : Form) (n : ℕ) (r : ProgramRead) → d ≡ testedStatement count s before at → d ≡ Refused form n
       → r .part ≡ partOf d → StatementsRead s count before now at r
   refused-here now d form n r d-is e p zero h = absurd (omega arith)
   refused-here now d form n r d-is e p (suc f) h = rw (reads-here f, ← d-is, p, e) (refl, refl)
 
   -- `3F` ends the statements.
-  pub ends-here : (now : ℕ) (d : Decoded) (code : ℕ) (next : Position) (places : List ℕ) → d ≡ statementHere count s before at → d ≡ Moved code next → code ≡ 0x3F
+  pub ends-here : (now : ℕ) (d : Decoded) (code : ℕ) (next : Position) (places : List ℕ) → d ≡ testedStatement count s before at → d ≡ Moved code next → code ≡ 0x3F
       → length places ≡ mostPoints → before ≤ mostPoints
       → StatementsRead s count before now at (record { part = Parts.Whole next; count = before; places = places; named = now })
   unfolding named
@@ -127,11 +129,11 @@ module _ (count : ℕ) (s : List ℕ) (before at code : ℕ) (next : Position) (
     template-there = rw (over .first) at (m .template-there);
   }
 
-  pub in-range : allInRange (operandsOf code) s (at + 1) ≡ true
-  in-range = rw (over .first) (over .ranges)
+  pub in-range : (t : Declared.Statement) → asStatement t ≡ statementHere s at → StatementFits (asStatement t)
+  in-range t e = rw e (statement-fits s at (over .ranges))
 
-  module _ (now new now′ : ℕ) (places : List ℕ) (r : ProgramRead)
-      (names-here : Names (statementNames (statementRead s at code)) new) (joined : (k : ℕ) → member now′ k ≡ (member now k || member new k))
+  module _ (now new now′ : ℕ) (places : List ℕ) (r : ProgramRead) (t : Declared.Statement) (t-is : asStatement t ≡ statementHere s at)
+      (names-here : Names (statementNames (asStatement t)) new) (joined : (k : ℕ) → member now′ k ≡ (member now k || member new k))
       (w : length places ≡ mostPoints) (stay : Stay (before + 1) (set places before at) (r .places)) where
     is-here : getD (r .places) before 0 ≡ at
     is-here = stay .same before (omega arith) ∙ getD-set-same places before at 0 (let l = m .few in omega arith)
@@ -159,16 +161,16 @@ module _ (count : ℕ) (s : List ℕ) (before at code : ℕ) (next : Position) (
           (ap (λ (l : List Placed). made code ∷ l) (K .are) ∙ ap (λ (p : Placed). p ∷ placed s (slice (before + 1) (r .count) (r .places))) made-is)
           ∙ sym (ap (placed s) (next-place (r .places) (r .count) before (let l = K .least in omega arith) (let l = K .most in let l′ = K .wide in omega arith)));
       stands = stands-from (K .stands);
-      names = record { holds = λ v t. K .names .holds v t ∙ rw (joined (numberOf v), names-here .holds v t) (or-assoc (member now (numberOf v)) _ _) };
+      names = record { holds = λ v l. K .names .holds v l ∙ rw (joined (numberOf v), names-here .holds v l, t-is, ← over .first) (or-assoc (member now (numberOf v)) _ _) };
     }
 
-  pub goes-on : (now new now′ : ℕ) (d : Decoded) (places : List ℕ) → d ≡ statementHere count s before at → d ≡ Moved code next → (code ≡ 0x3F → ⊥)
-      → Names (statementNames (statementRead s at code)) new → ((k : ℕ) → member now′ k ≡ (member now k || member new k)) → length places ≡ mostPoints
+  pub goes-on : (now new now′ : ℕ) (d : Decoded) (places : List ℕ) → d ≡ testedStatement count s before at → d ≡ Moved code next → (code ≡ 0x3F → ⊥)
+      → (t : Declared.Statement) → asStatement t ≡ statementHere s at → Names (statementNames (asStatement t)) new → ((k : ℕ) → member now′ k ≡ (member now k || member new k)) → length places ≡ mostPoints
       → (r : ProgramRead) → Stay (before + 1) (set places before at) (r .places) → StatementsRead s count (before + 1) now′ (next .at) r
       → StatementsRead s count before now at r
-  goes-on now new now′ d places d-is d-moves on n j w r st later zero h = absurd (omega arith)
-  goes-on now new now′ d places d-is d-moves on n j w r st later (suc f) h =
+  goes-on now new now′ d places d-is d-moves on t t-is n j w r st later zero h = absurd (omega arith)
+  goes-on now new now′ d places d-is d-moves on t t-is n j w r st later (suc f) h =
       rw (reads-here count s before at f, ← d-is, d-moves, ne-eqb code 0x3F on)
       (agrees-map (λ ts end. Kept s count (before + 1) now′ r ts) (λ ts end. Kept s count before now r ts) (λ ts. record { at = at; statement = statementRead s at code } ∷ ts)
-      (statements f count s (before + 1) (next .at)) (r .part) (λ ts end. kept-here now new now′ places r n j w st ts)
+      (statements f count s (before + 1) (next .at)) (r .part) (λ ts end. kept-here now new now′ places r t t-is n j w st ts)
       (later f (enough-after (statementContext before) s at code next (m .read) f h)))

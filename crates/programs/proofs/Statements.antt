@@ -2,17 +2,17 @@
 use Prim.Native.Nat.{ℕ, _+_, _≤_, _<_}
 use mathlib.Core.Path.{_≡_, refl, sym, ap, _∙_}
 use mathlib.Core.List.{List, _∷_}
-use mathlib.Core.Bool.{Bool, true, false, cond, _&&_, not}
+use mathlib.Core.Bool.{Bool, true, false, cond, not}
 use mathlib.Core.Option.{Option, some, none}
 use native.Mathlib.Numerals.{add-one}
 use lib.ListN.{length, getD}
 use lib.Seq.{slice, slice-cons, slice-empty}
-use lib.Dec.{eqb, leb, ltb}
-use borrow.Author.Tests.{eq-eqb, ne-eqb, eqb-true, lt-ltb, le-ltb, not-true, not-false}
-use Rattle.commands.specs.Commands.{byte}
+use lib.Dec.{eqb}
+use borrow.Author.Tests.{ne-eqb, eqb-true, not-true, not-false}
+use Rattle.programs.specs.declared.Statement as Declared
 use Rattle.programs.specs.Program.{copyTemplate, setTemplate, copyString, setString, anyString, plug, plugString, show, Statement, step, stop}
-use Rattle.programs.specs.Promises.{PointsAt, placedAt, placed}
-use Rattle.programs.specs.ProgramReading.{statementOf, statementRead, templatesThere, pointsThere, strayed}
+use Rattle.programs.specs.Promises.{asStatement, statementHere, placedAt, placed}
+use Rattle.programs.specs.ProgramReading.{statementOf, pointsThere, strayed}
 
 picked : {A : Type 0} (P : A → Type 0) (b : Bool) (x y : A) → (b ≡ true → P x) → (b ≡ false → P y) → P (cond b x y)
 picked P true x y t f = t refl
@@ -48,29 +48,6 @@ pub no-step : (code : ℕ) (o : ℕ → ℕ) → NoneOfThese code → statementO
 no-step code o n =
     rw (ne-eqb code 0x30 (n .0 .0 .0 .0 .0 .0 .0 .1), ne-eqb code 0x31 (n .0 .0 .0 .0 .0 .0 .1), ne-eqb code 0x32 (n .0 .0 .0 .0 .0 .1), ne-eqb code 0x33 (n .0 .0 .0 .0 .1), ne-eqb code 0x34 (n .0 .0 .0 .1), ne-eqb code 0x35 (n .0 .0 .1), ne-eqb code 0x36 (n .0 .1), ne-eqb code 0x37 (n .1))
 
--- `31` alone names a template.
-pub no-template : (count : ℕ) (s : List ℕ) (at code : ℕ) → (code ≡ 0x31 → ⊥) → true ≡ templatesThere count (statementRead s at code)
-no-template count s at code h =
-    read-cases (λ t. true ≡ templatesThere count t) code (λ i. byte s (at + i)) (λ _. refl) (λ e. absurd (h e)) (λ _. refl) (λ _. refl) (λ _. refl) (λ _. refl) (λ _. refl) (λ _. refl) refl
-
-pub a-template : (count : ℕ) (s : List ℕ) (at code t : ℕ) → code ≡ 0x31 → t ≡ byte s (at + 2) → leb t count ≡ templatesThere count (statementRead s at code)
-a-template count s at code t e h = rw (e, h)
-
--- The next points, from where they stand.
-module _ (s : List ℕ) (at code first points : ℕ) (here : code ≡ byte s at) (w : PointsAt code first) where
-  tested : pointsThere points (statementRead s at (byte s at)) ≡ cond (eqb first 0) true (ltb (byte s (at + first)) points && ltb (byte s (at + (first + 1))) points)
-  tested = rw here at (w .tells (λ i. byte s (at + i)) points)
-
-  pub no-next : first ≡ 0 → true ≡ pointsThere points (statementRead s at (byte s at))
-  no-next e = sym (tested ∙ rw (eq-eqb first 0 e))
-
-  pub first-stray : (p : ℕ) → (first ≡ 0 → ⊥) → p ≡ byte s (at + first) → points ≤ p → false ≡ pointsThere points (statementRead s at (byte s at))
-  first-stray p e h l = sym (tested ∙ rw (ne-eqb first 0 e, ← h, le-ltb p points l))
-
-  pub second-next : (p q : ℕ) → (first ≡ 0 → ⊥) → p ≡ byte s (at + first) → p < points → q ≡ byte s (at + (first + 1))
-      → ltb q points ≡ pointsThere points (statementRead s at (byte s at))
-  second-next p q e h l h′ = sym (tested ∙ rw (ne-eqb first 0 e, ← h, lt-ltb p points l, ← h′))
-
 pub next-place : (places : List ℕ) (count i : ℕ) → i < count → count ≤ length places → slice i count places ≡ getD places i 0 ∷ slice (i + 1) count places
 next-place places count i here most = rw (add-one i) (slice-cons i count places 0 here most)
 
@@ -80,17 +57,17 @@ module _ (s : List ℕ) (places : List ℕ) (count i : ℕ) (all : Option ℕ) (
     first-placed : placed s (slice i count places) ≡ placedAt s (getD places i 0) ∷ placed s (slice (i + 1) count places)
     first-placed = ap (placed s) (next-place places count i here most)
 
-    pub strays-here : (b : Bool) → b ≡ pointsThere count (statementRead s (getD places i 0) (byte s (getD places i 0))) → not b ≡ true → some (getD places i 0) ≡ all
+    pub strays-here : (t : Declared.Statement) → asStatement t ≡ statementHere s (getD places i 0) → (b : Bool) → b ≡ pointsThere count (asStatement t) → not b ≡ true → some (getD places i 0) ≡ all
     unfolding strayed
-    strays-here b t h =
-        let f : pointsThere count (statementRead s (getD places i 0) (byte s (getD places i 0))) ≡ false = sym t ∙ not-true b h in
+    strays-here t t-is b b-is h =
+        let f : pointsThere count (statementHere s (getD places i 0)) ≡ false = rw (← t-is) (sym b-is ∙ not-true b h) in
         rw (so-far, first-placed, f)
 
-    pub strays-on : (b : Bool) → b ≡ pointsThere count (statementRead s (getD places i 0) (byte s (getD places i 0))) → not b ≡ false
+    pub strays-on : (t : Declared.Statement) → asStatement t ≡ statementHere s (getD places i 0) → (b : Bool) → b ≡ pointsThere count (asStatement t) → not b ≡ false
         → all ≡ strayed count (placed s (slice (i + 1) count places))
     unfolding strayed
-    strays-on b t h =
-        let f : pointsThere count (statementRead s (getD places i 0) (byte s (getD places i 0))) ≡ true = sym t ∙ not-false b h in
+    strays-on t t-is b b-is h =
+        let f : pointsThere count (statementHere s (getD places i 0)) ≡ true = rw (← t-is) (sym b-is ∙ not-false b h) in
         rw (so-far, first-placed, f)
 
   pub strays-nowhere : i ≡ count → none ≡ all

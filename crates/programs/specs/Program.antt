@@ -3,10 +3,8 @@
 use Prim.Native.Nat.{ℕ, zero, suc}
 use mathlib.Core.List.{List, [], _∷_}
 use mathlib.Core.Bool.{Bool, false, _||_}
-use mathlib.Core.Option.{none}
 use lib.Dec.{eqb}
-use Rattle.pages.specs.Items.{Items}
-use Rattle.pages.specs.Items as Items
+unfoldable pub use Rattle.pages.specs.Items.{templateAt}
 
 pub data Act : Type 0 where
   copyTemplate : ℕ → ℕ → Act
@@ -27,13 +25,6 @@ unfoldable pub statementAt : List Statement → ℕ → Statement
 statementAt [] p = stop
 statementAt (t ∷ ts) zero = t
 statementAt (t ∷ ts) (suc p) = statementAt ts p
-
--- Template t of a job; template 0 is empty and always there.
-unfoldable pub templateAt : List Items → ℕ → Items
-templateAt [] t = Items.none
-templateAt (φ ∷ φs) zero = Items.none
-templateAt (φ ∷ φs) (suc zero) = φ
-templateAt (φ ∷ φs) (suc (suc t)) = templateAt φs (suc t)
 
 -- A variable: template variable 0 to 3, or string variable 0 to 3. `40` numbers them 0 to 7 in this order.
 pub data Variable : Type 0 where

@@ -2,7 +2,7 @@
 use Prim.Native.Nat.{ℕ, _+_, _≤_, _<_}
 use mathlib.Core.Path.{_≡_}
 use mathlib.Core.List.{List, map}
-use mathlib.Core.Bool.{Bool, true, false, cond, _&&_, _||_}
+use mathlib.Core.Bool.{Bool, true, false, cond, _||_}
 use mathlib.Core.Option.{Option, some, none}
 use lib.ListN.{length, getD}
 use lib.Seq.{slice}
@@ -11,13 +11,52 @@ use Rattle.verdicts.specs.declared.Form.the-variants.{TooMany, Missing}
 use Rattle.sets.specs.Sets.{member}
 use Rattle.commands.specs.declared.Decoded.{Decoded}
 use Rattle.commands.specs.declared.Decoded.the-variants.{Moved, Refused}
+use Rattle.commands.specs.Commands as Commands
 use Rattle.commands.specs.Commands.{byte, operandsOf, operandBytes, allInRange, command}
 use Rattle.commands.specs.Parts.{AgreesAs, Enough}
 use Rattle.programs.specs.declared.ProgramRead.{ProgramRead}
 use Rattle.programs.specs.declared.Stray.{Stray}
 use Rattle.programs.specs.declared.Stray.the-variants.{At, Nowhere}
-use Rattle.programs.specs.Program.{Statement, Variable, templates, strings, statementAt, named}
-use Rattle.programs.specs.ProgramReading.{Placed, statementOf, statementRead, templatesThere, mostPoints, statementContext, pointsThere, statements, program}
+use Rattle.programs.specs.declared.Act as Acts
+use Rattle.programs.specs.declared.Act.the-variants.{CopyTemplate, SetTemplate, CopyString, SetString, AnyString, Plug, PlugString, Show}
+use Rattle.programs.specs.declared.Statement as Statements
+use Rattle.programs.specs.declared.Statement.the-variants.{Step, Stop}
+use Rattle.programs.specs.Program.{Act, copyTemplate, setTemplate, copyString, setString, anyString, plug, plugString, show, Statement, step, stop, Variable, templates, strings, statementAt, named}
+use Rattle.programs.specs.ProgramReading.{Placed, statementRead, templatesThere, mostPoints, statementContext, pointsThere, statements, program}
+
+-- A statement as the code takes it apart.
+abbrev pub asAct : Acts.Act → Act
+asAct (CopyTemplate x x′) = copyTemplate x x′
+asAct (SetTemplate x t) = setTemplate x t
+asAct (CopyString y y′) = copyString y y′
+asAct (SetString y s) = setString y s
+asAct (AnyString y) = anyString y
+asAct (Plug x x′ g x″) = plug x x′ g x″
+asAct (PlugString x x′ h y) = plugString x x′ h y
+asAct (Show x) = show x
+
+abbrev pub asStatement : Statements.Statement → Statement
+asStatement (Step a p q) = step (asAct a) p q
+asStatement Stop = stop
+
+-- The statement that stands at an offset.
+abbrev pub statementHere : List ℕ → ℕ → Statement
+statementHere s at = statementRead s at (byte s at)
+
+-- The ranges of its operands: variables below 4, gaps below 8, strings among the named ones.
+abbrev pub ActFits : Act → Type 0
+ActFits (copyTemplate x x′) = (x < 4) × (x′ < 4)
+ActFits (setTemplate x t) = x < 4
+ActFits (copyString y y′) = (y < 4) × (y′ < 4)
+ActFits (setString y s) = (y < 4) × (s < Commands.strings)
+ActFits (anyString y) = y < 4
+ActFits (plug x x′ g x″) = (x < 4) × (x′ < 4) × (g < 8) × (x″ < 4)
+ActFits (plugString x x′ h y) = (x < 4) × (x′ < 4) × (h < 8) × (y < 4)
+ActFits (show x) = x < 4
+
+abbrev pub StatementFits : Statement → Type 0
+StatementFits (step a p q) = ActFits a
+StatementFits stop = Unit {0}
 
 -- A variable's number in a set, and which variables there are.
 abbrev pub numberOf : Variable → ℕ
@@ -61,8 +100,8 @@ testedHere count s before at (Moved code next) =
     (Refused Missing at))
 testedHere count s before at (Refused form n) = Refused form n
 
-abbrev pub statementHere : ℕ → List ℕ → ℕ → ℕ → Decoded
-statementHere count s before at = testedHere count s before at (command (statementContext before) s at)
+abbrev pub testedStatement : ℕ → List ℕ → ℕ → ℕ → Decoded
+testedStatement count s before at = testedHere count s before at (command (statementContext before) s at)
 
 abbrev pub isTemplate : ℕ → Variable → Bool
 isTemplate x (templates k) = eqb k x
@@ -78,7 +117,7 @@ pub record Adds (is : Variable → Bool) (set r : ℕ) : Type 0 where
 
 -- The statement that stands at an offset.
 abbrev pub placedAt : List ℕ → ℕ → Placed
-placedAt s at = record { at = at; statement = statementRead s at (byte s at) }
+placedAt s at = record { at = at; statement = statementHere s at }
 
 abbrev pub placed : List ℕ → List ℕ → List Placed
 placed s places = map (placedAt s) places
@@ -86,12 +125,6 @@ placed s places = map (placedAt s) places
 abbrev pub strayOf : Stray → Option ℕ
 strayOf (At at) = some at
 strayOf Nowhere = none
-
--- Where the first of the next points stands among the operands of a command, before the second; 0: there is none.
-pub record PointsAt (code first : ℕ) : Type 0 where
-  pub low : first ≤ 5
-  pub tells : (o : ℕ → ℕ) (points : ℕ)
-      → pointsThere points (statementOf code o) ≡ cond (eqb first 0) true (ltb (o first) points && ltb (o (first + 1)) points)
 
 -- The statements from point `before` on stand at the places that are kept; `now` are the variables that were named before.
 pub record Kept (s : List ℕ) (count before now : ℕ) (r : ProgramRead) (ts : List Placed) : Type 0 where

@@ -3,28 +3,35 @@
 use Prim.Native.Nat.{ℕ}
 use mathlib.Core.List.{List, [], _∷_, _++_}
 use mathlib.Core.Bool.{Bool, cond}
+use mathlib.Core.Option.{Option, some}
+use mathlib.Core.Option as Option
 use lib.Dec.{eqb}
 use Rattle.commands.specs.Commands.{emptyString}
 use Rattle.pages.specs.Items.{Value, string, open-gap, Attribute, Item, text, gap, element, Items, none, more, one, _⋈_}
 use Rattle.programs.specs.Program.{Act, copyTemplate, setTemplate, copyString, setString, anyString, plug, plugString, show, Statement, step, stop, statementAt, templateAt}
 
-abbrev pub filledValue : (ℕ → Value) → Value → Value
-filledValue fill (string s) = string s
+abbrev pub filledValue : (ℕ → Option Value) → Value → Option Value
+filledValue fill (string s) = some (string s)
 filledValue fill (open-gap h) = fill h
 
-unfoldable pub filled : (ℕ → Value) → List Attribute → List Attribute
+-- An attribute with what fills it, before others; without it the attribute is left out, which no filling does before document 02's F-5.
+abbrev pub filledBefore : ℕ → Option Value → List Attribute → List Attribute
+filledBefore a Option.none δ = δ
+filledBefore a (some v) δ = record { name = a; value = v } ∷ δ
+
+unfoldable pub filled : (ℕ → Option Value) → List Attribute → List Attribute
 filled fill [] = []
-filled fill (a ∷ δ) = record { name = a .name; value = filledValue fill (a .value) } ∷ filled fill δ
+filled fill (a ∷ δ) = filledBefore (a .name) (filledValue fill (a .value)) (filled fill δ)
 
 -- Items with `put g` in place of each gap g and `fill h` in place of each attribute gap h, at any depth.
 unfoldable mutual
   unfolding filled _⋈_
 
-  pub replaced : (ℕ → Items) → (ℕ → Value) → Items → Items
+  pub replaced : (ℕ → Items) → (ℕ → Option Value) → Items → Items
   replaced put fill none = none
   replaced put fill (more i φ) = replacedItem put fill i ⋈ replaced put fill φ
 
-  pub replacedItem : (ℕ → Items) → (ℕ → Value) → Item → Items
+  pub replacedItem : (ℕ → Items) → (ℕ → Option Value) → Item → Items
   replacedItem put fill text = one text
   replacedItem put fill (gap g) = put g
   replacedItem put fill (element e mark δ φ) = one (element e mark (filled fill δ) (replaced put fill φ))
@@ -32,24 +39,31 @@ unfoldable mutual
 abbrev pub stay : ℕ → Items
 stay g = one (gap g)
 
+abbrev pub stayOpen : ℕ → Option Value
+stayOpen h = some (open-gap h)
+
 -- A value with the items of `new` in place of each gap g; gaps inside those items stay open.
 unfoldable pub plugged : ℕ → Items → Items → Items
 unfolding replaced
-plugged g new φ = replaced (λ k. cond (eqb k g) new (stay k)) open-gap φ
+plugged g new φ = replaced (λ k. cond (eqb k g) new (stay k)) stayOpen φ
 
 -- A value with string s at each attribute gap h.
 unfoldable pub pluggedString : ℕ → ℕ → Items → Items
 unfolding replaced
-pluggedString h s φ = replaced stay (λ k. cond (eqb k h) (string s) (open-gap k)) φ
+pluggedString h s φ = replaced stay (λ k. cond (eqb k h) (some (string s)) (stayOpen k)) φ
 
--- What an attribute gap that is still open takes at a show.
-abbrev pub closingString : ℕ
-closingString = emptyString
+-- What an attribute gap that is still open takes at a show, in a run and in the language alike: string 0.
+abbrev pub closing : Option ℕ
+closing = some emptyString
 
--- A page as a show closes it: nothing in each gap still open, string 0 in each open attribute gap.
+abbrev pub stringOf : Option ℕ → Option Value
+stringOf Option.none = Option.none
+stringOf (some s) = some (string s)
+
+-- A page as a show closes it: nothing in each gap still open, and in each open attribute gap what closes it.
 unfoldable pub closed : Items → Items
 unfolding replaced
-closed φ = replaced (λ g. none) (λ h. string closingString) φ
+closed φ = replaced (λ g. none) (λ h. stringOf closing) φ
 
 -- A choice: the first or the second next point, and a string, which `34` alone uses.
 pub record Choice : Type 0 where
@@ -93,18 +107,18 @@ actStrings (plug x x′ g x″) s Y = Y
 actStrings (plugString x x′ h y) s Y = Y
 actStrings (show x) s Y = Y
 
--- The pages that a statement shows: one at a show, none elsewhere.
-abbrev pub actPages : Act → (ℕ → Items) → List Items
-actPages (copyTemplate x x′) X = []
-actPages (setTemplate x t) X = []
-actPages (copyString y y′) X = []
-actPages (setString y t) X = []
-actPages (anyString y) X = []
-actPages (plug x x′ g x″) X = []
-actPages (plugString x x′ h y) X = []
-actPages (show x) X = closed (X x) ∷ []
-
 module _ (templates : List Items) where
+  -- The pages that a statement shows: one at a show, none elsewhere.
+  abbrev pub actPages : Act → (ℕ → Items) → List Items
+  actPages (copyTemplate x x′) X = []
+  actPages (setTemplate x t) X = []
+  actPages (copyString y y′) X = []
+  actPages (setString y t) X = []
+  actPages (anyString y) X = []
+  actPages (plug x x′ g x″) X = []
+  actPages (plugString x x′ h y) X = []
+  actPages (show x) X = closed (X x) ∷ []
+
   abbrev pub after : Statement → Choice → State → State
   after (step a p q) c σ = record {
     point = cond (c .second) q p;

@@ -3,16 +3,15 @@ ghost use mathlib.Core.Path.{_≡_};
 ghost use mathlib.Core.Bool.{true};
 ghost use Prim.Native.Nat.{_+_, _≤_, _<_};
 ghost use lib.Seq.{slice};
-ghost use Rattle.commands.specs.Commands.{byte, operandsOf, allInRange};
-ghost use Rattle.programs.specs.Program.{statementNames};
-ghost use Rattle.programs.specs.ProgramReading.{statementContext, statementRead, templatesThere, pointsThere, strayed};
-ghost use Rattle.programs.specs.Promises.{statementHere, isTemplate, isString, Adds, Names, StatementsRead, PointsAt, placed, strayOf, ProgramReads};
+ghost use Rattle.commands.specs.Commands.{byte};
+ghost use Rattle.programs.specs.Program.{actNames, statementNames};
+ghost use Rattle.programs.specs.ProgramReading.{statementContext, actTemplatesThere, templatesThere, pointsThere, strayed};
+ghost use Rattle.programs.specs.Promises.{asAct, asStatement, statementHere, ActFits, StatementFits, testedStatement, isTemplate, isString, Adds, Names, StatementsRead, placed, strayOf, ProgramReads};
 use commands::Context;
 use commands::Decoded;
 use commands::Part;
 use commands::Position;
 use verdicts::Form;
-use vocabularies::part_of;
 
 // What reading a program keeps: how many points it has, the offset of each point's statement, and as a set the variables that
 // some statement names: x for template variable x, 4 + y for string variable y.
@@ -23,7 +22,62 @@ pub struct ProgramRead {
     pub named: u64,
 }
 
+// What a statement does, with its operands in the order of the command.
+pub enum Act {
+    CopyTemplate(u8, u8),
+    SetTemplate(u8, u8),
+    CopyString(u8, u8),
+    SetString(u8, u8),
+    AnyString(u8),
+    Plug(u8, u8, u8, u8),
+    PlugString(u8, u8, u8, u8),
+    Show(u8),
+}
+
+// A statement with its two next points, or `38`.
+pub enum Statement {
+    Step {
+        act: Act,
+        first: usize,
+        second: usize,
+    },
+    Stop,
+}
+
 const MOST_POINTS: usize = 32;
+
+// A statement of which the next points stand from an operand on.
+fn step_at(s: &[u8], here: Position, act: Act, next: usize) -> Statement
+    requires { ⌜ next < 8 ⌝ }
+    ensures { λ r. ⌜ r ≡ Statement.Step act (byte (now (s .entry)) (here .at + next)) (byte (now (s .entry)) (here .at + (next + 1))) ⌝ }
+{
+    Statement::Step {
+        act,
+        first: here.operand(s, next) as usize,
+        second: here.operand(s, next + 1) as usize,
+    }
+}
+
+// The statement that stands here; `38` for any other command.
+pub fn statement_at(s: &[u8], here: Position) -> Statement
+    ensures { λ r. ⌜ asStatement r ≡ statementHere (now (s .entry)) (here .at) ⌝ }
+{
+    let a = here.operand(s, 1);
+    let b = here.operand(s, 2);
+    let c = here.operand(s, 3);
+    let d = here.operand(s, 4);
+    match commands::byte_at(s, here.at) {
+        0x30 => step_at(s, here, Act::CopyTemplate(a, b), 3),
+        0x31 => step_at(s, here, Act::SetTemplate(a, b), 3),
+        0x32 => step_at(s, here, Act::CopyString(a, b), 3),
+        0x33 => step_at(s, here, Act::SetString(a, b), 3),
+        0x34 => step_at(s, here, Act::AnyString(a), 2),
+        0x35 => step_at(s, here, Act::Plug(a, b, c, d), 5),
+        0x36 => step_at(s, here, Act::PlugString(a, b, c, d), 5),
+        0x37 => step_at(s, here, Act::Show(a), 2),
+        _ => Statement::Stop,
+    }
+}
 
 fn statement_context(before: usize) -> Context
     ensures { λ r. ⌜ r ≡ statementContext before ⌝ }
@@ -34,21 +88,39 @@ fn statement_context(before: usize) -> Context
     Context::Statements
 }
 
-// Whether the template that `31` names is there.
-fn templates_there(s: &[u8], here: Position, code: u8, templates: usize) -> bool
-    ensures { λ r. ⌜ r ≡ templatesThere templates (statementRead (now (s .entry)) (here .at) code) ⌝ }
+// Whether the template that an act names is there: only `31` names one.
+fn act_template_there(act: Act, templates: usize) -> bool
+    ensures { λ r. ⌜ r ≡ actTemplatesThere templates (asAct act) ⌝ }
 {
-    if code != 0x31 {
-        return true;
+    match act {
+        Act::CopyTemplate(_, _) => true,
+        Act::SetTemplate(_, t) => (t as usize) <= templates,
+        Act::CopyString(_, _) => true,
+        Act::SetString(_, _) => true,
+        Act::AnyString(_) => true,
+        Act::Plug(_, _, _, _) => true,
+        Act::PlugString(_, _, _, _) => true,
+        Act::Show(_) => true,
     }
-    let t = here.operand(s, 2) as usize;
-    t <= templates
+}
+
+fn template_there(statement: Statement, templates: usize) -> bool
+    ensures { λ r. ⌜ r ≡ templatesThere templates (asStatement statement) ⌝ }
+{
+    match statement {
+        Statement::Step {
+            act,
+            first: _,
+            second: _,
+        } => act_template_there(act, templates),
+        Statement::Stop => true,
+    }
 }
 
 // The command of a statement that may stand here, after `before` others: a template that is not there comes before a point
 // too many.
 fn statement_here(s: &[u8], here: Position, templates: usize, before: usize) -> Decoded
-    ensures { λ r. ⌜ r ≡ statementHere templates (now (s .entry)) before (here .at) ⌝ }
+    ensures { λ r. ⌜ r ≡ testedStatement templates (now (s .entry)) before (here .at) ⌝ }
 {
     let d = here.command(s, statement_context(before));
     let Decoded::Moved(code, _) = d else {
@@ -57,7 +129,7 @@ fn statement_here(s: &[u8], here: Position, templates: usize, before: usize) -> 
     if code == 0x3F {
         return d;
     }
-    if !templates_there(s, here, code, templates) {
+    if !template_there(statement_at(s, here), templates) {
         return Decoded::Refused(Form::Missing, here.at);
     }
     if MOST_POINTS <= before {
@@ -81,24 +153,35 @@ fn with_string(y: u8, set: u64) -> u64
     sets::with(set, 4 + y)
 }
 
-// The variables that a statement names.
-fn named_by(s: &[u8], here: Position, code: u8) -> u64
-    requires { ⌜ allInRange (operandsOf code) (now s) (here .at + 1) ≡ true ⌝ }
-    ensures { λ r. ⌜ Names (statementNames (statementRead (now (s .entry)) (here .at) code)) r ⌝ }
+// The variables that an act names.
+fn act_names(act: Act) -> u64
+    requires { ⌜ ActFits (asAct act) ⌝ }
+    ensures { λ r. ⌜ Names (actNames (asAct act)) r ⌝ }
 {
-    let a = here.operand(s, 1);
-    let b = here.operand(s, 2);
-    let d = here.operand(s, 4);
-    match code {
-        0x30 => with_template(a, with_template(b, 0)),
-        0x31 => with_template(a, 0),
-        0x32 => with_string(a, with_string(b, 0)),
-        0x33 => with_string(a, 0),
-        0x34 => with_string(a, 0),
-        0x35 => with_template(a, with_template(b, with_template(d, 0))),
-        0x36 => with_template(a, with_template(b, with_string(d, 0))),
-        0x37 => with_template(a, 0),
-        _ => 0,
+    match act {
+        Act::CopyTemplate(x, y) => with_template(x, with_template(y, 0)),
+        Act::SetTemplate(x, _) => with_template(x, 0),
+        Act::CopyString(x, y) => with_string(x, with_string(y, 0)),
+        Act::SetString(y, _) => with_string(y, 0),
+        Act::AnyString(y) => with_string(y, 0),
+        Act::Plug(x, y, _, z) => with_template(x, with_template(y, with_template(z, 0))),
+        Act::PlugString(x, y, _, z) => with_template(x, with_template(y, with_string(z, 0))),
+        Act::Show(x) => with_template(x, 0),
+    }
+}
+
+// The variables that a statement names.
+fn named_by(statement: Statement) -> u64
+    requires { ⌜ StatementFits (asStatement statement) ⌝ }
+    ensures { λ r. ⌜ Names (statementNames (asStatement statement)) r ⌝ }
+{
+    match statement {
+        Statement::Step {
+            act,
+            first: _,
+            second: _,
+        } => act_names(act),
+        Statement::Stop => 0,
     }
 }
 
@@ -114,7 +197,7 @@ fn read_statements(s: &[u8], here: Position, templates: usize) -> ProgramRead
         let d = statement_here(s, at, templates, count);
         let Decoded::Moved(code, next) = d else {
             return ProgramRead {
-                part: part_of(d),
+                part: d.part(),
                 count,
                 places,
                 named,
@@ -129,42 +212,29 @@ fn read_statements(s: &[u8], here: Position, templates: usize) -> ProgramRead
             };
         }
         places[count] = at.at;
-        named = sets::union(named, named_by(s, at, code));
+        named = sets::union(named, named_by(statement_at(s, at)));
         count += 1;
         at = next;
     }
 }
 
-// Where the first of a statement's next points stands among its operands; 0 where there is none.
-fn first_next(code: u8) -> usize
-    ensures { λ r. ⌜ PointsAt code r ⌝ }
+// Whether the next points of a statement are there.
+fn points_there(statement: Statement, points: usize) -> bool
+    ensures { λ r. ⌜ r ≡ pointsThere points (asStatement statement) ⌝ }
 {
-    match code {
-        0x30 => 3,
-        0x31 => 3,
-        0x32 => 3,
-        0x33 => 3,
-        0x34 => 2,
-        0x35 => 5,
-        0x36 => 5,
-        0x37 => 2,
-        _ => 0,
+    match statement {
+        Statement::Step {
+            act: _,
+            first,
+            second,
+        } => {
+            if points <= first {
+                return false;
+            }
+            second < points
+        }
+        Statement::Stop => true,
     }
-}
-
-// Whether the next points of the statement at an offset are there.
-fn points_there(s: &[u8], at: usize, points: usize) -> bool
-    ensures { λ r. ⌜ r ≡ pointsThere points (statementRead (now (s .entry)) at (byte (now (s .entry)) at)) ⌝ }
-{
-    let here = Position { at };
-    let first = first_next(commands::byte_at(s, at));
-    if first == 0 {
-        return true;
-    }
-    if points <= (here.operand(s, first) as usize) {
-        return false;
-    }
-    (here.operand(s, first + 1) as usize) < points
 }
 
 // The offset of a statement with a next point that is not there, if there is one.
@@ -181,7 +251,7 @@ fn strayed(s: &[u8], places: [usize; 32], count: usize) -> Stray
     let mut i = 0;
     while i < count {
         let at = places[i];
-        if !points_there(s, at, count) {
+        if !points_there(statement_at(s, Position::new(at)), count) {
             return Stray::At(at);
         }
         i += 1;

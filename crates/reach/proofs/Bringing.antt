@@ -1,5 +1,5 @@
 -- The contents that a gap can bring: those of the templates of its edges.
-use Prim.Native.Nat.{ℕ, suc, _+_, _*_, _≤_, _<_}
+use Prim.Native.Nat.{ℕ, suc, _≤_, _<_}
 use native.Mathlib.Omega.{arith}
 use mathlib.Core.Path.{_≡_, sym, _∙_}
 use mathlib.Core.List.{List}
@@ -10,6 +10,7 @@ use Rattle.sets.specs.Sets.{member}
 use Rattle.pages.specs.Items.{Items}
 use Rattle.summaries.specs.Proposal.{edge}
 use Rattle.summaries.specs.Summaries.{Summary}
+use Rattle.graphs.specs.Graphs.{holds}
 use Rattle.patterns.specs.Given.{contents}
 use Rattle.patterns.specs.Rounds.{Sets, anyTemplate}
 use Rattle.patterns.proofs.Tests.{and-both, and-left, and-right, same-test, any-below, below-any}
@@ -19,19 +20,19 @@ use Rattle.reach.specs.Walking.{ContentsKept, TellsBrings}
 use Rattle.reach.proofs.Sets.{not-in-zero}
 use Rattle.reach.proofs.Filling.{Filled}
 
-module _ (words within : List ℕ) (n : ℕ) (low : n < 32) where
+module _ (graph within : List ℕ) (n : ℕ) where
   abbrev pub BringsAt : ℕ → ℕ → Type 0
-  BringsAt g w = United 0 (getD words (32 + n * 8 + g) 0) within w
+  BringsAt g w = (edges : ℕ) × ((m : ℕ) → member edges m ≡ holds graph (edge n g m)) × United 0 edges within w
 
-  brings-at : (φs : List Items) (G : Summary) (C : Sets) (count : ℕ) → GraphKept φs G words count → ContentsKept φs C within → (g c w : ℕ) → g < 8 → c < contents
+  brings-at : n < 32 → (φs : List Items) (G : Summary) (C : Sets) (count : ℕ) → GraphKept φs G graph count → ContentsKept φs C within → (g c w : ℕ) → g < 8 → c < contents
       → BringsAt g w → member w c ≡ anyTemplate φs (λ m. G (edge n g m) && C m c)
-  brings-at φs G C count kept is g c w h l u = same-test (member w c) (anyTemplate φs some) to back
+  brings-at low φs G C count kept is g c w h l (edges, are, u) = same-test (member w c) (anyTemplate φs some) to back
     where
       some : ℕ → Bool
       some m = G (edge n g m) && C m c
 
-      edge-kept : (m : ℕ) → G (edge n g m) ≡ member (getD words (32 + n * 8 + g) 0) m
-      edge-kept m = kept .keeps .same (edge n g m) (low, h)
+      edge-kept : (m : ℕ) → G (edge n g m) ≡ member edges m
+      edge-kept m = kept .keeps .same (edge n g m) (low, h) ∙ sym (are m)
 
       to : member w c ≡ true → anyTemplate φs some ≡ true
       to e = ⊎-elim
@@ -47,5 +48,5 @@ module _ (words within : List ℕ) (n : ℕ) (low : n < 32) where
           let (m, k, p) = below-any (suc (length φs)) some e in
           u .adds m c (sym (edge-kept m) ∙ and-left (G (edge n g m)) (C m c) p) (is m c (omega arith) l ∙ and-right (G (edge n g m)) (C m c) p)
 
-  pub brings-all : (table : List ℕ) (g : ℕ) → 8 ≤ g → Filled BringsAt 8 g table → TellsBrings words n within table
-  brings-all table g end f φs G C count kept is k c h l = brings-at φs G C count kept is k c (getD table k 0) h l (f .below k (omega arith))
+  pub brings-all : n < 32 → (table : List ℕ) (g : ℕ) → 8 ≤ g → Filled BringsAt 8 g table → TellsBrings graph n within table
+  brings-all low table g end f φs G C count kept is k c h l = brings-at low φs G C count kept is k c (getD table k 0) h l (f .below k (omega arith))

@@ -1,55 +1,49 @@
--- Edges from words: those of one template by some of its gaps, and those of every template.
-use Prim.Native.Nat.{ℕ, _+_, _*_, _≤_, _<_}
+-- Edges from a graph: those of one template by some of its gaps, and those of every template.
+use Prim.Native.Nat.{ℕ, _+_, _≤_, _<_}
 use native.Mathlib.Omega.{arith}
-use mathlib.Core.Path.{_≡_, refl, sym, ap, subst, _∙_}
+use mathlib.Core.Path.{_≡_, sym, ap, _∙_}
 use mathlib.Core.List.{List}
-use mathlib.Core.Bool.{Bool, true, false, _&&_}
+use mathlib.Core.Bool.{Bool, true, _&&_, _||_}
 use mathlib.Core.Logic.{_⊎_, ⊎-elim}
-use lib.ListN.{length, take, drop, getD, length-take, length-drop, List·getD-eq-default}
-use lib.Seq.{getD-take, getD-drop}
+use lib.ListN.{getD}
 use lib.Dec.{ltb}
-use borrow.Author.Tests.{ltb-true, ltb-false}
+use borrow.Author.Tests.{lt-ltb, ltb-true}
 use Rattle.sets.specs.Sets.{member}
 use Rattle.summaries.specs.Proposal.{edge}
 use Rattle.summaries.specs.Summaries.{Summary}
+use Rattle.graphs.specs.Graphs.{holds, Keeps}
 use Rattle.patterns.proofs.Tests.{and-both, and-left, and-right, same-test, any-below, below-any}
-use Rattle.entries.specs.Words.{Keeps}
-use Rattle.reach.specs.Closures.{United}
 use Rattle.reach.specs.Promises.{edgesBy, EdgeTable}
 use Rattle.reach.proofs.Sets.{not-in-zero}
+use Rattle.reach.proofs.Unions.{UnitedTo}
 use Rattle.reach.proofs.Filling.{Filled}
 
--- The words of a template's edges are eight, one for each gap.
-module _ (words : List ℕ) (n gaps k from : ℕ) (low : n < 32) (is-from : from ≡ 32 + n * 8) (eight : k ≡ 8) (long : length words ≡ 544) where
-  abbrev part : List ℕ
-  part = take k (drop from words)
+-- The templates to which gap g of template n has edges.
+abbrev pub leads : List ℕ → ℕ → ℕ → ℕ → Bool
+leads graph n g m = ltb g 8 && holds graph (edge n g m)
 
-  part-at : (g : ℕ) → g < 8 → getD part g 0 ≡ getD words (32 + n * 8 + g) 0
-  part-at g h = getD-take k (drop from words) g 0 (omega arith) ∙ getD-drop from words g 0 ∙ ap (λ (i : ℕ). getD words (i + g) 0) is-from
+pub leads-by : (graph : List ℕ) (n g all edges more : ℕ) → g < 8 → ((m : ℕ) → member edges m ≡ holds graph (edge n g m))
+    → ((m : ℕ) → member more m ≡ (member all m || member edges m)) → (m : ℕ) → member more m ≡ (member all m || leads graph n g m)
+leads-by graph n g all edges more h is both m =
+    both m ∙ ap (λ (b : Bool). member all m || b) (is m ∙ sym (ap (λ (b : Bool). b && holds graph (edge n g m)) (lt-ltb g 8 h)))
 
-  part-length : length part ≤ 8
-  part-length = let m = length-take k (drop from words) in let l = length-drop from words in omega arith
-
-  pub edges-by : (r : ℕ) → United 0 gaps part r → (G : Summary) → Keeps words G → (m : ℕ) → member r m ≡ edgesBy G n gaps m
-  edges-by r u G keeps m = same-test (member r m) (edgesBy G n gaps m) to back
+module _ (graph : List ℕ) (n gaps : ℕ) (low : n < 32) where
+  pub edges-by : (g r : ℕ) → 8 ≤ g → UnitedTo 0 gaps (leads graph n) g r → (G : Summary) → Keeps graph G → (m : ℕ) → member r m ≡ edgesBy G n gaps m
+  edges-by g r past u G keeps m = same-test (member r m) (edgesBy G n gaps m) to back
     where
-      same : (g : ℕ) → g < 8 → G (edge n g m) ≡ member (getD part g 0) m
-      same g h = keeps .same (edge n g m) (low, h) ∙ ap (λ (w : ℕ). member w m) (sym (part-at g h))
-
-      led : (g : ℕ) → member gaps g ≡ true → member (getD part g 0) m ≡ true → (b : Bool) → ltb g 8 ≡ b → edgesBy G n gaps m ≡ true
-      led g e t true h = any-below 8 (λ i. member gaps i && G (edge n i m)) g (ltb-true g 8 h) (and-both e (same g (ltb-true g 8 h) ∙ t))
-      led g e t false h =
-          let past : 8 ≤ g = ltb-false g 8 h in
-          let short = part-length in
-          absurd (not-in-zero m (subst (λ (w : ℕ). member w m ≡ true) (List·getD-eq-default part 0 {n = g} (omega arith)) t))
+      led : (i : ℕ) → member gaps i ≡ true → leads graph n i m ≡ true → edgesBy G n gaps m ≡ true
+      led i e t =
+          let l = ltb-true i 8 (and-left (ltb i 8) (holds graph (edge n i m)) t) in
+          any-below 8 (λ k. member gaps k && G (edge n k m)) i l (and-both e (keeps .same (edge n i m) (low, l) ∙ and-right (ltb i 8) (holds graph (edge n i m)) t))
 
       to : member r m ≡ true → edgesBy G n gaps m ≡ true
-      to e = ⊎-elim (λ z. absurd (not-in-zero m z)) (λ (g, h, t). led g h t (ltb g 8) refl) (u .no-other m e)
+      to e = ⊎-elim (λ z. absurd (not-in-zero m z)) (λ (i, h, t). led i h t) (u .no-other m e)
 
       back : edgesBy G n gaps m ≡ true → member r m ≡ true
       back e =
-          let (g, h, p) = below-any 8 (λ i. member gaps i && G (edge n i m)) e in
-          u .adds g m (and-left (member gaps g) (G (edge n g m)) p) (sym (same g h) ∙ and-right (member gaps g) (G (edge n g m)) p)
+          let (i, h, p) = below-any 8 (λ k. member gaps k && G (edge n k m)) e in
+          u .adds i m (omega arith) (and-left (member gaps i) (G (edge n i m)) p)
+          (and-both (lt-ltb i 8 h) (sym (keeps .same (edge n i m) (low, h)) ∙ and-right (member gaps i) (G (edge n i m)) p))
 
 -- The edges from a template, of those to templates of a set.
 abbrev pub EdgesAt : Summary → List ℕ → ℕ → ℕ → ℕ → Type 0

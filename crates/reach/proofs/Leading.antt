@@ -5,7 +5,7 @@ use native.Mathlib.Omega.{arith}
 use mathlib.Core.Path.{_≡_, refl, sym, subst, _∙_}
 use mathlib.Core.List.{List}
 use mathlib.Core.Bool.{Bool, true, false, not, _&&_, _||_, false≢true}
-use mathlib.Core.Logic.{_⊎_, ⊎-elim}
+use mathlib.Core.Logic.{⊎-elim}
 use lib.ListN.{length, getD}
 use lib.Dec.{eqb, ltb, leb}
 use borrow.Author.Tests.{eqb-true, lt-ltb, ltb-true, le-leb, leb-true}
@@ -21,7 +21,7 @@ use Rattle.patterns.specs.Reached.{Yields, contentsOf}
 use Rattle.patterns.specs.Exactness.{YieldsExact, ContentsExact}
 use Rattle.patterns.proofs.Tests.{and-both, and-left, and-right, same-test, eqb-same, any-below, below-any}
 use Rattle.patterns.proofs.Contents.{occurs-made, occurs-found}
-use Rattle.entries.specs.Gaps.{hasGap}
+use Rattle.pages.specs.Gaps.{hasGap}
 use Rattle.reach.specs.Closures.{ClosedUnder}
 use Rattle.reach.specs.Outlines.{gapAmong, Outline}
 use Rattle.reach.specs.Promises.{EdgeTable, GraphKept, OutlinesTo, LedContents}
@@ -49,7 +49,7 @@ module _ (targets contents : List ℕ) (yields : ℕ) where
   led-content : (n r : ℕ) (L : Led n r) (c : ℕ) → member r c ≡ true → (k : ℕ) × (member (L .led) k ≡ true) × (member (getD contents k 0) c ≡ true)
   led-content n r L c e = ⊎-elim (λ z. absurd (not-in-zero c z)) (λ h. h) (L .united .no-other c e)
 
-module _ (φs : List Items) (G : Summary) (words contents gaps : List ℕ) (count yields : ℕ) (kept : GraphKept φs G words count)
+module _ (φs : List Items) (G : Summary) (graph contents gaps : List ℕ) (count yields : ℕ) (kept : GraphKept φs G graph count)
     (outlines : OutlinesTo φs count contents gaps) (exact : YieldsExact φs G (member yields)) (targets : List ℕ) (t : EdgeTable G gaps count yields targets)
     (r : List ℕ) (led : (n : ℕ) → n ≤ count → LedContents n targets contents yields (getD r n 0)) where
   outline : (n : ℕ) → n ≤ length φs → Outline (templateAt φs n) (getD contents n 0) (getD gaps n 0)

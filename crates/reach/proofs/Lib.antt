@@ -6,10 +6,8 @@ pub mod Filling
 pub mod Edges
 pub mod Reaching
 pub mod YieldingTemplates
-pub mod AttributeNames
 pub mod Outside
 pub mod Outlining
-pub mod ItemWalks
 pub mod ListWalks
 pub mod Leading
 pub mod Bringing

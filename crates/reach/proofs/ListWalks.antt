@@ -1,91 +1,152 @@
--- A list of items, one after the other.
-use Prim.Native.Nat.{ℕ, zero, suc, _+_, _≤_}
-use native.Mathlib.Omega.{arith}
-use mathlib.Core.Path.{_≡_, sym, ap, subst, _∙_}
-use mathlib.Core.List.{List}
-use mathlib.Core.Bool.{Bool, true, false, false≢true}
-use mathlib.Core.Option.{Option}
-use mathlib.Core.Logic.{inl, inr}
-use lib.ListN.{length}
-use Rattle.commands.specs.Commands.{byte, either}
+-- A list of items of a template, one after the other, and an element with what was told of its contents.
+use Prim.Native.Nat.{ℕ, _+_, _≤_}
+use mathlib.Core.Path.{_≡_, refl, sym, ap, ap₂, subst, _∙_}
+use mathlib.Core.List.{List, []}
+use mathlib.Core.Bool.{Bool, true, _||_, false≢true}
+use mathlib.Core.Option.{Option, some, none}
+use lib.ListN.{length, getD}
+use lib.Dec.{eqb}
+use Rattle.sets.specs.Sets.{member}
+use Rattle.commands.specs.declared.Position.{Position}
 use Rattle.commands.specs.Reading.{whole}
-use Rattle.commands.proofs.Laws.{byte-past}
+use Rattle.vocabularies.specs.Vocabulary.{Rule, Vocabulary, ruleOf, declared, isSome}
 use Rattle.pages.specs.declared.Kind.the-variants.{Template}
+use Rattle.pages.specs.declared.Named.{Named}
+use Rattle.pages.specs.declared.ItemHere.{ItemHere}
+use Rattle.pages.specs.declared.ItemHere.the-variants.{Text, Gap, Element, End}
 use Rattle.pages.specs.Items.{Attribute, Items, one}
+use Rattle.pages.specs.Items as Items
 use Rattle.pages.specs.ItemReading.{items}
-use Rattle.pages.proofs.Whole.{never-unfinished, items-whole}
-use Rattle.judging.specs.Promises.{wrongOf}
-use Rattle.patterns.specs.Shows.{lower, lowestMark}
-use Rattle.languages.proofs.ItemLaws.{item-begins, text-code, end-kind}
+use Rattle.pages.specs.Steps.{itemHere, NamesAt}
+use Rattle.pages.proofs.Steps.{text-first, gap-first, element-first, end-first, element-item, no-attribute}
+use Rattle.summaries.specs.Summaries.{Summary}
+use Rattle.patterns.specs.declared.Wrong.{Wrong}
+use Rattle.patterns.specs.declared.Wrong.the-variants.{Nowhere}
+use Rattle.patterns.specs.Rounds.{Sets}
+use Rattle.patterns.specs.Shows.{lower, onlyIf, lowestMark}
+use Rattle.patterns.specs.LowestWrong.{lowerWrong, wrongIn}
+use Rattle.patterns.proofs.LowestOf.{lower-in, lower-nowhere, lower-assoc}
+use Rattle.reach.specs.declared.WalkedElement.{WalkedElement}
 use Rattle.reach.specs.declared.WalkedItems.{WalkedItems}
-use Rattle.reach.specs.PlainlyWrong.{plainlyWrong}
-use Rattle.reach.specs.Walking.{WalksItems}
-use Rattle.reach.proofs.Marks.{lower-none, lower-lower, mark-first}
-use Rattle.reach.proofs.Outlining.{Outlined, outlined-none, outlined-all}
-use Rattle.reach.proofs.ItemWalks.{Lowers, AddsItem}
+use Rattle.reach.specs.Closures.{United}
+use Rattle.reach.specs.PlainlyWrong.{plainlyUnder, plainlyWrong}
+use Rattle.reach.specs.Walking.{RulesKept, Brings, TellsOutside, WalksElement, WalksItems}
+use Rattle.reach.proofs.Marks.{lower-none, mark-first}
+use Rattle.reach.proofs.Outlining.{Outlined, outlined-none, outlined-all, outlined-text, outlined-gap, outlined-element, contents-by}
 
-module _ (s allowed-in held-in brings : List ℕ) where
+found-rule : (o : Option Rule) → isSome o ≡ true → (R : Rule) × (o ≡ some R)
+found-rule none h = absurd (false≢true h)
+found-rule (some R) h = (R, refl)
+
+module _ (s allowed-in held-in brings : List ℕ) (n : ℕ) where
+  -- ---- items
+
   -- What the items from an offset on add to what was walked over before.
-  pub record Added (ruled : ℕ → Bool) (inside gaps wrong : ℕ) (φ : Items) (end : ℕ) (r : WalkedItems) : Type 0 where
+  pub record Added (ruled : ℕ → Bool) (inside gaps : ℕ) (wrong : Wrong) (φ : Items) (end : ℕ) (r : WalkedItems) : Type 0 where
     pub ends : r .next .at ≡ end
     pub outlined : Outlined inside gaps φ (r .inside) (r .gaps)
-    pub lowers : Lowers s allowed-in held-in brings ruled wrong φ (r .wrong)
+    pub lowers : (φs : List Items) (G : Summary) (C : Sets) (D : Vocabulary) → RulesKept D allowed-in held-in → Brings φs G C n brings
+        → ((e : ℕ) → ruled e ≡ true → declared (D .rules) e ≡ true)
+        → r .wrong ≡ lowerWrong wrong (wrongIn n (lowestMark (λ e mark δ χ. plainlyWrong φs G C D n e δ χ) φ))
 
-  abbrev pub Adds : ℕ → ℕ → ℕ → ℕ → WalkedItems → Type 0
+  abbrev pub Adds : ℕ → ℕ → Wrong → ℕ → WalkedItems → Type 0
   Adds inside gaps wrong at r = (ruled : ℕ → Bool) (f depth end : ℕ) (φ : Items) → items f Template ruled s depth at ≡ whole φ end
       → Added ruled inside gaps wrong φ end r
 
-  pub adds-all : (at : ℕ) (r : WalkedItems) → Adds 0 0 0 at r → WalksItems s allowed-in held-in brings at r
+  pub adds-all : (at : ℕ) (r : WalkedItems) → Adds 0 0 Nowhere at r → WalksItems s allowed-in held-in brings n at r
   adds-all at r A ruled f depth end φ e =
       let a = A ruled f depth end φ e in
       record { ends = a .ends; outline = outlined-all φ (r .inside) (r .gaps) (a .outlined); finds = a .lowers }
 
-  module _ (inside gaps wrong at : ℕ) where
-    -- What begins no item ends the list.
-    pub list-ends : (byte s at ≡ 0x21 → ⊥) → (byte s at ≡ 0x22 → ⊥) → (byte s at ≡ 0x23 → ⊥)
-        → Adds inside gaps wrong at (record { inside = inside; gaps = gaps; next = record { at = at + 1 }; wrong = wrong })
-    unfolding items lowestMark
-    list-ends no-text no-gap no-element ruled zero depth end φ e = never-unfinished e
-    list-ends no-text no-gap no-element ruled (suc f) depth end φ e = elim (items-whole f Template ruled s depth at φ end e) [
-      | inl q ↦ rw (q .no-more) (record {
-        ends = sym (q .after);
-        outlined = outlined-none inside gaps;
-        lowers = λ φs G C n D rules brought ruled-are. sym (lower-none (wrongOf wrong));
-      })
-      | inr q ↦ absurd (no-text (text-code (byte s at) (item-begins s ruled depth at (q .next) (q .first) f (q .reads-first) .1) no-gap no-element))
-    ]
+  module _ (inside gaps : ℕ) (wrong : Wrong) (at : ℕ) (h : ItemHere) (is : h ≡ itemHere s at) where
+    pub list-ends : (next : Position) → h ≡ End next → Adds inside gaps wrong at (record { inside = inside; gaps = gaps; next = next; wrong = wrong })
+    unfolding lowestMark
+    list-ends next q ruled f depth end φ e =
+        let F = end-first f Template ruled s depth at φ end e h is next q in
+        rw (F .no-more) (record {
+          ends = F .after;
+          outlined = outlined-none inside gaps;
+          lowers = λ φs G C D rules brought ruled-are. sym (lower-nowhere wrong);
+        })
 
-    pub list-past : (r : WalkedItems) → length s ≤ at → Adds inside gaps wrong at r
-    unfolding items
-    list-past r past ruled zero depth end φ e = never-unfinished e
-    list-past r past ruled (suc f) depth end φ e = elim (items-whole f Template ruled s depth at φ end e) [
-      | inl q ↦ absurd (false≢true (subst (λ (c : ℕ). either 0x26 0x27 c ≡ true) (byte-past s at past) (end-kind s depth at (q .ended))))
-      | inr q ↦ absurd (let h = item-begins s ruled depth at (q .next) (q .first) f (q .reads-first) .0 in omega arith)
-    ]
+    pub list-text : (next : Position) → h ≡ Text next → (inside′ : ℕ) → ((k : ℕ) → member inside′ k ≡ (eqb k 0 || member inside k))
+        → (r : WalkedItems) → Adds inside′ gaps wrong (next .at) r → Adds inside gaps wrong at r
+    unfolding lowestMark
+    list-text next q inside′ is-inside r A ruled f depth end φ e =
+        let F = text-first f Template ruled s depth at φ end e h is next q in
+        let a = A ruled (F .fuel) depth end (F .rest) (F .reads-rest) in
+        rw (F .is-more) (record {
+          ends = a .ends;
+          outlined = outlined-text inside gaps (F .rest) (r .inside) (r .gaps) inside′ is-inside (a .outlined);
+          lowers = a .lowers;
+        })
 
-    -- An item, and then the others.
-    pub list-more : (next inside′ gaps′ wrong′ : ℕ) → either 0x26 0x27 (byte s at) ≡ false → AddsItem s allowed-in held-in brings at inside gaps wrong next inside′ gaps′ wrong′
-        → (r : WalkedItems) → Adds inside′ gaps′ wrong′ next r → Adds inside gaps wrong at r
-    unfolding items
-    list-more next inside′ gaps′ wrong′ other I r A ruled zero depth end φ e = never-unfinished e
-    list-more next inside′ gaps′ wrong′ other I r A ruled (suc f) depth end φ e = elim (items-whole f Template ruled s depth at φ end e) [
-      | inl q ↦ absurd (false≢true (sym other ∙ end-kind s depth at (q .ended)))
-      | inr q ↦
-          let j = I ruled f depth (q .next) (q .first) (q .reads-first) in
-          let a = A ruled f depth end (q .rest) (subst (λ (k : ℕ). items f Template ruled s depth k ≡ whole (q .rest) end) (sym (j .ends)) (q .reads-rest)) in
-          rw (q .is-more) (record {
-            ends = a .ends;
-            outlined = j .outlines (q .rest) (r .inside) (r .gaps) (a .outlined);
-            lowers = λ φs G C n D rules brought ruled-are.
-                let p : ℕ → ℕ → List Attribute → Items → Bool = λ e mark δ χ. plainlyWrong φs G C D n e δ χ in
-                a .lowers φs G C n D rules brought ruled-are
-                ∙ ap (λ (o : Option ℕ). lower o (lowestMark p (q .rest))) (j .lowers φs G C n D rules brought ruled-are)
-                ∙ lower-lower (wrongOf wrong) (lowestMark p (one (q .first))) (lowestMark p (q .rest))
-                ∙ ap (lower (wrongOf wrong)) (sym (mark-first p (q .first) (q .rest)));
-          })
-    ]
+    pub list-gap : (g : ℕ) (next : Position) → h ≡ Gap g next → (gaps′ : ℕ) → ((k : ℕ) → member gaps′ k ≡ (eqb k g || member gaps k))
+        → (r : WalkedItems) → Adds inside gaps′ wrong (next .at) r → Adds inside gaps wrong at r
+    unfolding lowestMark
+    list-gap g next q gaps′ is-gaps r A ruled f depth end φ e =
+        let K = gap-first f Template ruled s depth at φ end e h is g next q in
+        let F = K .leaf in
+        let a = A ruled (F .fuel) depth end (F .rest) (F .reads-rest) in
+        rw (F .is-more) (record {
+          ends = a .ends;
+          outlined = outlined-gap inside gaps (F .rest) (r .inside) (r .gaps) g gaps′ (K .small) is-gaps (a .outlined);
+          lowers = a .lowers;
+        })
+
+    pub list-element : (e : ℕ) (start : Position) → h ≡ Element e start → (inside′ : ℕ) → ((k : ℕ) → member inside′ k ≡ (eqb k e || member inside k))
+        → (own : WalkedElement) → WalksElement s allowed-in held-in brings n at e start own
+        → (wrong′ : Wrong) → wrong′ ≡ lowerWrong wrong (own .wrong) → (r : WalkedItems) → Adds inside′ gaps wrong′ (own .next .at) r → Adds inside gaps wrong at r
+    list-element e start q inside′ is-inside own W wrong′ is-wrong r A ruled f depth end φ reads =
+        let F = element-first f Template ruled s depth at φ end reads h is e start q in
+        let i = Items.element e at (F .named) (F .contents) in
+        let w = W ruled (F .fuel) depth (F .middle) i (F .reads-first) (sym q ∙ is) in
+        let a = A ruled (F .fuel) depth end (F .rest) (subst (λ (k : ℕ). items (F .fuel) Template ruled s depth k ≡ whole (F .rest) end) (sym (w .ends)) (F .reads-rest)) in
+        rw (F .is-more) (record {
+          ends = a .ends;
+          outlined = outlined-element inside gaps (F .rest) (r .inside) (r .gaps) e at (F .named) (F .contents) inside′ is-inside (a .outlined);
+          lowers = λ φs G C D rules brought ruled-are.
+              let p : ℕ → ℕ → List Attribute → Items → Bool = λ e mark δ χ. plainlyWrong φs G C D n e δ χ in
+              let first = lowestMark p (one i) in
+              let rest = lowestMark p (F .rest) in
+              a .lowers φs G C D rules brought ruled-are ∙ ap (λ (w : Wrong). lowerWrong w (wrongIn n rest)) is-wrong ∙ lower-assoc wrong (own .wrong) (wrongIn n rest)
+              ∙ ap (lowerWrong wrong) (ap (λ (w : Wrong). lowerWrong w (wrongIn n rest)) (w .finds φs G C D rules brought ruled-are) ∙ lower-in n first rest
+              ∙ ap (wrongIn n) (sym (mark-first p i (F .rest))));
+        })
 
   -- Where walking has come: what the items from here on add is what all of them add to nothing.
-  pub record Going (first at inside gaps wrong : ℕ) : Type 0 where
+  pub record Going (first at inside gaps : ℕ) (wrong : Wrong) : Type 0 where
     pub forward : first ≤ at
-    pub goes : (r : WalkedItems) → Adds inside gaps wrong at r → Adds 0 0 0 first r
+    pub goes : (r : WalkedItems) → Adds inside gaps wrong at r → Adds 0 0 Nowhere first r
+
+  -- ---- an element
+
+  pub element-walked : (at e : ℕ) (start : Position) (named : Named) → NamesAt s (start .at) named
+      → (list : WalkedItems) → WalksItems s allowed-in held-in brings n (named .next .at) list
+      → (inside : ℕ) → length brings ≡ 8 → United (list .inside) (list .gaps) brings inside
+      → (own : Wrong) → TellsOutside n at (named .names) (getD allowed-in e 0) inside (getD held-in e 0) own
+      → (wrong : Wrong) → wrong ≡ lowerWrong own (list .wrong) → WalksElement s allowed-in held-in brings n at e start (record { next = list .next; wrong = wrong })
+  unfolding lowestMark
+  element-walked at e start named N list L inside long U own O wrong is-wrong ruled f depth end i reads here =
+      let I = element-item f Template ruled s depth at i end reads (Element e start) here e start refl in
+      let δ = I .named in
+      let φ = I .contents in
+      let done = no-attribute (I .fuel) Template ruled s (depth + 1) (I .inside) φ end (I .reads-contents) in
+      let m = N Template [] (I .fuel) (I .inside) δ (I .reads-attributes) done in
+      let l = L ruled (I .fuel) (depth + 1) end φ (subst (λ (k : ℕ). items (I .fuel) Template ruled s (depth + 1) k ≡ whole φ end) (sym (m .0)) (I .reads-contents)) in
+      rw (I .is-it) (record {
+        ends = l .ends;
+        finds = λ φs G C D rules brought ruled-are.
+            let (R, is-rule) = found-rule (ruleOf (D .rules) e) (ruled-are e (I .has-rule)) in
+            let told : own ≡ wrongIn n (onlyIf (plainlyUnder φs G C R n δ φ) at) = O φs G C R δ φ (record {
+              has-names = m .1;
+              allows = rules .allows e R is-rule;
+              has-contents = λ c low. contents-by φs G C n c brings long brought low φ (list .inside) (list .gaps) inside (l .outline) U;
+              holds = rules .holds e R is-rule;
+            }) in
+            let itself : own ≡ wrongIn n (onlyIf (plainlyWrong φs G C D n e δ φ) at) = rw is-rule told in
+            let p : ℕ → ℕ → List Attribute → Items → Bool = λ e mark δ χ. plainlyWrong φs G C D n e δ χ in
+            let mine = onlyIf (plainlyWrong φs G C D n e δ φ) at in
+            is-wrong ∙ ap₂ lowerWrong itself (l .finds φs G C D rules brought ruled-are) ∙ lower-in n mine (lowestMark p φ)
+            ∙ sym (ap (wrongIn n) (lower-none (lower mine (lowestMark p φ))));
+      })

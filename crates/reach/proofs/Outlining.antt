@@ -19,7 +19,7 @@ use Rattle.patterns.specs.Given.{contents}
 use Rattle.patterns.specs.Rounds.{Sets, anyTemplate}
 use Rattle.patterns.specs.Reached.{contentsOf, itemContents}
 use Rattle.patterns.proofs.Tests.{or-left, or-right, or-cases, and-both, and-left, and-right, same-test, eqb-same}
-use Rattle.entries.specs.Gaps.{hasGap}
+use Rattle.pages.specs.Gaps.{hasGap}
 use Rattle.reach.specs.Closures.{United}
 use Rattle.reach.specs.Outlines.{isGap, gapAmong, Outline}
 use Rattle.reach.specs.Walking.{Brings}

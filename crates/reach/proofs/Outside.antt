@@ -1,5 +1,5 @@
 -- The two tests of an element that is plainly wrong, by sets.
-use Prim.Native.Nat.{ℕ, _+_, _<_}
+use Prim.Native.Nat.{ℕ, _<_}
 use mathlib.Core.Path.{_≡_, sym, ap, _∙_}
 use mathlib.Core.List.{List}
 use mathlib.Core.Bool.{Bool, true, false, not, _&&_, false≢true}
@@ -9,8 +9,8 @@ use Rattle.pages.specs.Items.{Items}
 use Rattle.pages.specs.RightPages.{names}
 use Rattle.judging.specs.Judgement.{allIn}
 use Rattle.judging.proofs.Rules.{within-lists}
-use Rattle.judging.proofs.ItemLaws.{found-at}
 use Rattle.summaries.specs.Summaries.{Summary}
+use Rattle.patterns.specs.declared.Wrong.the-variants.{Nowhere, At}
 use Rattle.patterns.specs.Given.{contents}
 use Rattle.patterns.specs.Rounds.{Sets, anyBelow}
 use Rattle.patterns.specs.Reached.{contentsOf}
@@ -34,23 +34,23 @@ module _ (φs : List Items) (G : Summary) (C : Sets) (n : ℕ) (allowed : List �
       false≢true (sym (ap not k) ∙ and-right (contentsOf φs G C n φ c) (not (isIn c allowed)) p))
   content-test false (c, h, p, q) = any-below contents out c h (and-both (sym (is c h) ∙ p) (ap not (sym (is-held c) ∙ q)))
 
-module _ (at named allowed inside held : ℕ) where
-  pub names-outside : (t : Bool) → Within named allowed t → t ≡ false → TellsOutside at named allowed inside held (at + 1)
+module _ (n at named allowed inside held : ℕ) where
+  pub names-outside : (t : Bool) → Within named allowed t → t ≡ false → TellsOutside n at named allowed inside held (At n at)
   unfolding plainlyUnder
-  names-outside t w e φs G C n R δ φ c =
+  names-outside t w e φs G C R δ φ c =
       let a : allIn (names δ) (R .attributes) ≡ false = within-lists named allowed (names δ) (R .attributes) (c .has-names) (c .allows) t w ∙ e in
-      rw a (found-at at)
+      rw a
 
-  pub content-outside : (t u : Bool) → Within named allowed t → t ≡ true → Within inside held u → u ≡ false → TellsOutside at named allowed inside held (at + 1)
+  pub content-outside : (t u : Bool) → Within named allowed t → t ≡ true → Within inside held u → u ≡ false → TellsOutside n at named allowed inside held (At n at)
   unfolding plainlyUnder
-  content-outside t u w e v q φs G C n R δ φ c =
+  content-outside t u w e v q φs G C R δ φ c =
       let a : allIn (names δ) (R .attributes) ≡ true = within-lists named allowed (names δ) (R .attributes) (c .has-names) (c .allows) t w ∙ e in
       let b : contentOutside φs G C (R .contents) n φ ≡ true = content-test φs G C n (R .contents) φ inside held (c .has-contents) (c .holds) u v ∙ ap not q in
-      rw (a, b) (found-at at)
+      rw (a, b)
 
-  pub none-outside : (t u : Bool) → Within named allowed t → t ≡ true → Within inside held u → u ≡ true → TellsOutside at named allowed inside held 0
+  pub none-outside : (t u : Bool) → Within named allowed t → t ≡ true → Within inside held u → u ≡ true → TellsOutside n at named allowed inside held Nowhere
   unfolding plainlyUnder
-  none-outside t u w e v q φs G C n R δ φ c =
+  none-outside t u w e v q φs G C R δ φ c =
       let a : allIn (names δ) (R .attributes) ≡ true = within-lists named allowed (names δ) (R .attributes) (c .has-names) (c .allows) t w ∙ e in
       let b : contentOutside φs G C (R .contents) n φ ≡ false = content-test φs G C n (R .contents) φ inside held (c .has-contents) (c .holds) u v ∙ ap not q in
       rw (a, b)

@@ -11,15 +11,16 @@ use lib.Dec.{ltb}
 use borrow.Author.Tests.{lt-ltb, ltb-true, ltb-false}
 use Rattle.sets.specs.Sets.{member}
 use Rattle.pages.specs.Items.{Items}
+use Rattle.pages.specs.Gaps.{GapsTable}
 use Rattle.summaries.specs.Proposal.{root, edge}
 use Rattle.summaries.specs.Summaries.{Summary}
+use Rattle.graphs.specs.Graphs.{holds}
 use Rattle.patterns.specs.Rounds.{Set}
 use Rattle.patterns.specs.Reached.{Reached, from-root, through-gap}
 use Rattle.patterns.specs.Exactness.{YieldsExact, ReachedExact}
 use Rattle.patterns.proofs.Tests.{and-both, and-left, and-right, either, same-test, any-below, below-any}
 use Rattle.patterns.proofs.Reaching.{reached-there}
 use Rattle.reach.specs.Closures.{ClosedUnder, Closure}
-use Rattle.entries.specs.Gaps.{GapsTable}
 use Rattle.reach.specs.Promises.{edgesBy, EdgeTable, GraphKept}
 use Rattle.reach.proofs.Sets.{not-in-zero}
 
@@ -48,10 +49,10 @@ module _ (G : Summary) (gaps table : List ℕ) (count yields : ℕ) (t : EdgeTab
   gap-edge n g m h l e p y =
       t .there n m h (omega arith) ∙ and-both (any-below 8 (λ i. member (getD gaps n 0) i && G (edge n i m)) g l (and-both e p)) y
 
-module _ (φs : List Items) (G : Summary) (words gaps : List ℕ) (count yields : ℕ) (kept : GraphKept φs G words count) (gaps-are : GapsTable gaps φs)
+module _ (φs : List Items) (G : Summary) (graph gaps : List ℕ) (count yields : ℕ) (kept : GraphKept φs G graph count) (gaps-are : GapsTable gaps φs)
     (exact : YieldsExact φs G (member yields)) (table : List ℕ) (t : EdgeTable G gaps count yields table)
-    (start r : ℕ) (is-start : (k : ℕ) → member start k ≡ (member (getD words 0 0) k && member yields k)) (c : Closure start table r) where
-  root-kept : (k : ℕ) → G (root k) ≡ member (getD words 0 0) k
+    (start r : ℕ) (is-start : (k : ℕ) → member start k ≡ (holds graph (root k) && member yields k)) (c : Closure start table r) where
+  root-kept : (k : ℕ) → G (root k) ≡ holds graph (root k)
   root-kept k = kept .keeps .same (root k) tt
 
   -- All that are reached.
@@ -69,9 +70,9 @@ module _ (φs : List Items) (G : Summary) (words gaps : List ℕ) (count yields 
     has-start : (k : ℕ) → member start k ≡ true → S k ≡ true
     has-start k e =
         let p = sym (is-start k) ∙ e in
-        let g : G (root k) ≡ true = root-kept k ∙ and-left (member (getD words 0 0) k) (member yields k) p in
+        let g : G (root k) ≡ true = root-kept k ∙ and-left (holds graph (root k)) (member yields k) p in
         let there : k ≤ length φs = kept .bounded .roots k g in
-        is k there .1 (from-root g (exact k there .0 (and-right (member (getD words 0 0) k) (member yields k) p)))
+        is k there .1 (from-root g (exact k there .0 (and-right (holds graph (root k)) (member yields k) p)))
 
     is-closed : ClosedUnder table S
     is-closed n m e p =

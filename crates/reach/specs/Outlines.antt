@@ -8,7 +8,7 @@ use Rattle.sets.specs.Sets.{member}
 use Rattle.vocabularies.specs.Vocabulary.{isIn}
 use Rattle.pages.specs.Items.{Item, text, gap, element, Items, none, more}
 use Rattle.pages.specs.RightPages.{word}
-use Rattle.entries.specs.Gaps.{hasGap}
+use Rattle.pages.specs.Gaps.{hasGap}
 
 abbrev pub isGap : Item → ℕ → Bool
 isGap text g = false

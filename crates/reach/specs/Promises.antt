@@ -8,16 +8,16 @@ use lib.Dec.{eqb}
 use lib.ListN.{length, getD}
 use Rattle.sets.specs.Sets.{member}
 use Rattle.pages.specs.Items.{Items}
+use Rattle.pages.specs.Gaps.{GapsTable}
 use Rattle.programs.specs.Program.{templateAt}
 use Rattle.summaries.specs.Proposal.{edge}
 use Rattle.summaries.specs.Summaries.{Summary}
+use Rattle.graphs.specs.Graphs.{Keeps}
 use Rattle.patterns.specs.Morphisms.{rootMorphism}
 use Rattle.patterns.specs.Given.{Bounded}
 use Rattle.patterns.specs.Rounds.{Set, Sets, anyBelow}
 use Rattle.patterns.specs.Exactness.{Exact, YieldsExact, ReachedExact, ContentsExact}
 use Rattle.readings.specs.Readings.{Is}
-use Rattle.entries.specs.Words.{Keeps}
-use Rattle.entries.specs.Gaps.{GapsTable}
 use Rattle.reach.specs.Closures.{United, Closure}
 use Rattle.reach.specs.Outlines.{Outline}
 
@@ -36,16 +36,16 @@ pub record EdgeTable (G : Summary) (gaps : List ℕ) (count yields : ℕ) (r : L
   pub there : (n m : ℕ) → n ≤ count → n < 32 → member (getD r n 0) m ≡ (edgesBy G n (getD gaps n 0) m && member yields m)
   pub not-there : (n : ℕ) → count < n → getD r n 0 ≡ 0
 
--- The words keep a graph over templates that are there.
-pub record GraphKept (φs : List Items) (G : Summary) (words : List ℕ) (count : ℕ) : Type 0 where
-  pub keeps : Keeps words G
+-- A graph is kept, over templates that are there.
+pub record GraphKept (φs : List Items) (G : Summary) (graph : List ℕ) (count : ℕ) : Type 0 where
+  pub keeps : Keeps graph G
   pub bounded : Bounded φs G
   pub counts : count ≡ length φs
   pub few : count ≤ 31
 
 -- The templates that are reached: there is one exact set, and it is this one.
 abbrev pub TellsReached : List ℕ → List ℕ → ℕ → ℕ → ℕ → Type 0
-TellsReached words gaps count yields r = (φs : List Items) (G : Summary) → GraphKept φs G words count → GapsTable gaps φs
+TellsReached graph gaps count yields r = (φs : List Items) (G : Summary) → GraphKept φs G graph count → GapsTable gaps φs
     → YieldsExact φs G (member yields) → (S : Set) → ReachedExact φs G S → (n : ℕ) → n ≤ length φs → member r n ≡ S n
 
 -- The outline of every template.
@@ -62,5 +62,5 @@ pub record LedContents (n : ℕ) (targets contents : List ℕ) (yields r : ℕ) 
 
 -- The contents that can stand in the pages of each template: there are exact sets, and they are these.
 abbrev pub TellsContents : List ℕ → List ℕ → List ℕ → ℕ → ℕ → List ℕ → Type 0
-TellsContents words contents gaps count yields r = (φs : List Items) (G : Summary) → GraphKept φs G words count → OutlinesTo φs count contents gaps
+TellsContents graph contents gaps count yields r = (φs : List Items) (G : Summary) → GraphKept φs G graph count → OutlinesTo φs count contents gaps
     → YieldsExact φs G (member yields) → (C : Sets) → ContentsExact φs G C → (n c : ℕ) → n ≤ length φs → member (getD r n 0) c ≡ C n c

@@ -3,36 +3,33 @@
 use Prim.Native.Nat.{ℕ, _≤_, _<_}
 use mathlib.Core.Path.{_≡_}
 use mathlib.Core.List.{List}
-use mathlib.Core.Bool.{Bool, true, cond, _&&_}
-use mathlib.Core.Option.{some, none}
+use mathlib.Core.Bool.{Bool, true, _&&_}
+use mathlib.Core.Option.{some}
 use lib.ListN.{length, getD}
 use Rattle.sets.specs.Sets.{member}
+use Rattle.commands.specs.declared.Position.{Position}
 use Rattle.commands.specs.Reading.{whole}
 use Rattle.vocabularies.specs.Vocabulary.{Rule, Vocabulary, ruleOf, declared, isIn}
 use Rattle.pages.specs.declared.Kind.the-variants.{Template}
+use Rattle.pages.specs.declared.ItemHere.the-variants.{Element}
 use Rattle.pages.specs.Items.{Attribute, Item, Items, one}
-use Rattle.pages.specs.ItemReading.{attributes, item, items}
+use Rattle.pages.specs.ItemReading.{item, items}
 use Rattle.pages.specs.RightPages.{names}
 use Rattle.pages.specs.Promises.{Located}
-use Rattle.programs.specs.Program.{templateAt}
-use Rattle.judging.specs.declared.Named.{Named}
-use Rattle.judging.specs.Promises.{wrongOf}
+use Rattle.pages.specs.Steps.{itemHere}
 use Rattle.summaries.specs.Proposal.{edge}
 use Rattle.summaries.specs.Summaries.{Summary}
 use Rattle.patterns.specs.Given.{contents}
 use Rattle.patterns.specs.Rounds.{Sets, anyTemplate}
 use Rattle.patterns.specs.Reached.{contentsOf}
+use Rattle.patterns.specs.declared.Wrong.{Wrong}
 use Rattle.patterns.specs.Shows.{onlyIf, lowestMark}
+use Rattle.patterns.specs.LowestWrong.{wrongIn, LowestWrong, Passing}
 use Rattle.reach.specs.declared.WalkedElement.{WalkedElement}
 use Rattle.reach.specs.declared.WalkedItems.{WalkedItems}
 use Rattle.reach.specs.Outlines.{Outline}
 use Rattle.reach.specs.PlainlyWrong.{plainlyUnder, plainlyWrong}
 use Rattle.reach.specs.Promises.{GraphKept}
-
--- The names of the attributes that stand at an offset, and their end.
-abbrev pub NamesAt : List ℕ → ℕ → Named → Type 0
-NamesAt s at r = (f end : ℕ) (before : List ℕ) (δ : List Attribute) → attributes f Template s before at ≡ whole δ end
-    → (r .next .at ≡ end) × ((a : ℕ) → member (r .names) a ≡ isIn a (names δ))
 
 -- The allowed attributes and contents of each element that has a rule, as sets.
 pub record RulesKept (D : Vocabulary) (allowed held : List ℕ) : Type 0 where
@@ -51,53 +48,52 @@ module _ (φs : List Items) (G : Summary) (C : Sets) (n : ℕ) where
     pub has-contents : (c : ℕ) → c < contents → member inside c ≡ contentsOf φs G C n φ c
     pub holds : (c : ℕ) → member held c ≡ isIn c (R .contents)
 
--- The offset of an element that is plainly wrong, and 1; or 0.
-abbrev pub TellsOutside : ℕ → ℕ → ℕ → ℕ → ℕ → ℕ → Type 0
-TellsOutside at named allowed inside held r = (φs : List Items) (G : Summary) (C : Sets) (n : ℕ) (R : Rule) (δ : List Attribute) (φ : Items)
-    → Compared φs G C n R δ φ named allowed inside held → wrongOf r ≡ onlyIf (plainlyUnder φs G C R n δ φ) at
+-- The element at an offset of template n, if it is plainly wrong.
+abbrev pub TellsOutside : ℕ → ℕ → ℕ → ℕ → ℕ → ℕ → Wrong → Type 0
+TellsOutside n at named allowed inside held r = (φs : List Items) (G : Summary) (C : Sets) (R : Rule) (δ : List Attribute) (φ : Items)
+    → Compared φs G C n R δ φ named allowed inside held → r ≡ wrongIn n (onlyIf (plainlyUnder φs G C R n δ φ) at)
 
--- The lowest element of some items that is plainly wrong, where elements that have a rule are read alone.
-abbrev pub FindsWrong : (ℕ → Bool) → List ℕ → List ℕ → List ℕ → Items → ℕ → Type 0
-FindsWrong ruled allowed held brings φ wrong = (φs : List Items) (G : Summary) (C : Sets) (n : ℕ) (D : Vocabulary) → RulesKept D allowed held
+-- The lowest element of some items of template n that is plainly wrong, where elements that have a rule are read alone.
+abbrev pub FindsWrong : (ℕ → Bool) → List ℕ → List ℕ → List ℕ → ℕ → Items → Wrong → Type 0
+FindsWrong ruled allowed held brings n φ wrong = (φs : List Items) (G : Summary) (C : Sets) (D : Vocabulary) → RulesKept D allowed held
     → Brings φs G C n brings → ((e : ℕ) → ruled e ≡ true → declared (D .rules) e ≡ true)
-    → wrongOf wrong ≡ lowestMark (λ e mark δ χ. plainlyWrong φs G C D n e δ χ) φ
+    → wrong ≡ wrongIn n (lowestMark (λ e mark δ χ. plainlyWrong φs G C D n e δ χ) φ)
 
 -- What is told of an element, and of a list of items.
-pub record ElementWalked (ruled : ℕ → Bool) (allowed held brings : List ℕ) (i : Item) (end : ℕ) (r : WalkedElement) : Type 0 where
+pub record ElementWalked (ruled : ℕ → Bool) (allowed held brings : List ℕ) (n : ℕ) (i : Item) (end : ℕ) (r : WalkedElement) : Type 0 where
   pub ends : r .next .at ≡ end
-  pub finds : FindsWrong ruled allowed held brings (one i) (r .wrong)
+  pub finds : FindsWrong ruled allowed held brings n (one i) (r .wrong)
 
-pub record ItemsWalked (ruled : ℕ → Bool) (allowed held brings : List ℕ) (φ : Items) (end : ℕ) (r : WalkedItems) : Type 0 where
+pub record ItemsWalked (ruled : ℕ → Bool) (allowed held brings : List ℕ) (n : ℕ) (φ : Items) (end : ℕ) (r : WalkedItems) : Type 0 where
   pub ends : r .next .at ≡ end
   pub outline : Outline φ (r .inside) (r .gaps)
-  pub finds : FindsWrong ruled allowed held brings φ (r .wrong)
+  pub finds : FindsWrong ruled allowed held brings n φ (r .wrong)
 
-abbrev pub WalksElement : List ℕ → List ℕ → List ℕ → List ℕ → ℕ → WalkedElement → Type 0
-WalksElement s allowed held brings at r = (ruled : ℕ → Bool) (f depth end : ℕ) (i : Item) → item f Template ruled s depth at ≡ whole i end
-    → ElementWalked ruled allowed held brings i end r
+abbrev pub WalksElement : List ℕ → List ℕ → List ℕ → List ℕ → ℕ → ℕ → ℕ → Position → WalkedElement → Type 0
+WalksElement s allowed held brings n at e start r = (ruled : ℕ → Bool) (f depth end : ℕ) (i : Item) → item f Template ruled s depth at ≡ whole i end
+    → Element e start ≡ itemHere s at → ElementWalked ruled allowed held brings n i end r
 
-abbrev pub WalksItems : List ℕ → List ℕ → List ℕ → List ℕ → ℕ → WalkedItems → Type 0
-WalksItems s allowed held brings at r = (ruled : ℕ → Bool) (f depth end : ℕ) (φ : Items) → items f Template ruled s depth at ≡ whole φ end
-    → ItemsWalked ruled allowed held brings φ end r
+abbrev pub WalksItems : List ℕ → List ℕ → List ℕ → List ℕ → ℕ → ℕ → WalkedItems → Type 0
+WalksItems s allowed held brings n at r = (ruled : ℕ → Bool) (f depth end : ℕ) (φ : Items) → items f Template ruled s depth at ≡ whole φ end
+    → ItemsWalked ruled allowed held brings n φ end r
 
 -- The words have the contents that can stand in the pages of each template.
 abbrev pub ContentsKept : List Items → Sets → List ℕ → Type 0
 ContentsKept φs C within = (n c : ℕ) → n ≤ length φs → c < contents → member (getD within n 0) c ≡ C n c
 
 abbrev pub TellsBrings : List ℕ → ℕ → List ℕ → List ℕ → Type 0
-TellsBrings words n within r = (φs : List Items) (G : Summary) (C : Sets) (count : ℕ) → GraphKept φs G words count → ContentsKept φs C within
+TellsBrings graph n within r = (φs : List Items) (G : Summary) (C : Sets) (count : ℕ) → GraphKept φs G graph count → ContentsKept φs C within
     → Brings φs G C n r
 
 -- The lowest element that is plainly wrong in items of template n that stand at an offset.
-abbrev pub TellsWrongIn : List ℕ → List ℕ → List ℕ → ℕ → List ℕ → ℕ → List ℕ → ℕ → Type 0
-TellsWrongIn s allowed held at words n within r = (φs : List Items) (G : Summary) (C : Sets) (D : Vocabulary) (count : ℕ)
-    → GraphKept φs G words count → RulesKept D allowed held → ContentsKept φs C within
+abbrev pub TellsWrongIn : List ℕ → List ℕ → List ℕ → ℕ → List ℕ → ℕ → List ℕ → Wrong → Type 0
+TellsWrongIn s allowed held at graph n within r = (φs : List Items) (G : Summary) (C : Sets) (D : Vocabulary) (count : ℕ)
+    → GraphKept φs G graph count → RulesKept D allowed held → ContentsKept φs C within
     → (f end : ℕ) (φ : Items) → items f Template (declared (D .rules)) s 0 at ≡ whole φ end
-    → wrongOf r ≡ lowestMark (λ e mark δ χ. plainlyWrong φs G C D n e δ χ) φ
+    → r ≡ wrongIn n (lowestMark (λ e mark δ χ. plainlyWrong φs G C D n e δ χ) φ)
 
--- The lowest element of each template of a set that is plainly wrong, and none for the other templates.
-abbrev pub TellsPlainlyWrong : List ℕ → List ℕ → List ℕ → List ℕ → ℕ → List ℕ → List ℕ → ℕ → List ℕ → Type 0
-TellsPlainlyWrong s allowed held starts count words within reached r = (φs : List Items) (G : Summary) (C : Sets) (D : Vocabulary)
-    → GraphKept φs G words count → RulesKept D allowed held → Located (declared (D .rules)) s φs count starts
-    → ContentsKept φs C within → (n : ℕ) → n ≤ length φs
-    → wrongOf (getD r n 0) ≡ cond (member reached n) (lowestMark (λ e mark δ φ. plainlyWrong φs G C D n e δ φ) (templateAt φs n)) none
+-- The lowest element of the templates of a set that is plainly wrong.
+abbrev pub TellsPlainlyWrong : List ℕ → List ℕ → List ℕ → List ℕ → ℕ → List ℕ → List ℕ → ℕ → Wrong → Type 0
+TellsPlainlyWrong s allowed held starts count graph within reached r = (φs : List Items) (G : Summary) (C : Sets) (D : Vocabulary)
+    → GraphKept φs G graph count → RulesKept D allowed held → Located (declared (D .rules)) s φs count starts → ContentsKept φs C within
+    → LowestWrong (Passing φs reached (λ n e mark δ φ. plainlyWrong φs G C D n e δ φ)) r

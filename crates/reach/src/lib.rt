@@ -1,47 +1,21 @@
 // Which templates are reached in a show, which contents can stand in the pages of each, and the elements that are wrong by the names
 // of their attributes or by their contents.
 ghost use mathlib.Core.Path.{_≡_};
-ghost use mathlib.Core.Bool.{_&&_, _||_};
-ghost use Prim.Native.Nat.{ℕ, _^_, _≤_, _<_};
-ghost use lib.Dec.{eqb};
+ghost use Prim.Native.Nat.{ℕ, _≤_, _<_};
 ghost use lib.ListN.{length};
 ghost use Rattle.sets.specs.Sets.{member};
-ghost use Rattle.commands.specs.Commands.{byte};
 ghost use Rattle.summaries.specs.Summaries.{Summary};
-ghost use Rattle.judging.specs.Promises.{wrongOf};
-ghost use Rattle.patterns.specs.Shows as Shows;
-ghost use Rattle.entries.specs.Words.{Keeps};
+ghost use Rattle.graphs.specs.Graphs.{Keeps};
 ghost use Rattle.reach.specs.Closures.{United, Closure};
 ghost use Rattle.reach.specs.Promises.{TellsYielding, edgesBy, EdgeTable, TellsReached, LedContents, TellsContents};
-ghost use Rattle.reach.specs.Walking.{NamesAt, TellsOutside, WalksElement, WalksItems, TellsBrings, TellsWrongIn, TellsPlainlyWrong};
+ghost use Rattle.reach.specs.Walking.{TellsOutside, WalksElement, WalksItems, TellsBrings, TellsWrongIn, TellsPlainlyWrong};
 use commands::Position;
-use judging::Named;
+use graphs::Graph;
+use pages::ItemHere;
+use patterns::Wrong;
 
-// The lower of two offsets, each with 1 added, or 0 for none.
-pub fn lower(a: usize, b: usize) -> usize
-    ensures { λ r. ⌜ wrongOf r ≡ Shows.lower (wrongOf a) (wrongOf b) ⌝ }
-{
-    if a == 0 {
-        return b;
-    }
-    if b == 0 {
-        return a;
-    }
-    if a <= b {
-        return a;
-    }
-    b
-}
-
-fn with_if(set: u64, n: u8, is_in: bool) -> u64
-    requires { ⌜ n < 64 ⌝ }
-    ensures { λ r. ⌜ ((k : ℕ) → member r k ≡ ((eqb k n && «is_in») || member set k)) ⌝ }
-{
-    if is_in {
-        return sets::with(set, n);
-    }
-    set
-}
+// Content 0 is text, the others are elements.
+const TEXT: u8 = 0;
 
 // The templates whose set of kinds is not empty.
 pub fn yielding(kinds: [[u64; 4]; 32], count: usize) -> u64
@@ -54,7 +28,7 @@ pub fn yielding(kinds: [[u64; 4]; 32], count: usize) -> u64
         if count < t {
             return yields;
         }
-        yields = with_if(yields, n, !pattern_sets::is_empty(kinds[t]));
+        yields = sets::with_if(yields, n, !pattern_sets::is_empty(kinds[t]));
         n += 1;
     }
     yields
@@ -66,14 +40,14 @@ fn union_of(first: u64, set: u64, table: &[u64]) -> u64
     ensures { λ r. ⌜ United first set (now (table .entry)) r ⌝ }
 {
     let mut all = first;
-    let mut i = pattern_sets::first_member(set, 0);
+    let mut i = sets::first_member(set, 0);
     while i < 64 {
         let k = i as usize;
         if table.len() <= k {
             return all;
         }
         all = sets::union(all, table[k]);
-        i = pattern_sets::first_member(set, i + 1);
+        i = sets::first_member(set, i + 1);
     }
     all
 }
@@ -90,23 +64,28 @@ fn closure(set: u64, table: &[u64]) -> u64
         if more == all {
             return all;
         }
-        fresh = pattern_sets::without(more, all);
+        fresh = sets::without(more, all);
         all = more;
     }
 }
 
 // The templates to which the gaps of a set lead from template n.
-fn edges_of(words: &[u64], n: usize, gaps: u64) -> u64
-    requires { ⌜ (n < 32) × (length (now words) ≡ 544) ⌝ }
-    ensures { λ r. ⌜ ((G : Summary) → Keeps (now (words .entry)) G → (m : ℕ) → member r m ≡ edgesBy G n gaps m) ⌝ }
+fn edges_of(graph: &Graph, n: usize, gaps: u64) -> u64
+    requires { ⌜ n < 32 ⌝ }
+    ensures { λ r. ⌜ ((G : Summary) → Keeps (now (graph .entry)) G → (m : ℕ) → member r m ≡ edgesBy G n gaps m) ⌝ }
 {
-    let from = 32 + n * 8;
-    union_of(0, gaps, &words[from..from + 8])
+    let mut all: u64 = 0;
+    let mut g = sets::first_member(gaps, 0);
+    while g < 8 {
+        all = sets::union(all, graphs::edges(graph, n as u8, g as u8));
+        g = sets::first_member(gaps, g + 1);
+    }
+    all
 }
 
 // The edges from each template, by the gaps that are given, to the templates of a set.
-fn edge_table(words: &[u64; 544], gaps: &[u64; 32], count: usize, yields: u64) -> [u64; 32]
-    ensures { λ r. ⌜ ((G : Summary) → Keeps (now (words .entry)) G → EdgeTable G (now (gaps .entry)) count yields r) ⌝ }
+fn edge_table(graph: &Graph, gaps: &[u64; 32], count: usize, yields: u64) -> [u64; 32]
+    ensures { λ r. ⌜ ((G : Summary) → Keeps (now (graph .entry)) G → EdgeTable G (now (gaps .entry)) count yields r) ⌝ }
 {
     let mut table = [0u64; 32];
     let mut n = 0;
@@ -114,25 +93,25 @@ fn edge_table(words: &[u64; 544], gaps: &[u64; 32], count: usize, yields: u64) -
         if count < n {
             return table;
         }
-        table[n] = pattern_sets::common(edges_of(words, n, gaps[n]), yields);
+        table[n] = sets::common(edges_of(graph, n, gaps[n]), yields);
         n += 1;
     }
     table
 }
 
 // The templates that are reached from a root, through templates of which pages come.
-pub fn reached(words: &[u64; 544], gaps: &[u64; 32], count: usize, yields: u64) -> u64
-    ensures { λ r. ⌜ TellsReached (now (words .entry)) (now (gaps .entry)) count yields r ⌝ }
+pub fn reached(graph: &Graph, gaps: &[u64; 32], count: usize, yields: u64) -> u64
+    ensures { λ r. ⌜ TellsReached (now (graph .entry)) (now (gaps .entry)) count yields r ⌝ }
 {
-    let edges = edge_table(words, gaps, count, yields);
-    closure(pattern_sets::common(words[0], yields), &edges)
+    let edges = edge_table(graph, gaps, count, yields);
+    closure(sets::common(graphs::roots(graph), yields), &edges)
 }
 
 // An element of a template that was walked over: the position after it, and the lowest element in it, itself one of them, that is plainly
-// wrong, as its offset and 1, or 0 if none is.
+// wrong.
 pub struct WalkedElement {
     pub next: Position,
-    pub wrong: usize,
+    pub wrong: Wrong,
 }
 
 // The same of a list of items, with the contents and the gaps that stand among the outer ones.
@@ -140,113 +119,94 @@ pub struct WalkedItems {
     pub inside: u64,
     pub gaps: u64,
     pub next: Position,
-    pub wrong: usize,
+    pub wrong: Wrong,
 }
 
-// The names of the attributes straight after `23 e`.
-pub fn names_at(s: &[u8], here: Position) -> Named
-    ensures forward { λ r. ⌜ here .at ≤ r .next .at ⌝ }
-    ensures named { λ r. ⌜ NamesAt (now (s .entry)) (here .at) r ⌝ }
-{
-    let mut at = here.at;
-    let mut names: u64 = 0;
-    while languages::is_attribute(s, at) {
-        names = sets::with(names, commands::byte_at(s, at + 1) % 64);
-        at += 3;
-    }
-    Named {
-        names,
-        next: Position { at },
-    }
-}
-
-// The offset of an element and 1, if it has an attribute or a content that is not allowed.
-fn outside_at(at: usize, names: u64, attributes: u64, inside: u64, contents: u64) -> usize
-    requires { ⌜ at < 2 ^ 63 ⌝ }
-    ensures { λ r. ⌜ TellsOutside at names attributes inside contents r ⌝ }
+// The element at an offset of template n, if it has an attribute or a content that is not allowed.
+fn outside_at(n: usize, at: usize, names: u64, attributes: u64, inside: u64, contents: u64) -> Wrong
+    ensures { λ r. ⌜ TellsOutside n at names attributes inside contents r ⌝ }
 {
     if !sets::is_within(names, attributes) {
-        return at + 1;
+        return Wrong::At { template: n, at };
     }
     if !sets::is_within(inside, contents) {
-        return at + 1;
+        return Wrong::At { template: n, at };
     }
-    0
+    Wrong::Nowhere
 }
 
-// The element here, under the rules whose tables are given; `brings` has the contents that each gap can bring.
+// The element e here, of template n, whose attributes stand at `start`, under the rules whose tables are given; `brings` has the
+// contents that each gap can bring.
 fn walk_element(
     s: &[u8],
     attributes: &[u64; 64],
     contents: &[u64; 64],
     brings: &[u64; 8],
+    n: usize,
     here: Position,
+    e: u8,
+    start: Position,
 ) -> WalkedElement
-    requires { ⌜ (here .at < length (now s)) × (byte (now s) (here .at) ≡ 0x23) ⌝ }
-    ensures forward { λ r. ⌜ here .at < r .next .at ⌝ }
-    ensures walked { λ r. ⌜ WalksElement (now (s .entry)) (now (attributes .entry)) (now (contents .entry)) (now (brings .entry)) (here .at) r ⌝ }
+    requires { ⌜ e < 64 ⌝ }
+    ensures forward { λ r. ⌜ start .at ≤ r .next .at ⌝ }
+    ensures walked { λ r. ⌜ WalksElement (now (s .entry)) (now (attributes .entry)) (now (contents .entry)) (now (brings .entry)) n (here .at) e start r ⌝ }
 {
-    let at = here.at;
-    let e = (commands::byte_at(s, at + 1) % 64) as usize;
-    let named = names_at(s, Position { at: at + 2 });
-    let start = named.next;
-    let list = walk_items(s, attributes, contents, brings, start);
+    let named = pages::names_at(s, start);
+    let first = named.next;
+    let list = walk_items(s, attributes, contents, brings, n, first);
     let inside = union_of(list.inside, list.gaps, brings);
-    let wrong = outside_at(at, named.names, attributes[e], inside, contents[e]);
+    let i = e as usize;
+    let own = outside_at(n, here.at, named.names, attributes[i], inside, contents[i]);
+    let inner = list.wrong;
     let next = list.next;
     WalkedElement {
         next,
-        wrong: lower(wrong, list.wrong),
+        wrong: patterns::lower(own, inner),
     }
 }
 
-// The items from here on, up to and with what ends them.
+// The items from here on, of template n, up to and with what ends them.
 fn walk_items(
     s: &[u8],
     attributes: &[u64; 64],
     contents: &[u64; 64],
     brings: &[u64; 8],
-    here: Position,
+    n: usize,
+    start: Position,
 ) -> WalkedItems
-    ensures forward { λ r. ⌜ here .at ≤ r .next .at ⌝ }
-    ensures walked { λ r. ⌜ WalksItems (now (s .entry)) (now (attributes .entry)) (now (contents .entry)) (now (brings .entry)) (here .at) r ⌝ }
+    ensures forward { λ r. ⌜ start .at ≤ r .next .at ⌝ }
+    ensures walked { λ r. ⌜ WalksItems (now (s .entry)) (now (attributes .entry)) (now (contents .entry)) (now (brings .entry)) n (start .at) r ⌝ }
 {
-    let mut at = here.at;
+    let mut here = start;
     let mut inside: u64 = 0;
     let mut gaps: u64 = 0;
-    let mut wrong: usize = 0;
-    while at < s.len() {
-        match s[at] {
-            0x21 => {
-                inside = sets::with(inside, 0);
-                at += 1;
+    let mut wrong = Wrong::Nowhere;
+    loop {
+        match pages::item_here(s, here) {
+            ItemHere::Text(next) => {
+                inside = sets::with(inside, TEXT);
+                here = next;
             }
-            0x22 => {
-                gaps = sets::with(gaps, commands::byte_at(s, at + 1) % 8);
-                at += 2;
+            ItemHere::Gap(g, next) => {
+                gaps = sets::with(gaps, g);
+                here = next;
             }
-            0x23 => {
-                inside = sets::with(inside, commands::byte_at(s, at + 1) % 64);
-                let element = walk_element(s, attributes, contents, brings, Position { at });
-                wrong = lower(wrong, element.wrong);
-                let next = element.next;
-                at = next.at;
+            ItemHere::Element(e, first) => {
+                inside = sets::with(inside, e);
+                let element = walk_element(s, attributes, contents, brings, n, here, e, first);
+                let own = element.wrong;
+                wrong = patterns::lower(wrong, own);
+                here = element.next;
             }
-            _ => {
+            ItemHere::End(next) => {
                 return WalkedItems {
                     inside,
                     gaps,
-                    next: Position { at: at + 1 },
+                    next,
                     wrong,
                 };
             }
         }
-    }
-    WalkedItems {
-        inside,
-        gaps,
-        next: Position { at },
-        wrong,
     }
 }
 
@@ -255,21 +215,21 @@ fn contents_at(n: u8, targets: &[u64], contents: &[u64], yields: u64) -> u64
     requires { ⌜ (n < 64) × (length (now targets) < 64) × (length (now contents) < 64) ⌝ }
     ensures { λ r. ⌜ LedContents n (now (targets .entry)) (now (contents .entry)) yields r ⌝ }
 {
-    let start = with_if(0, n, sets::has(yields, n));
+    let start = sets::with_if(0, n, sets::has(yields, n));
     union_of(0, closure(start, targets), contents)
 }
 
 // The contents that can stand in the pages of each template, from the outlines. Gaps inside elements bring none.
 pub fn contents_of(
-    words: &[u64; 544],
+    graph: &Graph,
     contents: &[u64; 32],
     gaps: &[u64; 32],
     count: usize,
     yields: u64,
 ) -> [u64; 32]
-    ensures { λ r. ⌜ TellsContents (now (words .entry)) (now (contents .entry)) (now (gaps .entry)) count yields r ⌝ }
+    ensures { λ r. ⌜ TellsContents (now (graph .entry)) (now (contents .entry)) (now (gaps .entry)) count yields r ⌝ }
 {
-    let targets = edge_table(words, gaps, count, yields);
+    let targets = edge_table(graph, gaps, count, yields);
     let mut table = [0u64; 32];
     let mut n = 0;
     while n < 32 {
@@ -283,15 +243,14 @@ pub fn contents_of(
 }
 
 // The contents that each gap of template n can bring.
-fn brings_of(words: &[u64; 544], n: usize, within: &[u64; 32]) -> [u64; 8]
+fn brings_of(graph: &Graph, n: usize, within: &[u64; 32]) -> [u64; 8]
     requires { ⌜ n < 32 ⌝ }
-    ensures { λ r. ⌜ TellsBrings (now (words .entry)) n (now (within .entry)) r ⌝ }
+    ensures { λ r. ⌜ TellsBrings (now (graph .entry)) n (now (within .entry)) r ⌝ }
 {
     let mut brings = [0u64; 8];
-    let mut g = 0;
+    let mut g: u8 = 0;
     while g < 8 {
-        let word = 32 + n * 8 + g;
-        brings[g] = union_of(0, words[word], within);
+        brings[g as usize] = union_of(0, graphs::edges(graph, n as u8, g), within);
         g += 1;
     }
     brings
@@ -303,42 +262,43 @@ fn wrong_in(
     attributes: &[u64; 64],
     contents: &[u64; 64],
     at: usize,
-    words: &[u64; 544],
+    graph: &Graph,
     n: usize,
     within: &[u64; 32],
-) -> usize
+) -> Wrong
     requires { ⌜ n < 32 ⌝ }
-    ensures { λ r. ⌜ TellsWrongIn (now (s .entry)) (now (attributes .entry)) (now (contents .entry)) at (now (words .entry)) n (now (within .entry)) r ⌝ }
+    ensures { λ r. ⌜ TellsWrongIn (now (s .entry)) (now (attributes .entry)) (now (contents .entry)) at (now (graph .entry)) n (now (within .entry)) r ⌝ }
 {
-    let brings = brings_of(words, n, within);
-    let walked = walk_items(s, attributes, contents, &brings, Position { at });
-    walked.wrong
+    let brings = brings_of(graph, n, within);
+    let walked = walk_items(s, attributes, contents, &brings, n, Position::new(at));
+    let wrong = walked.wrong;
+    wrong
 }
 
-// The lowest element of each template of a set that is wrong by the names of its attributes or by its contents, as its offset and 1,
-// or 0 if none is; 0 for the other templates. `within` has the contents that can stand in the pages of each template.
+// The lowest element of the templates of a set that is wrong by the names of its attributes or by its contents. `within` has the
+// contents that can stand in the pages of each template.
 pub fn plainly_wrong(
     s: &[u8],
     attributes: &[u64; 64],
     contents: &[u64; 64],
     starts: &[usize; 32],
     count: usize,
-    words: &[u64; 544],
+    graph: &Graph,
     within: &[u64; 32],
     reached: u64,
-) -> [usize; 32]
-    ensures { λ r. ⌜ TellsPlainlyWrong (now (s .entry)) (now (attributes .entry)) (now (contents .entry)) (now (starts .entry)) count (now (words .entry)) (now (within .entry)) reached r ⌝ }
+) -> Wrong
+    ensures { λ r. ⌜ TellsPlainlyWrong (now (s .entry)) (now (attributes .entry)) (now (contents .entry)) (now (starts .entry)) count (now (graph .entry)) (now (within .entry)) reached r ⌝ }
 {
-    let mut table = [0usize; 32];
-    let mut n = 1;
-    while n < 32 {
+    let mut lowest = Wrong::Nowhere;
+    let mut t = sets::first_member(reached, 1);
+    while t < 32 {
+        let n = t as usize;
         if count < n {
-            return table;
+            return lowest;
         }
-        if sets::has(reached, n as u8) {
-            table[n] = wrong_in(s, attributes, contents, starts[n], words, n, within);
-        }
-        n += 1;
+        let found = wrong_in(s, attributes, contents, starts[n], graph, n, within);
+        lowest = patterns::lower(lowest, found);
+        t = sets::first_member(reached, t + 1);
     }
-    table
+    lowest
 }

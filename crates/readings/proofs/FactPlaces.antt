@@ -16,7 +16,7 @@ use Rattle.patterns.specs.Patterns.{flagIn}
 use Rattle.patterns.proofs.Tests.{failed}
 use Rattle.patterns.proofs.Facts.{same-fact, fact-same}
 use Rattle.readings.specs.Readings.{Distinct, placeOf}
-use Rattle.pattern_sets.proofs.Members.{member-head, member-tail}
+use Rattle.sets.proofs.Laws.{member-head, member-tail}
 
 -- A pattern's flag of a fact is its bit at the fact's place.
 pub flag-placed : (fs : List Fact) (f : Fact) (x : ℕ) → x < 2 ^ length fs → flagIn fs x f ≡ member x (placeOf f fs)

@@ -1,5 +1,5 @@
 -- The operations of a reading as the code works them out.
-use Prim.Native.Nat.{ℕ, zero, _+_, _*_, _%_, _^_, _<_, _≤_}
+use Prim.Native.Nat.{ℕ, _*_, _%_, _^_, _<_, _≤_}
 use mathlib.Core.Path.{_≡_, refl, sym, ap, _∙_}
 use mathlib.Core.List.{List, [], _∷_}
 use mathlib.Core.Bool.{Bool, true, false, cond, _&&_, _||_, and-false, and-comm, or-false, or-comm, false≢true}
@@ -12,23 +12,22 @@ use borrow.Author.Tests.{eq-eqb, ne-eqb, ltb-true, ltb-false}
 use Rattle.sets.specs.Sets.{member}
 use Rattle.sets.proofs.Laws.{member-and, member-or, member-zero, member-high, member-single}
 use Rattle.vocabularies.specs.Vocabulary.{isIn}
-use Rattle.vocabularies.specs.declared.Facts.{Facts}
 use Rattle.vocabularies.specs.Facts.{Fact, present, ordered, valued, sameFact}
 use Rattle.judging.specs.Judgement.{precedes, holdsValue}
-use Rattle.patterns.specs.Patterns.{flagged, numbered, patternOf, flagIn, joinedFlag, join}
+use Rattle.patterns.specs.Patterns.{flagged, patternOf, flagIn, joinedFlag, join}
 use Rattle.patterns.specs.Morphisms as Morphisms
 use Rattle.patterns.specs.Morphisms.{kindOf}
 use Rattle.patterns.proofs.Clauses.{numbered-below}
 use Rattle.patterns.proofs.Bits.{pattern-of-nothing}
 use Rattle.readings.specs.declared.Reading.{Reading}
 use Rattle.readings.specs.Readings.{placeOf, beforeOf, afterOf, ReadsFacts, Reads, of-facts, of-root}
-use Rattle.readings.specs.Promises.{TellsPresent, ContentPattern, ReadsOne, Joins, Spreads, Places}
+use Rattle.readings.specs.Promises.{ReadsOne, Joins, Spreads, Places}
 use Rattle.pattern_sets.specs.Images.{flagAt, joinedBy, Apart}
 use Rattle.pattern_sets.proofs.Booleans.{or-absent}
 use Rattle.pattern_sets.proofs.Flags.{pattern-below, pattern-bit, pattern-high, pattern-is, pattern-same}
 use Rattle.readings.proofs.Numbers.{numbered-is}
 use Rattle.readings.proofs.FactPlaces.{flag-placed, fact-placed, place-le, place-at, same-place}
-use Rattle.readings.proofs.Placing.{few-count, content-written, From, place-none, place-last, place-found, from-next}
+use Rattle.readings.proofs.Placing.{few-count}
 
 -- ---- the facts of a clause
 
@@ -88,9 +87,9 @@ module _ (r : Reading) (fs : List Fact) (h : ReadsFacts r fs) where
       (λ i l. at i ∙ sym (one-flag c (getD fs i (present 0)) ∙ same-place fs (h .distinct) (present c) i l))
       (λ i l. at i ∙ ne-eqb i (placeOf (present c) fs) (λ e. omega arith))
 
-  pub single-flag : (c place : ℕ) → place < 8 → place < r .facts .count → Places (r .facts) 0 c 0 place → (1 * 2 ^ place) % 2 ^ 8 ≡ patternOf fs [] (c ∷ [])
+  pub single-flag : (c place : ℕ) → place < 8 → place < r .facts .count → Places (r .facts) (present c) place → (1 * 2 ^ place) % 2 ^ 8 ≡ patternOf fs [] (c ∷ [])
   single-flag c place b l p =
-      let e : place ≡ placeOf (present c) fs = p .place fs (h .represents) (h .few) (present c) (content-written c) in
+      let e : place ≡ placeOf (present c) fs = p .place fs (h .represents) (h .few) in
       let n : r .facts .count ≡ length fs = few-count (r .facts) fs (h .represents) (h .few) in
       let s : (1 * 2 ^ place) % 2 ^ 8 ≡ 1 * 2 ^ place = shl-exact {a = 1} 1 place 8 (lit< tt) (omega arith) in
       let m : 2 ^ place < 2 ^ 8 = pow-lt b in
@@ -105,9 +104,9 @@ module _ (r : Reading) (fs : List Fact) (h : ReadsFacts r fs) where
       (λ i b. member-zero i ∙ sym (one-flag c (getD fs i (present 0)) ∙ same-place fs (h .distinct) (present c) i b ∙ ne-eqb i (placeOf (present c) fs) (λ q. omega arith)))
       (λ i b. member-zero i)
 
-  pub single-none : (c place : ℕ) → length fs ≤ place → Places (r .facts) 0 c 0 place → 0 ≡ patternOf fs [] (c ∷ [])
+  pub single-none : (c place : ℕ) → length fs ≤ place → Places (r .facts) (present c) place → 0 ≡ patternOf fs [] (c ∷ [])
   single-none c place l p =
-      let e : place ≡ placeOf (present c) fs = p .place fs (h .represents) (h .few) (present c) (content-written c) in
+      let e : place ≡ placeOf (present c) fs = p .place fs (h .represents) (h .few) in
       absent-none c (omega arith)
 
   module _ (x y : ℕ) (p : x < 2 ^ length fs) (q : y < 2 ^ length fs) where
@@ -209,17 +208,17 @@ module _ (r : Reading) (plain : r .rooted ≡ false) where
   not-root : r .rooted ≡ true → ⊥
   not-root e = false≢true (sym plain ∙ e)
 
-  pub single-found : (c place : ℕ) → place < 8 → place < r .facts .count → Places (r .facts) 0 c 0 place → ReadsOne r c ((1 * 2 ^ place) % 2 ^ 8)
+  pub single-found : (c place : ℕ) → place < 8 → place < r .facts .count → Places (r .facts) (present c) place → ReadsOne r c ((1 * 2 ^ place) % 2 ^ 8)
   single-found c place b l p R (of-facts {fs} h) = single-flag r fs h c place b l p
   single-found c place b l p R (of-root e) = absurd (not-root e)
 
-  pub single-absent : (c place : ℕ) → r .facts .count ≤ place → Places (r .facts) 0 c 0 place → ReadsOne r c 0
+  pub single-absent : (c place : ℕ) → r .facts .count ≤ place → Places (r .facts) (present c) place → ReadsOne r c 0
   single-absent c place l p R (of-facts {fs} h) =
       let n : r .facts .count ≡ length fs = few-count (r .facts) fs (h .represents) (h .few) in
       single-none r fs h c place (omega arith) p
   single-absent c place l p R (of-root e) = absurd (not-root e)
 
-  pub single-nowhere : (c place : ℕ) → 8 ≤ place → Places (r .facts) 0 c 0 place → ReadsOne r c 0
+  pub single-nowhere : (c place : ℕ) → 8 ≤ place → Places (r .facts) (present c) place → ReadsOne r c 0
   single-nowhere c place l p R (of-facts {fs} h) = single-none r fs h c place (omega (arith, h .few)) p
   single-nowhere c place l p R (of-root e) = absurd (not-root e)
 
@@ -227,27 +226,6 @@ module _ (r : Reading) (plain : r .rooted ≡ false) where
       → Joins r x y (bitOr (bitOr x y) (bitAnd sx sy))
   joins-flags x y sx sy ex ey b R (of-facts {fs} h) p q = joined-spread r fs h x y p q sx sy ex ey b
   joins-flags x y sx sy ex ey b R (of-root e) p q = absurd (not-root e)
-
--- The search for the place of a content.
-module _ (kinds firsts : List ℕ) (count c : ℕ) where
-  -- The fact that the content is present stands at no place before this one.
-  abbrev pub Later : ℕ → Type 0
-  Later i = (t : Facts) → t .kinds ≡ kinds → t .firsts ≡ firsts → t .count ≡ count → From t 0 c 0 i
-
-  module _ (i : ℕ) (later : Later i) where
-    pub pattern-none : i ≤ 8 → count ≤ i → ContentPattern kinds firsts count c 0
-    pattern-none b l r plain k f n = single-absent r plain c i (omega arith) (place-none (r .facts) 0 c 0 i b (omega arith) (later (r .facts) k f n))
-
-    pub pattern-last : 8 ≤ i → ContentPattern kinds firsts count c 0
-    pattern-last l r plain k f n = single-nowhere r plain c 8 (omega arith) (place-last (r .facts) 0 c 0 i l (later (r .facts) k f n))
-
-    module _ (b : i < 8) (here : i < count) (told : Bool) (tells : TellsPresent kinds firsts i c told) where
-      pub pattern-found : told ≡ true → ContentPattern kinds firsts count c ((1 * 2 ^ i) % 2 ^ 8)
-      pattern-found e r plain k f n =
-          single-found r plain c i b (omega arith) (place-found (r .facts) 0 c 0 i b (omega arith) (later (r .facts) k f n) told (tells (r .facts) k f) e)
-
-      pub later-next : told ≡ false → Later (i + 1)
-      later-next e t k f n = from-next t 0 c 0 i b (omega arith) (later t k f n) told (tells t k f) e
 
 -- What a morphism has that is read.
 module _ {r : Reading} where

@@ -5,4 +5,3 @@ pub mod Spreading
 pub mod Joining
 pub mod WordKinds
 pub mod Products
-pub mod FactContents

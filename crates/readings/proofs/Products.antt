@@ -1,8 +1,8 @@
 -- Sets whose patterns are joined are the product.
 use Prim.Native.Nat.{ℕ, _<_, _≤_}
-use mathlib.Core.Path.{_≡_, refl, sym, ap, subst, _∙_}
+use mathlib.Core.Path.{_≡_, refl, sym, subst, _∙_}
 use mathlib.Core.List.{List}
-use mathlib.Core.Bool.{Bool, true, false, _&&_, false≢true}
+use mathlib.Core.Bool.{Bool, true, false, cond, _&&_, false≢true}
 use native.Mathlib.Omega.{arith}
 use lib.Dec.{eqb, ltb}
 use borrow.Author.Tests.{eq-eqb, eqb-true, ltb-true, ltb-false}
@@ -13,11 +13,12 @@ use Rattle.patterns.specs.Morphisms.{factMorphism, joinKinds}
 use Rattle.patterns.specs.Rounds.{Set, anyBelow, product}
 use Rattle.patterns.proofs.Tests.{and-both, and-left, and-right, same-test, failed, any-below, below-any}
 use Rattle.readings.specs.declared.Reading.{Reading}
-use Rattle.pattern_sets.specs.PatternSets.{holds}
+use Rattle.pattern_sets.specs.PatternSets.{holds, Same}
 use Rattle.pattern_sets.specs.Images.{joinedBy, Apart, Joined}
+use Rattle.pattern_sets.proofs.Imaging.{joined-zero}
 use Rattle.readings.specs.Readings.{ReadsFacts, Reads, of-facts, of-root, Is}
 use Rattle.readings.specs.Promises.{Below, Multiplies}
-use Rattle.readings.proofs.Joining.{joined-op, joined-turned, apart-left, apart-right, joined-below}
+use Rattle.readings.proofs.Joining.{joined-op, joined-turned, apart-left, apart-right, size-most, joined-below}
 
 held-below : {R : Morphisms.Morphism} (words : List ℕ) (S : Set) → Is R words S → Below R words
 held-below {R} words S is x h = go (ltb x (R .size)) refl
@@ -91,6 +92,44 @@ module _ (r : Reading) (fs : List Fact) (h : ReadsFacts r fs) (a b words : List 
 
       turned : (x y : ℕ) → holds a x ≡ true → holds b y ≡ true → joinedBy (r .afters) (r .befores) y x ≡ join fs x y
       turned x y p q = joined-turned r fs h x y (below-a x p) (below-b y q) ∙ joined-op r fs h x y (below-a x p) (below-b y q)
+
+-- ---- the empty word
+
+kinds-unit : (x : ℕ) → joinKinds x 0 ≡ x
+kinds-unit x = go (eqb x 0) refl
+  where
+    go : (t : Bool) → eqb x 0 ≡ t → cond t 0 x ≡ x
+    go true e = sym (eqb-true x 0 e)
+    go false e = refl
+
+op-unit : {r : Reading} {R : Morphisms.Morphism} → Reads r R → (x : ℕ) → x < R .size → (R .op 0 x ≡ x) × (R .op x 0 ≡ x)
+op-unit {r} (of-facts {fs} h) x l =
+    let small : x < 256 = (let m = size-most {r = r} (of-facts h) in omega arith) in (
+      sym (joined-op r fs h 0 x (omega arith) l) ∙ joined-zero 0 (r .befores) (r .afters) x small refl,
+      sym (joined-op r fs h x 0 l (omega arith)) ∙ (sym (joined-turned r fs h x 0 l (omega arith)) ∙ joined-zero 0 (r .afters) (r .befores) x small refl),
+    )
+op-unit (of-root e) x l = (refl, kinds-unit x)
+
+module _ (r : Reading) (a b unit : List ℕ) (is : (y : ℕ) → holds unit y ≡ eqb y 0) (t : Bool) (e : t ≡ true) where
+  same-unit : (u : Bool) → u ≡ true → (c : List ℕ) → Same c unit u → (y : ℕ) → holds c y ≡ eqb y 0
+  same-unit true q c same y = same y ∙ is y
+  same-unit false q c same y = absurd (false≢true q)
+
+  pub unit-before : Same a unit t → Multiplies r a b b
+  unit-before same R reads A B is-a is-b = joined-product {r = r} reads a b A B is-a is-b b (record {
+    complete = λ x y p q.
+        let z : x ≡ 0 = eqb-true x 0 (sym (same-unit t e a same x) ∙ p) in
+        rw (z, op-unit reads y (held-below b B is-b y q) .0) q;
+    sound = λ z k. (0, z, same-unit t e a same 0, k, op-unit reads z (held-below b B is-b z k) .0);
+  })
+
+  pub unit-after : Same b unit t → Multiplies r a b a
+  unit-after same R reads A B is-a is-b = joined-product {r = r} reads a b A B is-a is-b a (record {
+    complete = λ x y p q.
+        let z : y ≡ 0 = eqb-true y 0 (sym (same-unit t e b same y) ∙ q) in
+        rw (z, op-unit reads x (held-below a A is-a x p) .1) p;
+    sound = λ z k. (z, 0, k, same-unit t e b same 0, op-unit reads z (held-below a A is-a z k) .1);
+  })
 
 -- ---- by the kind of reading
 

@@ -8,7 +8,7 @@ use lib.ListN.{getD}
 use lib.Pow.{pow-mono}
 use Rattle.sets.specs.Sets.{member}
 use Rattle.readings.specs.Promises.{Spreads}
-use Rattle.pattern_sets.proofs.Members.{double-head, double-tail}
+use Rattle.sets.proofs.Members.{double-head, double-tail}
 
 -- A number doubled, and the next one, as the definition writes them.
 pub odd : (n : ℕ) → n * 2 + 1 ≡ 1 + 2 * n

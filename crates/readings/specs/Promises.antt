@@ -9,7 +9,7 @@ use Rattle.sets.specs.Sets.{member}
 use Rattle.vocabularies.specs.declared.Facts.{Facts}
 use Rattle.vocabularies.specs.Facts.{Fact, present}
 use Rattle.vocabularies.specs.VocabularyReading.{mostFacts}
-use Rattle.vocabularies.specs.Promises.{Written, Stored, Represents, TellsSame}
+use Rattle.vocabularies.specs.Promises.{Stored, Represents}
 use Rattle.patterns.specs.Morphisms as Morphisms
 use Rattle.patterns.specs.Rounds.{Set, product}
 use Rattle.readings.specs.declared.Reading.{Reading}
@@ -20,10 +20,10 @@ use Rattle.readings.specs.Readings.{Distinct, placeOf, beforeOf, afterOf
 abbrev pub OfFacts : Facts → (List Fact → Type 0) → Type 0
 OfFacts t P = (fs : List Fact) → Represents t fs → length fs ≤ mostFacts → P fs
 
--- The place of the fact that three numbers write.
-pub record Places (t : Facts) (kind first second r : ℕ) : Type 0 where
+-- The place of a fact.
+pub record Places (t : Facts) (x : Fact) (r : ℕ) : Type 0 where
   pub within : r ≤ mostFacts
-  pub place : OfFacts t (λ fs. (x : Fact) → Written x kind first second → r ≡ placeOf x fs)
+  pub place : OfFacts t (λ fs. r ≡ placeOf x fs)
 
 abbrev pub PlacesBefore : Facts → ℕ → ℕ → Type 0
 PlacesBefore t i r = OfFacts t (λ fs. r ≡ beforeOf fs (getD fs i (present 0)))
@@ -47,28 +47,6 @@ OfReading r P = (R : Morphisms.Morphism) → Reads r R → P R
 -- The pattern of a word of one content.
 abbrev pub ReadsOne : Reading → ℕ → ℕ → Type 0
 ReadsOne r c p = OfReading r (λ R. p ≡ R .of (c ∷ []))
-
--- Whether the fact at a place is that a content is present, and the pattern of a word of that content, by the kinds of facts and their
--- first operands.
-abbrev pub TellsPresent : List ℕ → List ℕ → ℕ → ℕ → Bool → Type 0
-TellsPresent kinds firsts i c r = (t : Facts) → t .kinds ≡ kinds → t .firsts ≡ firsts → TellsSame t 0 c 0 i r
-
-abbrev pub ContentPattern : List ℕ → List ℕ → ℕ → ℕ → ℕ → Type 0
-ContentPattern kinds firsts count c p = (r : Reading) → r .rooted ≡ false → r .facts .kinds ≡ kinds → r .facts .firsts ≡ firsts
-    → r .facts .count ≡ count → ReadsOne r c p
-
--- A set with the content of the fact at a place.
-pub record AddsContent (t : Facts) (i set r : ℕ) : Type 0 where
-  pub keeps : (c : ℕ) → member set c ≡ true → member r c ≡ true
-  pub adds : (c : ℕ) → Stored t i (present c) → member r (c % 64) ≡ true
-
--- A set that has every content of the facts.
-abbrev pub HasContents : Facts → ℕ → Type 0
-HasContents t set = OfFacts t (λ fs. (c i : ℕ) → i < length fs → getD fs i (present 0) ≡ present c → member set (c % 64) ≡ true)
-
--- A word of one content outside the set has the pattern of the empty word.
-abbrev pub TellsContents : Reading → ℕ → Type 0
-TellsContents r set = (c : ℕ) → c < 64 → member set c ≡ false → ReadsOne r c 0
 
 -- Flag j of the result is the flag at place j.
 abbrev pub Spreads : ℕ → List ℕ → ℕ → Type 0

@@ -2,15 +2,14 @@
 ghost use mathlib.Core.Path.{_≡_};
 ghost use mathlib.Core.Bool.{_&&_};
 ghost use Prim.Native.Nat.{ℕ, _≤_, _<_};
-ghost use Rattle.vocabularies.specs.Promises.{TellsSame};
+ghost use Rattle.vocabularies.specs.Promises.{meaningOf};
 ghost use Rattle.patterns.specs.Morphisms.{joinKinds, rootMorphism};
 ghost use Rattle.pattern_sets.specs.PatternSets.{holds};
 ghost use Rattle.pattern_sets.specs.Images.{Joined};
 ghost use Rattle.readings.specs.Readings.{Reads};
-ghost use Rattle.readings.specs.Promises.{Places, PlacesBefore, PlacesAfter, AllBefores, AllAfters, KeepsFacts, TellsPresent, ContentPattern, ReadsOne, AddsContent, HasContents, TellsContents, Spreads, Joins, HasMore, BothHaveMore, Multiplies};
+ghost use Rattle.readings.specs.Promises.{Places, PlacesBefore, PlacesAfter, AllBefores, AllAfters, KeepsFacts, ReadsOne, Spreads, Joins, HasMore, BothHaveMore, Multiplies};
+use vocabularies::Fact;
 use vocabularies::Facts;
-use vocabularies::ORDERED;
-use vocabularies::PRESENT;
 
 // A morphism of words: for the root, or for the facts of a clause. Two words, one after the other, break a pair if one of its
 // contents stands in the first and the other one in the second; `befores` and `afters` have the places of these two for each pair.
@@ -33,29 +32,9 @@ const ALONE: u8 = 1;
 
 pub const OTHER: u8 = 2;
 
-pub fn wide(x: u8) -> u64
-    ensures { λ r. ⌜ (r ≡ x) × (r < 256) ⌝ }
-{
-    x as u64
-}
-
-// Whether a fact stands at a place.
-fn stands_at(facts: Facts, i: usize, kind: u8, first: u64, second: u64) -> bool
-    requires { ⌜ i < 8 ⌝ }
-    ensures { λ r. ⌜ TellsSame facts kind first second i r ⌝ }
-{
-    if facts.kinds[i] != kind {
-        return false;
-    }
-    if wide(facts.firsts[i]) != first {
-        return false;
-    }
-    second == facts.seconds[i]
-}
-
 // The place of a fact, or the number of facts where it is not there.
-pub fn place_of(facts: Facts, kind: u8, first: u64, second: u64) -> u8
-    ensures { λ r. ⌜ Places facts kind first second r ⌝ }
+pub fn place_of(facts: Facts, fact: Fact) -> u8
+    ensures { λ r. ⌜ Places facts (meaningOf fact) r ⌝ }
 {
     let count = facts.count;
     let mut i = 0;
@@ -63,7 +42,7 @@ pub fn place_of(facts: Facts, kind: u8, first: u64, second: u64) -> u8
         if count <= i {
             return i as u8;
         }
-        if stands_at(facts, i, kind, first, second) {
+        if vocabularies::same_fact(fact, vocabularies::fact_at(facts, i)) {
             return i as u8;
         }
         i += 1;
@@ -78,10 +57,12 @@ fn before_of(facts: Facts, i: usize) -> u8
     if facts.count <= i {
         return NOWHERE;
     }
-    if facts.kinds[i] == ORDERED {
-        return place_of(facts, PRESENT, facts.seconds[i], 0);
+    let fact = vocabularies::fact_at(facts, i);
+    match fact {
+        Fact::Present(_) => NOWHERE,
+        Fact::Ordered(_, d) => place_of(facts, Fact::Present(d)),
+        Fact::Valued(_, _) => NOWHERE,
     }
-    NOWHERE
 }
 
 fn after_of(facts: Facts, i: usize) -> u8
@@ -91,10 +72,12 @@ fn after_of(facts: Facts, i: usize) -> u8
     if facts.count <= i {
         return NOWHERE;
     }
-    if facts.kinds[i] == ORDERED {
-        return place_of(facts, PRESENT, wide(facts.firsts[i]), 0);
+    let fact = vocabularies::fact_at(facts, i);
+    match fact {
+        Fact::Present(_) => NOWHERE,
+        Fact::Ordered(c, _) => place_of(facts, Fact::Present(c)),
+        Fact::Valued(_, _) => NOWHERE,
     }
-    NOWHERE
 }
 
 fn befores_of(facts: Facts) -> [u8; 8]
@@ -153,35 +136,6 @@ pub fn root_reading(root: u8) -> Reading
     }
 }
 
-// Whether the fact at a place is that content c is present.
-fn is_present(kinds: [u8; 8], firsts: [u8; 8], i: usize, c: u8) -> bool
-    requires { ⌜ i < 8 ⌝ }
-    ensures { λ r. ⌜ TellsPresent kinds firsts i c r ⌝ }
-{
-    if kinds[i] != PRESENT {
-        return false;
-    }
-    c == firsts[i]
-}
-
-// The pattern of a word of one content, by the kinds of facts and what they are about.
-pub fn content_pattern(kinds: [u8; 8], firsts: [u8; 8], count: usize, c: u8) -> u8
-    ensures { λ p. ⌜ ContentPattern kinds firsts count c p ⌝ }
-{
-    let mut i: u8 = 0;
-    while i < 8 {
-        let k = i as usize;
-        if count <= k {
-            return 0;
-        }
-        if is_present(kinds, firsts, k, c) {
-            return 1u8 << i;
-        }
-        i += 1;
-    }
-    0
-}
-
 // The pattern of a word of one content.
 pub fn single(r: Reading, c: u8) -> u8
     ensures { λ p. ⌜ ReadsOne r c p ⌝ }
@@ -193,48 +147,14 @@ pub fn single(r: Reading, c: u8) -> u8
         return OTHER;
     }
     let facts = r.facts;
-    let kinds = facts.kinds;
-    let firsts = facts.firsts;
-    content_pattern(kinds, firsts, facts.count, c)
-}
-
-// A set of contents, with that of the fact at a place.
-fn with_content(facts: Facts, i: usize, set: u64) -> u64
-    requires { ⌜ i < 8 ⌝ }
-    ensures { λ r. ⌜ AddsContent facts i set r ⌝ }
-{
-    if facts.kinds[i] != PRESENT {
-        return set;
+    let place = place_of(facts, Fact::Present(c));
+    if NOWHERE <= place {
+        return EMPTY;
     }
-    sets::with(set, facts.firsts[i] % 64)
-}
-
-// The contents of a clause's facts.
-fn present_contents(facts: Facts) -> u64
-    ensures { λ set. ⌜ HasContents facts set ⌝ }
-{
-    let count = facts.count;
-    let mut set: u64 = 0;
-    let mut i = 0;
-    while i < 8 {
-        if count <= i {
-            return set;
-        }
-        set = with_content(facts, i, set);
-        i += 1;
+    if facts.count <= place as usize {
+        return EMPTY;
     }
-    set
-}
-
-// The contents that have another pattern than the empty word, as words of one content, and maybe others.
-pub fn contents(r: Reading) -> u64
-    ensures { λ set. ⌜ TellsContents r set ⌝ }
-{
-    if r.rooted {
-        return 0xFFFF_FFFF_FFFF_FFFF;
-    }
-    let facts = r.facts;
-    present_contents(facts)
+    1u8 << place
 }
 
 // The flags of a pattern at places, in their order.
@@ -319,10 +239,17 @@ fn members(set: [u64; 4]) -> u32 {
     ones(set[0]) + ones(set[1]) + ones(set[2]) + ones(set[3])
 }
 
-// The patterns of a word of the one set with a word of the other after it.
+// The patterns of a word of the one set with a word of the other after it. The empty word changes nothing: so lists begin.
 pub fn product(r: Reading, a: [u64; 4], b: [u64; 4]) -> [u64; 4]
     ensures { λ words. ⌜ Multiplies r a b words ⌝ }
 {
+    let empty = pattern_sets::only(EMPTY);
+    if pattern_sets::same(a, empty) {
+        return b;
+    }
+    if pattern_sets::same(b, empty) {
+        return a;
+    }
     if r.rooted {
         return joined_kinds(a, b);
     }

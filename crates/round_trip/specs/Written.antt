@@ -1,15 +1,18 @@
 -- Vocabularies and pages written out as bytes (document 01, "A job, command by command", "Judge a page"), and which of them have all
--- their parts in range. The numbers here are the document's own, not those of the definitions that read. The laws of proofs/ say that
--- what is in range is read back as itself; a definition of reading that refused or altered any part of it would break them.
+-- their parts in range. The numbers here are the document's own, not those of the definitions that read, but for the number of named
+-- strings. The laws of proofs/ say that what is in range is read back as itself; a definition of reading that refused or altered any
+-- part of it would break them.
 use Prim.Native.Nat.{ℕ, zero, suc, _+_, _/_, _%_, _^_, _≤_, _<_, max}
 use mathlib.Core.Path.{_≡_}
 use mathlib.Core.List.{List, [], _∷_, _++_, map}
-use mathlib.Core.Bool.{Bool, true, false, cond}
+use mathlib.Core.Bool.{Bool, true, false}
 use lib.ListN.{length}
-use lib.Dec.{ltb}
 use Rattle.vocabularies.specs.Vocabulary.{Formula, conj, disj, neg, truth, attr, content, order, value, Rule, Vocabulary, isIn, declared}
 use Rattle.vocabularies.specs.Facts.{factsOf}
+use Rattle.commands.specs.Commands.{strings}
 use Rattle.pages.specs.Items.{Value, string, open-gap, Attribute, Item, text, gap, element, Items, none, more}
+pub use Rattle.pages.specs.Written.{written-value}
+unfoldable pub use Rattle.pages.specs.Written.{written-attributes, written-items, written-item, written-page, marked, marked-item}
 
 -- The n bytes of a number below 256 ^ n, highest first.
 unfoldable pub highest-first : ℕ → ℕ → List ℕ
@@ -86,7 +89,7 @@ NamesInRange truth = Unit {0}
 NamesInRange (attr a) = a ≤ 31
 NamesInRange (content c) = c ≤ 63
 NamesInRange (order c d) = (c ≤ 63) × (d ≤ 63)
-NamesInRange (value a m) = (a ≤ 31) × (0 < m) × (m < 2 ^ 64)
+NamesInRange (value a m) = (a ≤ 31) × (0 < m) × (m < 2 ^ strings)
 
 pub record ClauseInRange (ψ : Formula) : Type 0 where
   pub names : NamesInRange ψ
@@ -113,48 +116,9 @@ pub record VocabularyInRange (D : Vocabulary) : Type 0 where
   pub once : Distinct (map (λ r. r .element) (D .rules))
   pub root : declared (D .rules) (D .root) ≡ true
 
--- `24 a s`, or `28 a` for a string outside 0 to 63; an attribute gap, `25 a h`, stands in templates alone.
-abbrev pub written-value : ℕ → Value → List ℕ
-written-value a (string s) = cond (ltb s 64) (0x24 ∷ a ∷ s ∷ []) (0x28 ∷ a ∷ [])
-written-value a (open-gap h) = 0x25 ∷ a ∷ h ∷ []
-
-unfoldable pub written-attributes : List Attribute → List ℕ
-written-attributes [] = []
-written-attributes (a ∷ δ) = written-value (a .name) (a .value) ++ written-attributes δ
-
--- `21`, `22 g` (in templates alone), and `23 e` with its attributes and items, up to `26`.
-unfoldable mutual
-  unfolding written-attributes
-
-  pub written-items : Items → List ℕ
-  written-items none = []
-  written-items (more i φ) = written-item i ++ written-items φ
-
-  pub written-item : Item → List ℕ
-  written-item text = 0x21 ∷ []
-  written-item (gap g) = 0x22 ∷ g ∷ []
-  written-item (element e mark δ φ) = 0x23 ∷ e ∷ written-attributes δ ++ written-items φ ++ 0x26 ∷ []
-
-unfoldable pub written-page : Items → List ℕ
-unfolding written-items
-written-page φ = written-items φ ++ 0x27 ∷ []
-
--- Items that are written from an offset on, with each element's mark where its `23` stands.
-unfoldable mutual
-  unfolding written-items
-
-  pub marked : ℕ → Items → Items
-  marked at none = none
-  marked at (more i φ) = more (marked-item at i) (marked (at + length (written-item i)) φ)
-
-  pub marked-item : ℕ → Item → Item
-  marked-item at text = text
-  marked-item at (gap g) = gap g
-  marked-item at (element e mark δ φ) = element e at δ (marked (at + 2 + length (written-attributes δ)) φ)
-
--- A named string, or 64, which stands for all others; no attribute gap.
+-- A named string, or the number that stands for all others; no attribute gap.
 abbrev pub ValueInRange : Value → Type 0
-ValueInRange (string s) = s ≤ 64
+ValueInRange (string s) = s ≤ strings
 ValueInRange (open-gap h) = ⊥
 
 unfoldable pub AttributesInRange : List Attribute → Type 0

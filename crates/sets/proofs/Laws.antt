@@ -7,7 +7,7 @@ use native.Mathlib.Nat.{mod-lt, div-eq-of-lt, div-add-mod', div-one, zero-div, m
 use native.Mathlib.Numerals.{one-add, add-one}
 use native.Mathlib.Omega.{arith}
 use lib.Arith.{digits-mod}
-use lib.Bits.{bitAnd, bitOr, and-step, or-step, and-shr, or-shr, and-lt}
+use lib.Bits.{bitAnd, bitOr, bitXor, differ, and-step, or-step, xor-step, and-shr, or-shr, xor-shr, and-lt}
 use lib.Dec.{eqb, ltb, lit<}
 use lib.Pow.{pow-mono, pow-lt, pow-add, shl-shr, shl-exact, shr-shr, shr-lt}
 use borrow.Author.Tests.{eq-eqb, ne-eqb, eqb-true, eqb-false, ltb-true, ltb-false}
@@ -36,6 +36,24 @@ bit-max (suc (suc x)) y p q = absurd (omega arith)
 bit-max zero (suc (suc y)) p q = absurd (omega arith)
 bit-max (suc zero) (suc (suc y)) p q = absurd (omega arith)
 
+bit-without : (x y : ℕ) → x < 2 → y < 2 → eqb (differ x (min x y)) 1 ≡ (eqb x 1 && not (eqb y 1))
+bit-without zero zero p q = refl
+bit-without zero (suc zero) p q = refl
+bit-without (suc zero) zero p q = refl
+bit-without (suc zero) (suc zero) p q = refl
+bit-without (suc (suc x)) y p q = absurd (omega arith)
+bit-without zero (suc (suc y)) p q = absurd (omega arith)
+bit-without (suc zero) (suc (suc y)) p q = absurd (omega arith)
+
+small : (x y : ℕ) → x < 2 → y < 2 → differ x (min x y) < 2
+small zero zero p q = omega arith
+small zero (suc zero) p q = omega arith
+small (suc zero) zero p q = omega arith
+small (suc zero) (suc zero) p q = omega arith
+small (suc (suc x)) y p q = absurd (omega arith)
+small zero (suc (suc y)) p q = absurd (omega arith)
+small (suc zero) (suc (suc y)) p q = absurd (omega arith)
+
 bit-same : (x y : ℕ) → x < 2 → y < 2 → eqb x 1 ≡ eqb y 1 → x ≡ y
 bit-same zero zero p q e = refl
 bit-same zero (suc zero) p q e = absurd (eqb-false 1 1 (sym e) refl)
@@ -62,6 +80,16 @@ member-or a b k =
     let y : ℕ = b / 2 ^ k in
     let e : bitOr x y % 2 ≡ max (x % 2) (y % 2) = rw (or-step x y) (digits-mod (bitOr (x / 2) (y / 2)) (omega (arith, bit x, bit y))) in
     rw (or-shr a b k, e) (bit-max (x % 2) (y % 2) (bit x) (bit y))
+
+pub member-without : (a b k : ℕ) → member (bitXor a (bitAnd a b)) k ≡ (member a k && not (member b k))
+unfolding member
+member-without a b k =
+    let x : ℕ = a / 2 ^ k in
+    let y : ℕ = b / 2 ^ k in
+    let f : bitAnd x y % 2 ≡ min (x % 2) (y % 2) = rw (and-step x y) (digits-mod (bitAnd (x / 2) (y / 2)) (omega (arith, bit x))) in
+    let g : bitXor x (bitAnd x y) % 2 ≡ differ (x % 2) (min (x % 2) (y % 2)) =
+    rw (xor-step x (bitAnd x y), f) (digits-mod (bitXor (x / 2) (bitAnd x y / 2)) (small (x % 2) (y % 2) (bit x) (bit y))) in
+    rw (xor-shr a (bitAnd a b) k, and-shr a b k, g) (bit-without (x % 2) (y % 2) (bit x) (bit y))
 
 pub member-zero : (k : ℕ) → member 0 k ≡ false
 unfolding member
@@ -105,19 +133,23 @@ member-with set i h k =
 
 -- ---- two words with the same members
 
-tail : (a k : ℕ) → member (a / 2) k ≡ member a (suc k)
+pub member-tail : (n k : ℕ) → member n (suc k) ≡ member (n / 2) k
 unfolding member
-tail a k = rw (← one-add k, ← shr-shr a 1 k)
+member-tail n k = rw (← one-add k, ← shr-shr n 1 k)
 
-low : (a : ℕ) → member a 0 ≡ eqb (a % 2) 1
+pub member-head : (n : ℕ) → member n 0 ≡ eqb (n % 2) 1
 unfolding member
-low a = rw (div-one a)
+member-head n = rw (div-one n)
+
+pub member-shift : (n i k : ℕ) → member (n / 2 ^ i) k ≡ member n (i + k)
+unfolding member
+member-shift n i k = rw (shr-shr n i k)
 
 pub same-members : (n a b : ℕ) → a < 2 ^ n → b < 2 ^ n → ((k : ℕ) → k < n → member a k ≡ member b k) → a ≡ b
 same-members zero a b p q e = omega arith
 same-members (suc n) a b p q e =
-    let halves : a / 2 ≡ b / 2 = same-members n (a / 2) (b / 2) (shr-lt n 1 (rw (add-one n) p)) (shr-lt n 1 (rw (add-one n) q)) (λ k h. tail a k ∙ e (suc k) (omega arith) ∙ sym (tail b k)) in
-    let ends : a % 2 ≡ b % 2 = bit-same (a % 2) (b % 2) (bit a) (bit b) (sym (low a) ∙ e 0 (omega arith) ∙ low b) in
+    let halves : a / 2 ≡ b / 2 = same-members n (a / 2) (b / 2) (shr-lt n 1 (rw (add-one n) p)) (shr-lt n 1 (rw (add-one n) q)) (λ k h. sym (member-tail a k) ∙ e (suc k) (omega arith) ∙ member-tail b k) in
+    let ends : a % 2 ≡ b % 2 = bit-same (a % 2) (b % 2) (bit a) (bit b) (sym (member-head a) ∙ e 0 (omega arith) ∙ member-head b) in
     omega (arith, div-add-mod' a 2, div-add-mod' b 2)
 
 -- ---- subsets

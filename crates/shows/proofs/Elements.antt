@@ -1,83 +1,109 @@
--- The lowest wrong element of each template, from what is worked out of a graph whose exact tables are given.
-use Prim.Native.Nat.{ℕ, _≤_}
+-- The lowest wrong element, from what is worked out of a graph whose exact tables are given.
+use Prim.Native.Nat.{ℕ, suc, _≤_, _<_}
 use native.Mathlib.Omega.{arith}
-use mathlib.Core.Path.{_≡_, sym, ap, _∙_}
+use mathlib.Core.Path.{_≡_, refl, sym, subst, _∙_}
 use mathlib.Core.List.{List}
-use mathlib.Core.Bool.{Bool, true, false, cond}
-use mathlib.Core.Option.{Option, none}
+use mathlib.Core.Bool.{Bool, true, false, cond, _||_, false≢true}
+use mathlib.Core.Option.{some, none}
 use lib.ListN.{length}
 use Rattle.sets.specs.Sets.{member}
 use Rattle.vocabularies.specs.declared.Tables.{Tables}
 use Rattle.programs.specs.Program.{templateAt}
+use Rattle.summaries.specs.Summaries.{entries}
 use Rattle.jobs.specs.Job.{Job}
+use Rattle.jobs.specs.JobVerdict.{WrongIn}
+use Rattle.patterns.specs.declared.Wrong.{Wrong}
 use Rattle.patterns.specs.Morphisms.{rootMorphism}
 use Rattle.patterns.specs.Given.{Bounded}
 use Rattle.patterns.specs.Exactness.{YieldsExact}
-use Rattle.patterns.specs.Shows.{lower, ExactTables, lowestWrongIn}
+use Rattle.patterns.specs.Elements.{wrongElement}
+use Rattle.patterns.specs.Shows.{Least, nowhere, least, ExactTables, lowestMark, lowestWrongIn, lowestWrong}
 use Rattle.patterns.specs.Shows as Decided
-use Rattle.patterns.proofs.Standing.{reached-yields}
+use Rattle.patterns.specs.LowestWrong.{lowerWrong, LowestWrong, lowest, Test, Passing}
+use Rattle.patterns.specs.LowestWrong as LowestWrong
+use Rattle.patterns.proofs.Lowest.{least-iff, least-below, none-of, least-none, least-unique, least-over, least-mark}
+use Rattle.patterns.proofs.LowestOf.{lowest-either, lowest-same}
 use Rattle.patterns.proofs.ReadVocabularies.{Bytes}
-use Rattle.patterns.proofs.ReadJobs.{GivenJob, job-given}
+use Rattle.patterns.proofs.ReadJobs.{GivenShows, job-given}
+use Rattle.patterns.proofs.JobShows.{lowest-wrong-element, wrong-in}
 use Rattle.languages.specs.Tables.{SetsAre}
+use Rattle.reach.specs.PlainlyWrong.{plainlyWrong, wrongByClause}
 use Rattle.reach.specs.Promises.{GraphKept, TellsYielding, TellsReached, TellsContents}
 use Rattle.reach.specs.Walking.{RulesKept, ContentsKept, TellsPlainlyWrong}
-use Rattle.reach.proofs.Splitting.{lowest-split}
-use Rattle.elements.specs.Rules.{Standing, AllYield, RulesStand, SearchesRules}
+use Rattle.reach.proofs.Splitting.{wrong-split}
+use Rattle.elements.specs.Rules.{RulesStand, SearchesRules}
 use Rattle.shows.specs.declared.TemplateTables.{TemplateTables}
-use Rattle.shows.specs.Promises.{ShowAt, wrongAt}
+use Rattle.shows.specs.Promises.{ShowAt}
 
--- A table with what is plainly wrong, made lower by the clauses, for the templates that are reached.
-joined : (b : Bool) (plain table whole m z : Option ℕ) → plain ≡ cond b m none → table ≡ cond b (lower plain z) plain → whole ≡ lower m z
-    → table ≡ cond b whole none
-joined true plain table whole m z p t w = t ∙ ap (λ (o : Option ℕ). lower o z) p ∙ sym w
-joined false plain table whole m z p t w = t ∙ p
-
-module _ (s : List ℕ) (rules : Tables) (templates : TemplateTables) (count : ℕ) (starts words : List ℕ) (j : Job) (p : ℕ)
-    (A : ShowAt s rules templates count starts words j p) (bytes : Bytes s) where
-  pub given : GivenJob j
+module _ (s : List ℕ) (rules : Tables) (templates : TemplateTables) (count : ℕ) (starts graph : List ℕ) (j : Job) (p : ℕ)
+    (A : ShowAt s rules templates count starts graph j p) (bytes : Bytes s) where
+  pub given : GivenShows (j .script) (entries (j .proposal))
   given = job-given s bytes j (A .end) (A .reads)
 
-  pub bounded : Bounded (j .templates) (A .graph)
-  bounded = given .graphs p (A .graph) (A .shows)
+  pub bounded : Bounded (j .script .templates) (A .shown)
+  bounded = given .graphs p (A .shown) (A .shows)
 
-  graph-kept : GraphKept (j .templates) (A .graph) words count
-  graph-kept = record { keeps = A .words-are; bounded = bounded; counts = A .located .counted; few = A .few }
+  graph-kept : GraphKept (j .script .templates) (A .shown) graph count
+  graph-kept = record { keeps = A .keeps; bounded = bounded; counts = A .located .counted; few = A .few }
 
-  rules-kept : RulesKept (j .vocabulary) (rules .attributes) (rules .contents)
+  rules-kept : RulesKept (j .script .vocabulary) (rules .attributes) (rules .contents)
   rules-kept = record { allows = λ e r q. A .vocabulary .rule e r q .allows; holds = λ e r q. A .vocabulary .rule e r q .holds }
 
-  rules-stand : RulesStand s (j .vocabulary) (rules .declared) (rules .clauses)
+  rules-stand : RulesStand s (j .script .vocabulary) (rules .declared) (rules .clauses)
   rules-stand = record { declares = A .vocabulary .declares; stands = λ e r q. A .vocabulary .rule e r q .stands }
 
-  module _ (T : Decided.Tables) (exact : ExactTables (j .templates) (A .graph) (j .vocabulary) T) (kinds : List (List ℕ))
-      (sets : SetsAre (j .templates) (rootMorphism (j .vocabulary .root)) (T .kinds) kinds)
+  module _ (T : Decided.Tables) (exact : ExactTables (j .script .templates) (A .shown) (j .script .vocabulary) T) (kinds : List (List ℕ))
+      (sets : SetsAre (j .script .templates) (rootMorphism (j .script .vocabulary .root)) (T .kinds) kinds)
       (yields : ℕ) (tells-yields : TellsYielding kinds count yields)
-      (reached : ℕ) (tells-reached : TellsReached words (templates .gaps) count yields reached)
-      (within : List ℕ) (tells-contents : TellsContents words (templates .contents) (templates .outer) count yields within)
-      (plain : List ℕ) (tells-plain : TellsPlainlyWrong s (rules .attributes) (rules .contents) starts count words within reached plain)
-      (table : List ℕ) (searches : SearchesRules s (rules .declared) (rules .clauses) (templates .occurrences) words (templates .gaps) (templates .lone) starts count reached plain table) where
-    yielding : YieldsExact (j .templates) (A .graph) (member yields)
-    yielding = tells-yields (j .templates) (A .graph) (j .vocabulary .root) (T .kinds) (A .located .counted) (A .few) sets (exact .kinds)
+      (reached : ℕ) (tells-reached : TellsReached graph (templates .gaps) count yields reached)
+      (within : List ℕ) (tells-contents : TellsContents graph (templates .contents) (templates .outer) count yields within)
+      (plain : Wrong) (tells-plain : TellsPlainlyWrong s (rules .attributes) (rules .contents) starts count graph within reached plain)
+      (by-clause : Wrong) (searches : SearchesRules s (rules .declared) (rules .clauses) (templates .standing) graph starts count reached by-clause) where
+    yielding : YieldsExact (j .script .templates) (A .shown) (member yields)
+    yielding = tells-yields (j .script .templates) (A .shown) (j .script .vocabulary .root) (T .kinds) (A .located .counted) (A .few) sets (exact .kinds)
 
-    is-reached : (n : ℕ) → n ≤ length (j .templates) → member reached n ≡ T .reached n
-    is-reached = tells-reached (j .templates) (A .graph) graph-kept (A .tabled .gaps) yielding (T .reached) (exact .reached)
+    is-reached : (n : ℕ) → n ≤ length (j .script .templates) → member reached n ≡ T .reached n
+    is-reached = tells-reached (j .script .templates) (A .shown) graph-kept (A .tabled .gaps) yielding (T .reached) (exact .reached)
 
-    -- What is reached stands in a page.
-    all-yield : AllYield (j .templates) (A .graph) reached
-    all-yield n l e = reached-yields (j .templates) (A .graph) (exact .reached n l .0 (sym (is-reached n l) ∙ e))
+    contents-kept : ContentsKept (j .script .templates) (T .contents) within
+    contents-kept n c l h = tells-contents (j .script .templates) (A .shown) graph-kept (A .tabled .outlines) yielding (T .contents) (exact .contents) n c l
 
-    contents-kept : ContentsKept (j .templates) (T .contents) within
-    contents-kept n c l h = tells-contents (j .templates) (A .graph) graph-kept (A .tabled .outlines) yielding (T .contents) (exact .contents) n c l
+    -- Wrong by attributes or contents, or by a clause.
+    test : Test
+    test n e mark δ φ = wrongElement (j .script .templates) (A .shown) (T .clauses) (T .contents) (j .script .vocabulary) n e δ φ
 
-    pub elements-are : (n : ℕ) → n ≤ count → wrongAt table n ≡ lowestWrongIn (j .templates) (A .graph) (j .vocabulary) T n
-    unfolding lowestWrongIn
-    elements-are n l =
-        let counts = A .located .counted in
-        let there : n ≤ length (j .templates) = omega arith in
-        let standing : Standing s (j .templates) (A .graph) words (templates .gaps) (templates .lone) starts count =
-        (record { graph = graph-kept; stand = A .stand; gaps-are = A .tabled .gaps; lone-are = A .tabled .lone }) in
-        let lowered = searches (j .templates) (A .graph) (j .vocabulary) (T .clauses) standing all-yield rules-stand (A .tabled .occurrences) (exact .clauses) in
-        rw (← is-reached n there) (joined (member reached n) (wrongAt plain n) (wrongAt table n) _ _ _
-        (tells-plain (j .templates) (A .graph) (T .contents) (j .vocabulary) graph-kept rules-kept (A .located) contents-kept n there)
-        (lowered .at n there)
-        (lowest-split (j .templates) (A .graph) (T .clauses) (T .contents) (j .vocabulary) n (templateAt (j .templates) n)))
+    passing : LowestWrong (Passing (j .script .templates) reached test) (lowerWrong plain by-clause)
+    unfolding test
+    passing = lowest-same (j .script .templates) reached
+        (λ n e mark δ φ. plainlyWrong (j .script .templates) (A .shown) (T .contents) (j .script .vocabulary) n e δ φ || wrongByClause (j .script .templates) (A .shown) (T .clauses) (j .script .vocabulary) n e δ φ) test
+        (λ n e mark δ φ. sym (wrong-split (j .script .templates) (A .shown) (T .clauses) (T .contents) (j .script .vocabulary) n e δ φ)) (lowerWrong plain by-clause)
+        (lowest-either (j .script .templates) reached (λ n e mark δ φ. plainlyWrong (j .script .templates) (A .shown) (T .contents) (j .script .vocabulary) n e δ φ)
+        (λ n e mark δ φ. wrongByClause (j .script .templates) (A .shown) (T .clauses) (j .script .vocabulary) n e δ φ) plain by-clause
+        (tells-plain (j .script .templates) (A .shown) (T .contents) (j .script .vocabulary) graph-kept rules-kept (A .located) contents-kept)
+        (searches (j .script .templates) (A .shown) (j .script .vocabulary) (T .clauses) (record { graph = graph-kept; stand = A .stand }) rules-stand (A .tabled .occurrences) (exact .clauses)))
+
+    in-template : (n : ℕ) → n ≤ length (j .script .templates) → Least (Passing (j .script .templates) reached test n) (lowestWrongIn (j .script .templates) (A .shown) (j .script .vocabulary) T n)
+    unfolding lowestWrongIn test
+    in-template n l = go (T .reached n) refl
+      where
+        go : (b : Bool) → T .reached n ≡ b → Least (Passing (j .script .templates) reached test n) (cond b (lowestMark (test n) (templateAt (j .script .templates) n)) none)
+        go true e = least-iff (λ at. (λ h. (l, is-reached n l ∙ e, h), λ h. h .2)) (least-mark (test n) (templateAt (j .script .templates) n))
+        go false e = nowhere (λ at h. false≢true (sym (is-reached n l ∙ e) ∙ h .1))
+
+    over : Least (λ at. (n : ℕ) × (n < suc (length (j .script .templates))) × Passing (j .script .templates) reached test n at) (lowestWrong (j .script .templates) (A .shown) (j .script .vocabulary) T)
+    unfolding lowestWrong
+    over = least-over (suc (length (j .script .templates))) (Passing (j .script .templates) reached test) (lowestWrongIn (j .script .templates) (A .shown) (j .script .vocabulary) T) (λ n l. in-template n (omega arith))
+
+    in-job : {w : Wrong} → LowestWrong (Passing (j .script .templates) reached test) w → LowestWrong (WrongIn (j .script) (entries (j .proposal)) p) w
+    in-job (LowestWrong.nowhere h) =
+        let nothing = least-none over (λ at (n, l, q). h n at q) in
+        LowestWrong.nowhere (λ t at W. none-of (subst (Least _) nothing (lowest-wrong-element (j .script) (entries (j .proposal)) given p (A .shown) (A .shows) T exact)) at (t, W))
+    in-job (lowest {n = t} {at = at} q h) =
+        let there : t < suc (length (j .script .templates)) = (let l = q .0 in omega arith) in
+        let is : lowestWrong (j .script .templates) (A .shown) (j .script .vocabulary) T ≡ some at = least-unique over (least {n = at} (t, there, q) (λ m (n, l, r). h n m r)) in
+        let here : lowestWrongIn (j .script .templates) (A .shown) (j .script .vocabulary) T t ≡ some at = least-unique (in-template t (q .0)) (least {n = at} q (λ m r. h t m r)) in
+        let all = subst (Least _) is (lowest-wrong-element (j .script) (entries (j .proposal)) given p (A .shown) (A .shows) T exact) in
+        lowest {n = t} {at = at} (wrong-in (j .script) (entries (j .proposal)) given p (A .shown) (A .shows) T exact t at (q .0) here) (λ m other W. least-below all other (m, W))
+
+    pub elements-are : (w : Wrong) → w ≡ lowerWrong plain by-clause → LowestWrong (WrongIn (j .script) (entries (j .proposal)) p) w
+    elements-are w is = rw is (in-job passing)

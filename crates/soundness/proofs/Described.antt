@@ -4,9 +4,11 @@ use Prim.Native.Nat.{ℕ}
 use mathlib.Core.Path.{_≡_, refl, sym, ap, subst, _∙_}
 use mathlib.Core.List.{List, [], _∷_}
 use mathlib.Core.Bool.{true}
+use mathlib.Core.Option.{Option, some}
+use mathlib.Core.Option as Option
 use Rattle.pages.specs.Items.{Value, string, open-gap, Attribute, Item, text, gap, element, Items, none, more, one, _⋈_}
 use Rattle.programs.specs.Program.{templateAt}
-use Rattle.programs.specs.Runs.{replaced, replacedItem, filled, filledValue}
+use Rattle.programs.specs.Runs.{replaced, replacedItem, filled, filledBefore, filledValue}
 use Rattle.summaries.specs.Proposal.{edge, gapFrom, attributeGapFrom}
 use Rattle.summaries.specs.Proposal as Proposal
 use Rattle.summaries.specs.Summaries.{Summary}
@@ -17,6 +19,11 @@ module _ (S : Summary) where
   pub data Fills (n h : ℕ) : Value → Type 0 where
     takes : (s : ℕ) → S (Proposal.string n h s) ≡ true → Fills n h (string s)
     stays : S (attributeGapFrom h n) ≡ true → Fills n h (open-gap h)
+
+  -- What fills it; an attribute is not left out.
+  abbrev pub FillsWith : ℕ → ℕ → Option Value → Type 0
+  FillsWith n h Option.none = ⊥
+  FillsWith n h (some v) = Fills n h v
 
   pub data AttributesDescribed (n : ℕ) : List Attribute → List Attribute → Type 0 where
     no-attribute : AttributesDescribed n [] []
@@ -49,7 +56,7 @@ unfolding _⋈_
 ⋈-assoc none ψ χ = refl
 ⋈-assoc (more i φ) ψ χ = ap (more i) (⋈-assoc φ ψ χ)
 
-module _ (put : ℕ → Items) (fill : ℕ → Value) where
+module _ (put : ℕ → Items) (fill : ℕ → Option Value) where
   pub replaced-⋈ : (φ ψ : Items) → replaced put fill (φ ⋈ ψ) ≡ replaced put fill φ ⋈ replaced put fill ψ
   unfolding _⋈_ replaced
   replaced-⋈ none ψ = refl
@@ -57,20 +64,25 @@ module _ (put : ℕ → Items) (fill : ℕ → Value) where
       ∙ sym (⋈-assoc (replacedItem put fill i) (replaced put fill φ) (replaced put fill ψ))
 
 -- What a replacement keeps: where every gap that stayed open becomes what T describes, the whole becomes what T describes.
-module _ (S T : Summary) (φs : List Items) (put : ℕ → Items) (fill : ℕ → Value)
+module _ (S T : Summary) (φs : List Items) (put : ℕ → Items) (fill : ℕ → Option Value)
     (edges : (n g m : ℕ) → S (edge n g m) ≡ true → T (edge n g m) ≡ true)
     (strings : (n h s : ℕ) → S (Proposal.string n h s) ≡ true → T (Proposal.string n h s) ≡ true)
     (puts : (n g : ℕ) → S (gapFrom g n) ≡ true → DescribesItem T φs n (gap g) (put g))
-    (fills : (n h : ℕ) → S (attributeGapFrom h n) ≡ true → Fills T n h (fill h)) where
-  value-replaced : {n h : ℕ} {v : Value} → Fills S n h v → Fills T n h (filledValue fill v)
+    (fills : (n h : ℕ) → S (attributeGapFrom h n) ≡ true → FillsWith T n h (fill h)) where
+  value-replaced : {n h : ℕ} {v : Value} → Fills S n h v → FillsWith T n h (filledValue fill v)
   value-replaced {n} {h} (takes s e) = takes s (strings n h s e)
   value-replaced {n} {h} (stays e) = fills n h e
+
+  before-replaced : {n a h : ℕ} {δ δ′ : List Attribute} (o : Option Value) → FillsWith T n h o → AttributesDescribed T n δ δ′
+      → AttributesDescribed T n (record { name = a; value = open-gap h } ∷ δ) (filledBefore a o δ′)
+  before-replaced Option.none f d = absurd f
+  before-replaced (some v) f d = holds f d
 
   attributes-replaced : {n : ℕ} {δ δ′ : List Attribute} → AttributesDescribed S n δ δ′ → AttributesDescribed T n δ (filled fill δ′)
   unfolding filled
   attributes-replaced no-attribute = no-attribute
   attributes-replaced (fixed d) = fixed (attributes-replaced d)
-  attributes-replaced (holds f d) = holds (value-replaced f) (attributes-replaced d)
+  attributes-replaced (holds {v = v} f d) = before-replaced (filledValue fill v) (value-replaced f) (attributes-replaced d)
 
   mutual
     unfolding replaced _⋈_

@@ -2,13 +2,13 @@
 use Prim.Native.Nat.{ℕ}
 use mathlib.Core.Path.{_≡_, ap, subst, _∙_}
 use mathlib.Core.List.{List}
-use mathlib.Core.Bool.{Bool, true, false}
+use mathlib.Core.Bool.{Bool, true, false, false≢true}
 use native.Mathlib.Omega.{arith}
 use lib.ListN.{length}
 use lib.Dec.{leb, ltb}
 use Rattle.verdicts.specs.declared.Form.the-variants.{TooLong, NotAllowed}
 use Rattle.verdicts.specs.declared.Verdict.{Verdict}
-use Rattle.verdicts.specs.declared.Verdict.the-variants.{Accepted}
+use Rattle.verdicts.specs.Acceptance.{accepts}
 use Rattle.commands.specs.Reading.{Read, whole, refused, andThen, when, enough}
 use Rattle.commands.proofs.Laws.{andThen-whole, when-whole}
 use Rattle.vocabularies.specs.Vocabulary.{Vocabulary, declared}
@@ -20,8 +20,9 @@ use Rattle.programs.specs.ProgramReading.{program}
 use Rattle.programs.specs.Runs.{Choice}
 use Rattle.summaries.specs.Proposal.{Head}
 use Rattle.summaries.specs.ProposalReading.{proposal}
-use Rattle.jobs.specs.Job.{Job, job}
-use Rattle.jobs.specs.JobVerdict.{JobVerdict, accepted}
+use Rattle.summaries.specs.Summaries.{Environment}
+use Rattle.jobs.specs.Job.{Script, Job, script, job}
+use Rattle.jobs.specs.JobVerdict.{ScriptVerdict, start-uncovered, step-uncovered, not-root, wrong-element, accepted, JobVerdict, unreadable, readable}
 use Rattle.jobs.specs.Guarantee.{Guarantee, ShowsOnlyRightPages}
 use Rattle.soundness.proofs.Run.{InRange, all-right}
 use Rattle.soundness.proofs.Ranges.{program-in-range}
@@ -40,36 +41,51 @@ alone-whole {A} s r a end e =
     stops : A → ℕ → Read A
     stops b next = when (ltb next (length s)) (λ _. refused NotAllowed next) (λ _. whole b next)
 
--- A job that reads names variables in range.
+-- A script that reads names variables in range, and so does a job.
 module _ (s : List ℕ) where
-  abbrev with-proposal : Vocabulary → List Items → List Statement → List Head → ℕ → Read Job
-  with-proposal D φs ts hs end = whole (record { vocabulary = D; templates = φs; program = ts; proposal = hs }) end
+  abbrev with-program : Vocabulary → List Items → List Statement → ℕ → Read Script
+  with-program D φs ts end = whole (record { vocabulary = D; templates = φs; program = ts }) end
 
-  abbrev with-program : Vocabulary → List Items → List Statement → ℕ → Read Job
-  with-program D φs ts next = andThen (proposal (enough s) (length φs) (length ts) s 0 next) (with-proposal D φs ts)
-
-  abbrev with-templates : Vocabulary → List Items → ℕ → Read Job
+  abbrev with-templates : Vocabulary → List Items → ℕ → Read Script
   with-templates D φs next = andThen (program (enough s) (length φs) s next) (with-program D φs)
 
-  abbrev with-vocabulary : Vocabulary → ℕ → Read Job
+  abbrev with-vocabulary : Vocabulary → ℕ → Read Script
   with-vocabulary D next = andThen (templates (enough s) (declared (D .rules)) s 0 next) (with-templates D)
 
-  in-range : (j : Job) (end : ℕ) → job s ≡ whole j end → InRange (j .program)
+  script-in-range : (π : Script) (end : ℕ) → script s ≡ whole π end → InRange (π .program)
+  unfolding script
+  script-in-range π end e =
+      let v = andThen-whole (vocabulary s) with-vocabulary π end e in
+      let t = andThen-whole (templates (enough s) (declared (v .0 .rules)) s 0 (v .1)) (with-templates (v .0)) π end (v .3) in
+      let p = andThen-whole (program (enough s) (length (t .0)) s (t .1)) (with-program (v .0) (t .0)) π end (t .3) in
+      let q : record { vocabulary = v .0; templates = t .0; program = p .0 } ≡ π = cc (p .3) in
+      subst (λ (k : Script). InRange (k .program)) q (program-in-range (enough s) (length (t .0)) s (t .1) (p .0) (p .1) (p .2))
+
+  abbrev with-proposal : Script → List Head → ℕ → Read Job
+  with-proposal π hs end = whole (record { script = π; proposal = hs }) end
+
+  abbrev with-script : Script → ℕ → Read Job
+  with-script π next = andThen (proposal (enough s) (length (π .templates)) (length (π .program)) s 0 next) (with-proposal π)
+
+  in-range : (j : Job) (end : ℕ) → job s ≡ whole j end → InRange (j .script .program)
   unfolding job
   in-range j end e =
-      let a = alone-whole s (andThen (vocabulary s) with-vocabulary) j end e in
-      let v = andThen-whole (vocabulary s) with-vocabulary j (a .0) (a .1) in
-      let t = andThen-whole (templates (enough s) (declared (v .0 .rules)) s 0 (v .1)) (with-templates (v .0)) j (a .0) (v .3) in
-      let p = andThen-whole (program (enough s) (length (t .0)) s (t .1)) (with-program (v .0) (t .0)) j (a .0) (t .3) in
-      let h = andThen-whole (proposal (enough s) (length (t .0)) (length (p .0)) s 0 (p .1)) (with-proposal (v .0) (t .0) (p .0)) j (a .0) (p .3) in
-      let q : record { vocabulary = v .0; templates = t .0; program = p .0; proposal = h .0 } ≡ j = cc (h .3) in
-      subst (λ (k : Job). InRange (k .program)) q (program-in-range (enough s) (length (t .0)) s (t .1) (p .0) (p .1) (p .2))
+      let a = alone-whole s (andThen (script s) with-script) j end e in
+      let c = andThen-whole (script s) with-script j (a .0) (a .1) in
+      let h = andThen-whole (proposal (enough s) (length (c .0 .templates)) (length (c .0 .program)) s 0 (c .1)) (with-proposal (c .0)) j (a .0) (c .3) in
+      let q : record { script = c .0; proposal = h .0 } ≡ j = cc (h .3) in
+      subst (λ (k : Job). InRange (k .script .program)) q (script-in-range (c .0) (c .1) (c .2))
 
-accepted-shows-right : (s : List ℕ) → JobVerdict s Accepted
-    → (j : Job) × (end : ℕ) × (job s ≡ whole j end) × ((choices : List Choice) → ShowsOnlyRightPages j choices)
-accepted-shows-right s (accepted {j = j} {end = end} reads covered shows) =
-    (j, end, reads, all-right j (in-range s j end reads) covered shows)
+-- The runs of a script that is accepted with some entries show only right pages.
+script-shows-right : {π : Script} {E : ℕ → Environment} {answer : Verdict} → InRange (π .program) → accepts answer ≡ true → ScriptVerdict π E answer
+    → (choices : List Choice) → ShowsOnlyRightPages π choices
+script-shows-right r e (start-uncovered h n b) = absurd (false≢true e)
+script-shows-right r e (step-uncovered second starts h n b) = absurd (false≢true e)
+script-shows-right r e (not-root c shows n l) = absurd (false≢true e)
+script-shows-right r e (wrong-element c shows n w l) = absurd (false≢true e)
+script-shows-right {π} {E} r e (accepted covered shows) = all-right π E r covered shows
 
 -- An answer that is the job's verdict keeps what demand 3 claims.
 pub guarantee : (s : List ℕ) (answer : Verdict) → JobVerdict s answer → Guarantee s answer
-guarantee s answer verdict e = accepted-shows-right s (subst (JobVerdict s) e verdict)
+guarantee s answer (unreadable q) e = absurd (false≢true e)
+guarantee s answer (readable {j = j} {end = end} reads v) e = (j, end, reads, script-shows-right (in-range s j end reads) e v)

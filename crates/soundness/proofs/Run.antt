@@ -13,10 +13,10 @@ use Rattle.pages.specs.RightPages.{Right, _∈_}
 use Rattle.programs.specs.Program.{Act, copyTemplate, setTemplate, copyString, setString, anyString, plug, plugString, show, Statement, step, stop, Variable, templates, strings, actNames, statementNames, named, statementAt}
 use Rattle.programs.specs.Runs.{Choice, State, start, actTemplates, actStrings, actPages, after, stepped, runFrom, shown, closed}
 use Rattle.summaries.specs.ProposalReading.{variableOf}
-use Rattle.summaries.specs.Summaries.{Summary, Strings, Environment, transferTemplate, transferString, transfer, entries, fragment}
+use Rattle.summaries.specs.Summaries.{Summary, Strings, Environment, transferTemplate, transferString, transfer, fragment}
 use Rattle.summaries.specs.Covering.{WithinAt, StepCovered, startEnvironment}
-use Rattle.summaries.specs.Languages.{closedSummary, graphShown, graphOf, statementShows}
-use Rattle.jobs.specs.Job.{Job}
+use Rattle.summaries.specs.Languages.{closedSummary, statementGraph, graphShown}
+use Rattle.jobs.specs.Job.{Script}
 use Rattle.jobs.specs.JobVerdict.{AllCovered, ShowHolds, StatementHolds}
 use Rattle.soundness.proofs.Tests.{or-left, or-right}
 use Rattle.soundness.proofs.Described.{Describes, nothing}
@@ -79,12 +79,12 @@ module _ (φs : List Items) (E : Environment) (X : ℕ → Items) (Y : ℕ → �
   act-strings (plugString x x′ h y) s n k e = hY k e
   act-strings (show x) s n k e = hY k e
 
-module _ (j : Job) (in-range : InRange (j .program)) (covered : AllCovered j) (shows : (p : ℕ) → ShowHolds j p) where
+module _ (π : Script) (E : ℕ → Environment) (in-range : InRange (π .program)) (covered : AllCovered π E) (shows : (p : ℕ) → ShowHolds π E p) where
   -- What holds at each point of a run.
   pub record Invariant (σ : State) : Type 0 where
-    pub template : (x : ℕ) → named (j .program) (templates x) ≡ true → Holds (entries (j .proposal) (σ .point) .template x) (j .templates) (σ .template x)
-    pub string : (y : ℕ) → named (j .program) (strings y) ≡ true → entries (j .proposal) (σ .point) .string y (σ .string y) ≡ true
-    pub pages : (page : Items) → page ∈ (σ .pages) → Right (j .vocabulary) page
+    pub template : (x : ℕ) → named (π .program) (templates x) ≡ true → Holds (E (σ .point) .template x) (π .templates) (σ .template x)
+    pub string : (y : ℕ) → named (π .program) (strings y) ≡ true → E (σ .point) .string y (σ .string y) ≡ true
+    pub pages : (page : Items) → page ∈ (σ .pages) → Right (π .vocabulary) page
 
   template-number : (x : ℕ) → x < 4 → variableOf x ≡ templates x
   template-number x h = rw (lt-ltb x 4 h)
@@ -98,51 +98,51 @@ module _ (j : Job) (in-range : InRange (j .program)) (covered : AllCovered j) (s
   begins : Invariant start
   begins = record {
     template = λ x n. within-holds
-        (subst (λ (v : Variable). named (j .program) v ≡ true → WithinAt v startEnvironment (entries (j .proposal) 0))
+        (subst (λ (v : Variable). named (π .program) v ≡ true → WithinAt v startEnvironment (E 0))
         (template-number x (in-range .template x n)) (covered .start x (omega (arith, in-range .template x n))) n)
-        (record { origin = 0; is-root = refl; describes = subst (λ (φ : Items). Describes (fragment 0 none) (j .templates) 0 φ none) (sym (template-zero (j .templates))) nothing });
+        (record { origin = 0; is-root = refl; describes = subst (λ (φ : Items). Describes (fragment 0 none) (π .templates) 0 φ none) (sym (template-zero (π .templates))) nothing });
     string = λ y n.
-        subst (λ (v : Variable). named (j .program) v ≡ true → WithinAt v startEnvironment (entries (j .proposal) 0))
+        subst (λ (v : Variable). named (π .program) v ≡ true → WithinAt v startEnvironment (E 0))
         (string-number y (in-range .string y n)) (covered .start (y + 4) (omega (arith, in-range .string y n))) n 0 refl;
     pages = λ page m. absurd (List·Memᴰ·not-nil m);
   }
 
-  graph-at : (p : ℕ) {q q′ : ℕ} (x : ℕ) → statementAt (j .program) p ≡ step (show x) q q′
-      → graphShown (j .program) (j .proposal) p ≡ some (closedSummary (entries (j .proposal) p .template x))
+  graph-at : (p : ℕ) {q q′ : ℕ} (x : ℕ) → statementAt (π .program) p ≡ step (show x) q q′
+      → graphShown (π .templates) (π .program) E p ≡ some (closedSummary (E p .template x))
   unfolding graphShown
-  graph-at p x e = ap (λ (t : Statement). graphOf (j .proposal) p (statementShows t)) e
+  graph-at p x e = ap (λ (t : Statement). statementGraph (π .templates) t (E p)) e
 
   -- The step to a next point, in the terms of covering.
-  module _ (σ : State) (i : Invariant σ) (a : Act) (q q′ : ℕ) (at : statementAt (j .program) (σ .point) ≡ step a q q′) where
-    names : (v : Variable) → actNames a v ≡ true → named (j .program) v ≡ true
-    names v e = names-of (j .program) (σ .point) v (rw at e)
+  module _ (σ : State) (i : Invariant σ) (a : Act) (q q′ : ℕ) (at : statementAt (π .program) (σ .point) ≡ step a q q′) where
+    names : (v : Variable) → actNames a v ≡ true → named (π .program) v ≡ true
+    names v e = names-of (π .program) (σ .point) v (rw at e)
 
     covers : (second : Bool) (n : ℕ) → n < 8
-        → StepCovered (j .templates) (j .program) (j .proposal) (σ .point) a (cond second q′ q) (variableOf n)
-    covers second n h = subst (λ (t : Statement). StatementHolds j (σ .point) t second n) at (covered .steps (σ .point) second n h)
+        → StepCovered (π .templates) (π .program) E (σ .point) a (cond second q′ q) (variableOf n)
+    covers second n h = subst (λ (t : Statement). StatementHolds π E (σ .point) t second n) at (covered .steps (σ .point) second n h)
 
-    next-template : (second : Bool) (x : ℕ) → named (j .program) (templates x) ≡ true
-        → Holds (entries (j .proposal) (cond second q′ q) .template x) (j .templates) (actTemplates (j .templates) a (σ .template) (σ .string) x)
+    next-template : (second : Bool) (x : ℕ) → named (π .program) (templates x) ≡ true
+        → Holds (E (cond second q′ q) .template x) (π .templates) (actTemplates (π .templates) a (σ .template) (σ .string) x)
     next-template second x n = within-holds
-        (subst (λ (v : Variable). named (j .program) v ≡ true
-        → WithinAt v (transfer (j .templates) a (entries (j .proposal) (σ .point))) (entries (j .proposal) (cond second q′ q)))
+        (subst (λ (v : Variable). named (π .program) v ≡ true
+        → WithinAt v (transfer (π .templates) a (E (σ .point))) (E (cond second q′ q)))
         (template-number x (in-range .template x n)) (covers second x (omega (arith, in-range .template x n))) n)
-        (act-templates (j .templates) (entries (j .proposal) (σ .point)) (σ .template) (σ .string) (named (j .program)) (i .template) (i .string) a names x n)
+        (act-templates (π .templates) (E (σ .point)) (σ .template) (σ .string) (named (π .program)) (i .template) (i .string) a names x n)
 
-    next-string : (second : Bool) (s y : ℕ) → named (j .program) (strings y) ≡ true
-        → entries (j .proposal) (cond second q′ q) .string y (actStrings a s (σ .string) y) ≡ true
+    next-string : (second : Bool) (s y : ℕ) → named (π .program) (strings y) ≡ true
+        → E (cond second q′ q) .string y (actStrings a s (σ .string) y) ≡ true
     next-string second s y n =
-        subst (λ (v : Variable). named (j .program) v ≡ true
-        → WithinAt v (transfer (j .templates) a (entries (j .proposal) (σ .point))) (entries (j .proposal) (cond second q′ q)))
+        subst (λ (v : Variable). named (π .program) v ≡ true
+        → WithinAt v (transfer (π .templates) a (E (σ .point))) (E (cond second q′ q)))
         (string-number y (in-range .string y n)) (covers second (y + 4) (omega (arith, in-range .string y n))) n
         (actStrings a s (σ .string) y)
-        (act-strings (j .templates) (entries (j .proposal) (σ .point)) (σ .template) (σ .string) (named (j .program)) (i .template) (i .string) a s names y n)
+        (act-strings (π .templates) (E (σ .point)) (σ .template) (σ .string) (named (π .program)) (i .template) (i .string) a s names y n)
 
     -- A page that the step shows is right.
-    new-page : (page : Items) → page ∈ actPages a (σ .template) → Right (j .vocabulary) page
+    new-page : (page : Items) → page ∈ actPages (π .templates) a (σ .template) → Right (π .vocabulary) page
     new-page page m = go a at m
       where
-        go : (b : Act) → statementAt (j .program) (σ .point) ≡ step b q q′ → page ∈ actPages b (σ .template) → Right (j .vocabulary) page
+        go : (b : Act) → statementAt (π .program) (σ .point) ≡ step b q q′ → page ∈ actPages (π .templates) b (σ .template) → Right (π .vocabulary) page
         go (copyTemplate x x′) e m = absurd (List·Memᴰ·not-nil m)
         go (setTemplate x t) e m = absurd (List·Memᴰ·not-nil m)
         go (copyString y y′) e m = absurd (List·Memᴰ·not-nil m)
@@ -150,26 +150,26 @@ module _ (j : Job) (in-range : InRange (j .program)) (covered : AllCovered j) (s
         go (anyString y) e m = absurd (List·Memᴰ·not-nil m)
         go (plug x x′ g x″) e m = absurd (List·Memᴰ·not-nil m)
         go (plugString x x′ h y) e m = absurd (List·Memᴰ·not-nil m)
-        go (show x) e m = subst (Right (j .vocabulary)) (sym (List·Memᴰ·eq-of-singleton m))
-            (shows (σ .point) (closedSummary (entries (j .proposal) (σ .point) .template x))
+        go (show x) e m = subst (Right (π .vocabulary)) (sym (List·Memᴰ·eq-of-singleton m))
+            (shows (σ .point) (closedSummary (E (σ .point) .template x))
             (graph-at (σ .point) x e) (closed (σ .template x))
-            (shown-in-language (i .template x (names-of (j .program) (σ .point) (templates x) (rw e (eq-eqb x x refl))))))
+            (shown-in-language (i .template x (names-of (π .program) (σ .point) (templates x) (rw e (eq-eqb x x refl))))))
 
-  keeps : (c : Choice) (σ : State) (t : Statement) → statementAt (j .program) (σ .point) ≡ t → Invariant σ → Invariant (after (j .templates) t c σ)
+  keeps : (c : Choice) (σ : State) (t : Statement) → statementAt (π .program) (σ .point) ≡ t → Invariant σ → Invariant (after (π .templates) t c σ)
   keeps c σ stop e i = i
   keeps c σ (step a q q′) e i = record {
     template = next-template σ i a q q′ e (c .second);
     string = next-string σ i a q q′ e (c .second) (c .string);
-    pages = λ page m. ⊎-elim (λ (m′ : page ∈ (σ .pages)). i .pages page m′) (λ (m′ : page ∈ actPages a (σ .template)). new-page σ i a q q′ e page m′)
+    pages = λ page m. ⊎-elim (λ (m′ : page ∈ (σ .pages)). i .pages page m′) (λ (m′ : page ∈ actPages (π .templates) a (σ .template)). new-page σ i a q q′ e page m′)
         (List·Memᴰ·append-cases (σ .pages) m);
   }
 
-  holds-throughout : (cs : List Choice) (σ : State) → Invariant σ → Invariant (runFrom (j .templates) (j .program) σ cs)
+  holds-throughout : (cs : List Choice) (σ : State) → Invariant σ → Invariant (runFrom (π .templates) (π .program) σ cs)
   unfolding runFrom
   holds-throughout [] σ i = i
-  holds-throughout (c ∷ cs) σ i = holds-throughout cs (stepped (j .templates) (j .program) c σ) (keeps c σ (statementAt (j .program) (σ .point)) refl i)
+  holds-throughout (c ∷ cs) σ i = holds-throughout cs (stepped (π .templates) (π .program) c σ) (keeps c σ (statementAt (π .program) (σ .point)) refl i)
 
   -- Every page of every run is right.
-  pub all-right : (cs : List Choice) (page : Items) → page ∈ shown (j .templates) (j .program) cs → Right (j .vocabulary) page
+  pub all-right : (cs : List Choice) (page : Items) → page ∈ shown (π .templates) (π .program) cs → Right (π .vocabulary) page
   unfolding shown
   all-right cs = holds-throughout cs start begins .pages

@@ -3,9 +3,10 @@ use Prim.Native.Nat.{ℕ}
 use mathlib.Core.Path.{_≡_, refl, sym, ap, subst}
 use mathlib.Core.List.{List, [], _∷_}
 use mathlib.Core.Bool.{true, false, false≢true}
-use Rattle.pages.specs.Items.{string, Attribute, Item, text, gap, element, Items, none, one}
+use Rattle.commands.specs.Commands.{emptyString}
+use Rattle.pages.specs.Items.{Attribute, Item, text, gap, element, Items, none, one}
 use Rattle.programs.specs.Program.{templateAt}
-use Rattle.programs.specs.Runs.{closed, closingString}
+use Rattle.programs.specs.Runs.{closed, stringOf, closing}
 use Rattle.summaries.specs.Proposal.{root, edge, gapFrom, attributeGapFrom}
 use Rattle.summaries.specs.Proposal as Proposal
 use Rattle.summaries.specs.Summaries.{Summary}
@@ -53,12 +54,12 @@ shown-in-language {S} {φs} {v} a = (
   (
     a .is-root,
     derive S φs
-        (described-replaced S (sealed S) φs (λ g. none) (λ h. string closingString)
+        (described-replaced S (sealed S) φs (λ g. none) (λ h. stringOf closing)
         (λ n g m e. or-left (S (edge n g m)) _ e)
         (λ n h s e. or-left (S (Proposal.string n h s)) _ e)
         (λ n g e. gap-takes 0 (or-right (S (edge n g 0)) (S (gapFrom g n)) e)
         (subst (λ (φ : Items). Describes (sealed S) φs 0 φ none) (sym (template-zero φs)) nothing))
-        (λ n h e. takes closingString (or-right (S (Proposal.string n h closingString)) (S (attributeGapFrom h n)) e))
+        (λ n h e. takes emptyString (or-right (S (Proposal.string n h emptyString)) (S (attributeGapFrom h n)) e))
         (a .describes)),
   ),
 )

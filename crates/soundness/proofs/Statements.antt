@@ -3,17 +3,18 @@ use Prim.Native.Nat.{ℕ}
 use mathlib.Core.Path.{_≡_, refl, ap, subst, _∙_}
 use mathlib.Core.List.{List, [], _∷_}
 use mathlib.Core.Bool.{Bool, true, false, cond, _&&_, _||_}
+use mathlib.Core.Option.{Option, some}
 use lib.Dec.{eqb}
 use borrow.Author.Tests.{eq-eqb}
 use Rattle.pages.specs.Items.{Value, string, open-gap, Attribute, Item, text, gap, element, Items, none, more, one, _⋈_, gapIn, gapInItem, attributeGapIn, attributeGapInItem, openIn, isOpenGap}
 use Rattle.programs.specs.Program.{templateAt}
-use Rattle.programs.specs.Runs.{replaced, replacedItem, filled, filledValue, stay, plugged, pluggedString}
+use Rattle.programs.specs.Runs.{replaced, replacedItem, filled, filledBefore, filledValue, stay, stayOpen, plugged, pluggedString}
 use Rattle.summaries.specs.Proposal.{Claim, root, edge, gapFrom, attributeGapFrom}
 use Rattle.summaries.specs.Proposal as Proposal
 use Rattle.summaries.specs.Summaries.{Summary, Strings, fragment, plugSummary, plugStringSummary}
 use Rattle.summaries.specs.Languages as Languages
 use Rattle.soundness.proofs.Tests.{or-left, or-right, and-both}
-use Rattle.soundness.proofs.Described.{Fills, takes, stays, AttributesDescribed, no-attribute, fixed, holds, Describes, nothing, item-then, DescribesItem, text-stays, gap-stays, gap-takes, element-keeps, described-replaced}
+use Rattle.soundness.proofs.Described.{FillsWith, takes, stays, AttributesDescribed, no-attribute, fixed, holds, Describes, nothing, item-then, DescribesItem, text-stays, gap-stays, gap-takes, element-keeps, described-replaced}
 
 -- A value is described where some root's template derives it, with gaps left open.
 pub record Holds (S : Summary) (φs : List Items) (v : Items) : Type 0 where
@@ -22,30 +23,30 @@ pub record Holds (S : Summary) (φs : List Items) (v : Items) : Type 0 where
   pub describes : Describes S φs origin (templateAt φs origin) v
 
 -- A replacement that changes nothing.
-value-unchanged : (v : Value) → filledValue open-gap v ≡ v
+value-unchanged : (v : Value) → filledValue stayOpen v ≡ some v
 value-unchanged (string s) = refl
 value-unchanged (open-gap h) = refl
 
-attributes-unchanged : (δ : List Attribute) → filled open-gap δ ≡ δ
+attributes-unchanged : (δ : List Attribute) → filled stayOpen δ ≡ δ
 unfolding filled
 attributes-unchanged [] = refl
 attributes-unchanged (a ∷ δ) =
-    ap (λ (v : Value). record { name = a .name; value = v } ∷ filled open-gap δ) (value-unchanged (a .value))
+    ap (λ (o : Option Value). filledBefore (a .name) o (filled stayOpen δ)) (value-unchanged (a .value))
     ∙ ap (λ (δ′ : List Attribute). a ∷ δ′) (attributes-unchanged δ)
 
 mutual
   unfolding replaced _⋈_
 
-  unchanged : (φ : Items) → replaced stay open-gap φ ≡ φ
+  unchanged : (φ : Items) → replaced stay stayOpen φ ≡ φ
   unchanged none = refl
   unchanged (more i φ) =
-      ap (λ (ψ : Items). ψ ⋈ replaced stay open-gap φ) (item-unchanged i) ∙ ap (more i) (unchanged φ)
+      ap (λ (ψ : Items). ψ ⋈ replaced stay stayOpen φ) (item-unchanged i) ∙ ap (more i) (unchanged φ)
 
-  item-unchanged : (i : Item) → replacedItem stay open-gap i ≡ one i
+  item-unchanged : (i : Item) → replacedItem stay stayOpen i ≡ one i
   item-unchanged text = refl
   item-unchanged (gap g) = refl
   item-unchanged (element e mark δ φ) =
-      ap (λ (δ′ : List Attribute). one (element e mark δ′ (replaced stay open-gap φ))) (attributes-unchanged δ)
+      ap (λ (δ′ : List Attribute). one (element e mark δ′ (replaced stay stayOpen φ))) (attributes-unchanged δ)
       ∙ ap (λ (φ′ : Items). one (element e mark δ φ′)) (unchanged φ)
 
 -- What S holds but for its roots, T holds.
@@ -58,7 +59,7 @@ pub record Extends (S T : Summary) : Type 0 where
 pub extended : {S T : Summary} {φs : List Items} {n : ℕ} {φ v : Items} → Extends S T → Describes S φs n φ v → Describes T φs n φ v
 extended {S} {T} {φs} {n} {φ} {v} x d =
     subst (Describes T φs n φ) (unchanged v)
-    (described-replaced S T φs stay open-gap (x .edges) (x .strings)
+    (described-replaced S T φs stay stayOpen (x .edges) (x .strings)
     (λ k g e. gap-stays (x .gaps k g e)) (λ k h e. stays (x .attribute-gaps k h e)) d)
 
 pub within-holds : {S T : Summary} {φs : List Items} {v : Items} → ((a : Claim) → S a ≡ true → T a ≡ true) → Holds S φs v → Holds T φs v
@@ -150,7 +151,7 @@ unfolding plugged
 plug-holds g {S} {T} {φs} {v} {new} a b = record {
   origin = a .origin;
   is-root = a .is-root;
-  describes = described-replaced S (plugSummary g S T) φs (λ k. cond (eqb k g) new (stay k)) open-gap
+  describes = described-replaced S (plugSummary g S T) φs (λ k. cond (eqb k g) new (stay k)) stayOpen
       (λ n k m s. or-left (S (edge n k m) || T (edge n k m)) _ (or-left (S (edge n k m)) (T (edge n k m)) s))
       (λ n h s e. or-left (S (Proposal.string n h s)) (T (Proposal.string n h s)) e)
       (λ n k s. put g S T φs new (b .origin) (b .is-root) (b .describes) n k (eqb k g) refl s)
@@ -160,7 +161,7 @@ plug-holds g {S} {T} {φs} {v} {new} a b = record {
 
 -- A plug into attribute gap h.
 plugged-value : (h : ℕ) (S : Summary) (Y : Strings) (s : ℕ) → Y s ≡ true → (n k : ℕ) (b : Bool) → eqb k h ≡ b → S (attributeGapFrom k n) ≡ true
-    → Fills (plugStringSummary h S Y) n k (cond b (string s) (open-gap k))
+    → FillsWith (plugStringSummary h S Y) n k (cond b (some (string s)) (stayOpen k))
 plugged-value h S Y s y n k true e a =
     takes s (or-right (S (Proposal.string n k s)) _ (and-both (eqb k h && S (attributeGapFrom k n)) (Y s) (and-both (eqb k h) (S (attributeGapFrom k n)) e a) y))
 plugged-value h S Y s y n k false e a = stays (rw e a)
@@ -171,7 +172,7 @@ unfolding pluggedString
 plug-string-holds h {S} {φs} {v} Y s y a = record {
   origin = a .origin;
   is-root = a .is-root;
-  describes = described-replaced S (plugStringSummary h S Y) φs stay (λ k. cond (eqb k h) (string s) (open-gap k))
+  describes = described-replaced S (plugStringSummary h S Y) φs stay (λ k. cond (eqb k h) (some (string s)) (stayOpen k))
       (λ n k m e. e)
       (λ n k t e. or-left (S (Proposal.string n k t)) _ e)
       (λ n k e. gap-stays e)

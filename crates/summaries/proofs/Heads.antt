@@ -19,9 +19,8 @@ use Rattle.commands.specs.declared.Part.{Part}
 use Rattle.commands.specs.declared.Part.the-variants as Parts
 use Rattle.commands.specs.Commands.{byte, allowed, command, operandsOf}
 use Rattle.commands.specs.Reading.{Read, whole, refused, andThen, onDecoded, when, enough}
-use Rattle.commands.specs.Parts.{AgreesAs, Enough}
+use Rattle.commands.specs.Parts.{AgreesAs, Enough, partOf}
 use Rattle.commands.proofs.Laws.{MovedOver, moved}
-use Rattle.vocabularies.specs.Promises.{partOf}
 use Rattle.programs.specs.Program.{templates, strings}
 use Rattle.programs.proofs.Laws.{nth, entry-low, WholeAs, agrees-map, agrees-whole, agrees-refused, enough-enough, enough-after, fewer-left, Stay}
 use Rattle.summaries.specs.Proposal.{Fact, Head}

@@ -15,7 +15,18 @@ use Rattle.commands.specs.declared.Decoded.{Decoded}
 use Rattle.commands.specs.declared.Decoded.the-variants.{Moved, Refused}
 use Rattle.commands.specs.Commands.{byte, command}
 use Rattle.summaries.specs.ProposalReading.{factAt, factThere, rank}
-use Rattle.summaries.specs.Promises.{Ranked, testedFact, factHere, testedHead, headHere}
+use Rattle.summaries.specs.Promises.{Ranked, testedHead, headHere}
+
+-- An item with what is tested on it alone, in document 01's order: 8 before 5.
+abbrev pub testedFact : ℕ → List ℕ → ℕ → ℕ → Decoded → Decoded
+testedFact count s least at (Moved code next) =
+    cond (factThere count (factAt s at code))
+    (cond (leb least (rank s at code)) (Moved code next) (Refused NotRising at))
+    (Refused Missing at)
+testedFact count s least at (Refused form n) = Refused form n
+
+abbrev pub factHere : Context → ℕ → List ℕ → ℕ → ℕ → Decoded
+factHere x count s least at = testedFact count s least at (command x s at)
 
 never-moves : {A : Type 0} (f : Form) (n code : ℕ) (next : Position) → Refused f n ≡ Moved code next → A
 never-moves f n code next e = absurd (let z : _≡_ {A = ℕ} 0 1 = cc in omega arith)

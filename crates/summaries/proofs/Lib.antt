@@ -1,6 +1,6 @@
 mod Items
 pub mod Here
 pub mod Reading
-pub mod ShortItems
 mod Heads
+pub mod Steps
 pub mod Laws

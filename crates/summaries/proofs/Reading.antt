@@ -1,5 +1,5 @@
 -- What reading the items from an offset on gives, from what is read there.
-use Prim.Native.Nat.{ℕ, zero, suc, _+_, _≤_}
+use Prim.Native.Nat.{ℕ, zero, suc, _+_, _≤_, _<_}
 use mathlib.Core.Path.{_≡_, refl, sym, ap, _∙_}
 use mathlib.Core.List.{List, [], _∷_}
 use mathlib.Core.Bool.{Bool, true, false, cond, not}
@@ -17,14 +17,13 @@ use Rattle.commands.specs.declared.Part.{Part}
 use Rattle.commands.specs.declared.Part.the-variants as Parts
 use Rattle.commands.specs.Commands.{byte, allowed, command}
 use Rattle.commands.specs.Reading.{Read, whole, refused, andThen, onDecoded, when}
-use Rattle.commands.specs.Parts.{Enough}
+use Rattle.commands.specs.Parts.{Enough, partOf}
 use Rattle.commands.proofs.Laws.{andThen-whole, onDecoded-whole}
-use Rattle.vocabularies.specs.Promises.{partOf}
 use Rattle.programs.proofs.Laws.{agrees-map, enough-after, fewer-left}
 use Rattle.summaries.specs.Proposal.{Fact}
 use Rattle.summaries.specs.ProposalReading.{factAt, factThere, rank, facts}
-use Rattle.summaries.specs.Promises.{Ranked, testedFact, factHere, FactsRead}
-use Rattle.summaries.proofs.Here.{FactStands, fact-stands}
+use Rattle.summaries.specs.Promises.{Ranked, FactsRead}
+use Rattle.summaries.proofs.Here.{testedFact, factHere, fact-refused, fact-missing, fact-not-rising, fact-moves, FactStands, fact-stands}
 
 module _ (x : Context) (count : ℕ) (s : List ℕ) (least at : ℕ) where
   -- The reading goes by what is read here.
@@ -61,22 +60,33 @@ module _ (x : Context) (count : ℕ) (s : List ℕ) (least at : ℕ) where
       let no-item : allowed x (byte s at) ≡ false = rw c-is at (sym b-is ∙ not-true b n) in
       rw (reads-here f, no-item) (h, le-refl at)
 
-  module _ (b : Bool) (code₀ : ℕ) (c-is : code₀ ≡ byte s at) (b-is : b ≡ allowed x code₀) (item : not b ≡ false) (d : Decoded) (d-is : d ≡ factHere x count s least at) where
+  module _ (b : Bool) (code₀ : ℕ) (c-is : code₀ ≡ byte s at) (b-is : b ≡ allowed x code₀) (item : not b ≡ false) where
     an-item : allowed x (byte s at) ≡ true
     an-item = rw c-is at (sym b-is ∙ not-false b item)
 
-    pub facts-refused : (form : Form) (n : ℕ) (part : Part) → d ≡ Refused form n → part ≡ partOf d → FactsRead x count s least at part
-    facts-refused form n part e p zero h = absurd (omega arith)
-    facts-refused form n part e p (suc f) h = rw (reads-here f, an-item, ← d-is, p, e) (refl, refl)
+    reads-refusal : (form : Form) (n : ℕ) → Refused form n ≡ factHere x count s least at → FactsRead x count s least at (Parts.Refused form n)
+    reads-refusal form n e zero h = absurd (omega arith)
+    reads-refusal form n e (suc f) h = rw (reads-here f, an-item, ← e) (refl, refl)
 
-    pub facts-go-on : (code : ℕ) (next : Position) (part : Part) (r : ℕ) → d ≡ Moved code next → FactStands x count s least at code next → Ranked s at code r
-        → FactsRead x count s (r + 1) (next .at) part → FactsRead x count s least at part
-    facts-go-on code next part r e m ranks later zero h = absurd (omega arith)
-    facts-go-on code next part r e m ranks later (suc f) h =
-        rw (reads-here f, an-item, ← d-is, e, ← (ranks .is))
-        (agrees-map (λ φs end. next .at ≤ end) (λ φs end. at ≤ end) (λ φs. factAt s at code ∷ φs) (facts f x count s (r + 1) (next .at)) part
-        (λ φs end l. let w = fewer-left x s at code next (m .read) in omega arith)
-        (later f (enough-after x s at code next (m .read) f h)))
+    module _ (d : Decoded) (d-is : d ≡ command x s at) where
+      pub facts-refused : (form : Form) (n : ℕ) (part : Part) → d ≡ Refused form n → part ≡ partOf d → FactsRead x count s least at part
+      facts-refused form n part e p = rw (p, e) (reads-refusal form n (sym e ∙ fact-refused x count s least at d d-is form n e))
+
+      module _ (code : ℕ) (next : Position) (e : d ≡ Moved code next) (b′ : Bool) (there : b′ ≡ factThere count (factAt s at code)) where
+        pub facts-missing : not b′ ≡ true → FactsRead x count s least at (Parts.Refused Missing at)
+        facts-missing h = reads-refusal Missing at (fact-missing x count s least at d d-is code next e b′ there h)
+
+        module _ (h : not b′ ≡ false) (r : ℕ) (ranks : Ranked s at code r) where
+          pub facts-fall : r < least → FactsRead x count s least at (Parts.Refused NotRising at)
+          facts-fall l = reads-refusal NotRising at (fact-not-rising x count s least at d d-is code next e b′ there h r ranks l)
+
+          pub facts-go-on : least ≤ r → (part : Part) → FactsRead x count s (r + 1) (next .at) part → FactsRead x count s least at part
+          facts-go-on l part later zero n = absurd (omega arith)
+          facts-go-on l part later (suc f) n =
+              rw (reads-here f, an-item, ← fact-moves x count s least at d d-is code next e b′ there h r ranks l, ← (ranks .is))
+              (agrees-map (λ φs end. next .at ≤ end) (λ φs end. at ≤ end) (λ φs. factAt s at code ∷ φs) (facts f x count s (r + 1) (next .at)) part
+              (λ φs end l. let w = fewer-left x s at code next (sym d-is ∙ e) in omega arith)
+              (later f (enough-after x s at code next (sym d-is ∙ e) f n)))
 
 -- Two fuels that are enough read the same.
 module _ (x : Context) (count : ℕ) (s : List ℕ) (least at f g : ℕ) where

@@ -1,5 +1,6 @@
--- Covering (document 01, "Covering, and the language of a show"): the entries at point 0 cover the start, and those of every next
--- point cover each step, for the variables that some statement names. Points are covered whether a run can reach them or not.
+-- Covering (document 01, "Covering, and the language of a show"), at one variable: the entry at point 0 covers the start, that of a next
+-- point covers the step to it, if some statement names the variable. The entries of all points are given; a proposal is one way to give
+-- them (`entries`), the smallest that cover another (document 02, F-1).
 use Prim.Native.Nat.{ℕ}
 use mathlib.Core.Path.{_≡_}
 use mathlib.Core.List.{List}
@@ -9,8 +10,7 @@ use Rattle.commands.specs.Commands.{emptyString}
 use Rattle.pages.specs.Items.{Items}
 use Rattle.pages.specs.Items as Items
 use Rattle.programs.specs.Program.{Act, Statement, Variable, templates, strings, named}
-use Rattle.summaries.specs.Proposal.{Head}
-use Rattle.summaries.specs.Summaries.{Environment, Within, fragment, transfer, entries}
+use Rattle.summaries.specs.Summaries.{Environment, Within, fragment, transfer}
 
 -- One variable's entry lies within another environment's.
 abbrev pub WithinAt : Variable → Environment → Environment → Type 0
@@ -21,10 +21,10 @@ WithinAt (strings y) E F = Within (E .string y) (F .string y)
 abbrev pub startEnvironment : Environment
 startEnvironment = record { template = λ x. fragment 0 Items.none; string = λ y s. eqb s emptyString }
 
-module _ (φs : List Items) (program : List Statement) (proposal : List Head) where
+module _ (φs : List Items) (program : List Statement) (E : ℕ → Environment) where
   abbrev pub StartCovered : Variable → Type 0
-  StartCovered v = named program v ≡ true → WithinAt v startEnvironment (entries proposal 0)
+  StartCovered v = named program v ≡ true → WithinAt v startEnvironment (E 0)
 
   -- The step from a point over an act to a next point.
   abbrev pub StepCovered : ℕ → Act → ℕ → Variable → Type 0
-  StepCovered p a next v = named program v ≡ true → WithinAt v (transfer φs a (entries proposal p)) (entries proposal next)
+  StepCovered p a next v = named program v ≡ true → WithinAt v (transfer φs a (E p)) (E next)

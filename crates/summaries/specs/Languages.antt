@@ -3,26 +3,31 @@
 use Prim.Native.Nat.{ℕ}
 use mathlib.Core.Path.{_≡_}
 use mathlib.Core.List.{List, [], _∷_}
-use mathlib.Core.Bool.{true, _&&_, _||_}
+use mathlib.Core.Bool.{Bool, true, false, _&&_, _||_}
 use mathlib.Core.Option.{Option, some, none}
 use lib.Dec.{eqb}
 use Rattle.pages.specs.Items.{open-gap, Attribute, Item, text, gap, element, Items, more, one, _⋈_}
 use Rattle.pages.specs.Items as Items
 use Rattle.programs.specs.Program.{Act, copyTemplate, setTemplate, copyString, setString, anyString, plug, plugString, show, Statement, step, stop, statementAt, templateAt}
-use Rattle.programs.specs.Runs.{closingString}
-use Rattle.summaries.specs.Proposal.{root, edge, string, gapFrom, attributeGapFrom, Head}
-use Rattle.summaries.specs.Summaries.{Summary, entries}
+use Rattle.programs.specs.Runs.{closing}
+use Rattle.summaries.specs.Proposal.{root, edge, string, gapFrom, attributeGapFrom}
+use Rattle.summaries.specs.Summaries.{Summary, Environment}
+
+-- Whether a string is what an open attribute gap takes.
+abbrev pub isTaken : Option ℕ → ℕ → Bool
+isTaken none s = false
+isTaken (some t) s = eqb s t
 
 -- close: each origin of a gap also gets an edge to template 0, each origin of an attribute gap also string 0.
 abbrev pub closedSummary : Summary → Summary
 closedSummary S (root n) = S (root n)
 closedSummary S (edge n g m) = S (edge n g m) || (eqb m 0 && S (gapFrom g n))
-closedSummary S (string n h s) = S (string n h s) || (eqb s closingString && S (attributeGapFrom h n))
+closedSummary S (string n h s) = S (string n h s) || (isTaken closing s && S (attributeGapFrom h n))
 closedSummary S (gapFrom g n) = S (gapFrom g n)
 closedSummary S (attributeGapFrom h n) = S (attributeGapFrom h n)
 
 module _ (φs : List Items) (G : Summary) where
-  -- G, n ⊢ δ ⇒ δ′
+  -- G, n ⊢ δ ⇒ δ′. Section 3 prints no rule for no attributes and for a string; they stay as they are.
   pub data AttributesDerive (n : ℕ) : List Attribute → List Attribute → Type 0 where
     no-attribute : AttributesDerive n [] []
     fixed : {a s : ℕ} {δ δ′ : List Attribute} → AttributesDerive n δ δ′
@@ -49,26 +54,26 @@ module _ (φs : List Items) (G : Summary) where
   abbrev pub Language : Items → Type 0
   Language page = (r : ℕ) × DerivedFrom r page
 
--- The template variable that a statement shows.
-abbrev pub actShows : Act → Option ℕ
-actShows (copyTemplate x x′) = none
-actShows (setTemplate x t) = none
-actShows (copyString y y′) = none
-actShows (setString y s) = none
-actShows (anyString y) = none
-actShows (plug x x′ g x″) = none
-actShows (plugString x x′ h y) = none
-actShows (show x) = some x
+-- The summary that a statement shows: a show's variable's entry, nothing elsewhere.
+abbrev pub summaryShown : List Items → Act → Environment → Option Summary
+summaryShown φs (copyTemplate x x′) E = none
+summaryShown φs (setTemplate x t) E = none
+summaryShown φs (copyString y y′) E = none
+summaryShown φs (setString y s) E = none
+summaryShown φs (anyString y) E = none
+summaryShown φs (plug x x′ g x″) E = none
+summaryShown φs (plugString x x′ h y) E = none
+summaryShown φs (show x) E = some (E .template x)
 
--- The graph that a point shows: the shown variable's entry there, closed.
-abbrev pub graphOf : List Head → ℕ → Option ℕ → Option Summary
-graphOf hs p none = none
-graphOf hs p (some x) = some (closedSummary (entries hs p .template x))
+abbrev pub closedIfShown : Option Summary → Option Summary
+closedIfShown none = none
+closedIfShown (some S) = some (closedSummary S)
 
-abbrev pub statementShows : Statement → Option ℕ
-statementShows (step a p q) = actShows a
-statementShows stop = none
+abbrev pub statementGraph : List Items → Statement → Environment → Option Summary
+statementGraph φs (step a p q) E = closedIfShown (summaryShown φs a E)
+statementGraph φs stop E = none
 
-unfoldable pub graphShown : List Statement → List Head → ℕ → Option Summary
+-- The graph that a point shows: the summary shown there, closed.
+unfoldable pub graphShown : List Items → List Statement → (ℕ → Environment) → ℕ → Option Summary
 unfolding statementAt
-graphShown program hs p = graphOf hs p (statementShows (statementAt program p))
+graphShown φs program E p = statementGraph φs (statementAt program p) (E p)

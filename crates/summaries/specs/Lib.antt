@@ -4,3 +4,4 @@ pub mod Summaries
 pub mod Covering
 pub mod Languages
 pub mod Promises
+pub mod Listed

@@ -2,8 +2,8 @@
 use Prim.Native.Nat.{ℕ, _+_, _*_, _^_, _≤_, _<_}
 use mathlib.Core.Path.{_≡_}
 use mathlib.Core.List.{List, []}
-use mathlib.Core.Bool.{true, cond}
-use lib.ListN.{length, getD}
+use mathlib.Core.Bool.{cond}
+use lib.ListN.{getD}
 use lib.Dec.{leb, ltb, eqb}
 use Rattle.verdicts.specs.declared.Form.the-variants.{NotRising, Missing}
 use Rattle.commands.specs.declared.Context.{Context}
@@ -15,7 +15,7 @@ use Rattle.commands.specs.Commands.{byte, command}
 use Rattle.commands.specs.Reading.{whole}
 use Rattle.commands.specs.Parts.{AgreesAs, Enough}
 use Rattle.summaries.specs.Proposal.{Head}
-use Rattle.summaries.specs.ProposalReading.{factAt, factThere, rank, facts, variableOf, factContext, proposal}
+use Rattle.summaries.specs.ProposalReading.{rank, facts, variableOf, factContext, proposal}
 use Rattle.summaries.specs.Summaries.{under}
 
 -- The items under the head of a variable at a point stand at an offset; 0: it has no head.
@@ -42,32 +42,10 @@ pub record Ranked (s : List ℕ) (at code r : ℕ) : Type 0 where
   pub is : r ≡ rank s at code
   pub low : r < 2 ^ 32
 
--- An item with what is tested on it alone, in document 01's order: 8 before 5.
-abbrev pub testedFact : ℕ → List ℕ → ℕ → ℕ → Decoded → Decoded
-testedFact count s least at (Moved code next) =
-    cond (factThere count (factAt s at code))
-    (cond (leb least (rank s at code)) (Moved code next) (Refused NotRising at))
-    (Refused Missing at)
-testedFact count s least at (Refused form n) = Refused form n
-
-abbrev pub factHere : Context → ℕ → List ℕ → ℕ → ℕ → Decoded
-factHere x count s least at = testedFact count s least at (command x s at)
-
 abbrev pub FactsRead : Context → ℕ → List ℕ → ℕ → ℕ → Part → Type 0
 FactsRead x count s least at r = (f : ℕ) → Enough s at f → AgreesAs (λ φs end. at ≤ end) (facts f x count s least at) r
 
--- The item at an offset reaches up to another: it may stand there, is whole and in range, and its templates are there.
-pub record StepsOver (x : Context) (count : ℕ) (s : List ℕ) (at next : ℕ) : Type 0 where
-  pub read : command x s at ≡ Moved (byte s at) (record { at = next })
-  pub there : factThere count (factAt s at (byte s at)) ≡ true
-
--- The same of one after whose first byte three more stand.
-pub record Short (x : Context) (count : ℕ) (s : List ℕ) (at next : ℕ) : Type 0 where
-  pub steps : StepsOver x count s at next
-  pub forward : at ≤ next
-  pub inside : at + 3 < length s
-
--- A head, or `4F`, the same way.
+-- A head, or `4F`, with what is tested on it alone, in document 01's order: 8 before 5.
 abbrev pub testedHead : ℕ → List ℕ → ℕ → ℕ → Decoded → Decoded
 testedHead points s least at (Moved code next) =
     cond (eqb code 0x4F)

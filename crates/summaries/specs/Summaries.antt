@@ -44,8 +44,8 @@ plugSummary g S T (string n h s) = S (string n h s) || T (string n h s)
 plugSummary g S T (gapFrom k n) = cond (eqb k g) (T (gapFrom k n)) (S (gapFrom k n) || T (gapFrom k n))
 plugSummary g S T (attributeGapFrom h n) = S (attributeGapFrom h n) || T (attributeGapFrom h n)
 
--- hplug and tplug at an attribute gap: the strings at h alone in h's origins, as document 01 has it (section 5 prints no such
--- condition), and no origin of h left.
+-- hplug and tplug at an attribute gap: the strings at h alone in h's origins, as document 01 has it (section 5 prints every attribute
+-- gap of those templates), and no origin of h left.
 abbrev pub plugStringSummary : ℕ → Summary → Strings → Summary
 plugStringSummary h S Y (root n) = S (root n)
 plugStringSummary h S Y (edge n g m) = S (edge n g m)

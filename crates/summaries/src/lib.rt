@@ -1,18 +1,77 @@
 // Summaries: what a proposal claims of each variable at the entry of each point.
 ghost use mathlib.Core.Path.{_≡_};
-ghost use mathlib.Core.Bool.{true};
-ghost use Prim.Native.Nat.{ℕ, _+_, _*_, _≤_, _<_};
-ghost use lib.ListN.{length, replicate};
+ghost use Prim.Native.Nat.{_+_, _*_, _≤_, _<_};
+ghost use lib.ListN.{replicate};
 ghost use lib.Dec.{leb};
 ghost use Rattle.commands.specs.Commands.{byte};
 ghost use Rattle.summaries.specs.ProposalReading.{factAt, factThere, variableOf, factContext};
-ghost use Rattle.summaries.specs.Promises.{presentAt, Ranked, factHere, headHere, FactsRead, ProposalReads, StepsOver, Short};
+ghost use Rattle.summaries.specs.Listed.{claimHere, ClaimMoves, stringHere, StringMoves};
+ghost use Rattle.summaries.specs.Promises.{presentAt, Ranked, headHere, FactsRead, ProposalReads};
 use commands::Context;
 use commands::Decoded;
 use commands::Part;
 use commands::Position;
 use verdicts::Form;
-use vocabularies::part_of;
+
+// What an item under the head of a template variable says: a root; an edge of a template's gap; a string, or any string, at a
+// template's attribute gap; that an open gap, or an open attribute gap, may come from a template.
+pub enum Claim {
+    Root(u8),
+    Edge(u8, u8, u8),
+    String(u8, u8, u8),
+    AnyString(u8, u8),
+    GapFrom(u8, u8),
+    AttributeGapFrom(u8, u8),
+}
+
+// The item of a template variable here with the position after it, or that none stands here.
+pub enum ClaimHere {
+    Item(Claim, Position),
+    End,
+}
+
+// The same for a string variable: one string, or any.
+pub enum StringHere {
+    One(u8, Position),
+    Any(Position),
+    End,
+}
+
+pub fn claim_here(s: &[u8], here: Position) -> ClaimHere
+    ensures is { λ r. ⌜ r ≡ claimHere (now (s .entry)) (here .at) ⌝ }
+    ensures fits { λ r. ⌜ ClaimMoves (now (s .entry)) (here .at) r ⌝ }
+{
+    if s.len() <= here.at {
+        return ClaimHere::End;
+    }
+    let a = here.operand(s, 1);
+    let b = here.operand(s, 2);
+    let c = here.operand(s, 3);
+    match commands::byte_at(s, here.at) {
+        0x41 => ClaimHere::Item(Claim::Root(a % 32), here.on(2)),
+        0x42 => ClaimHere::Item(Claim::Edge(a % 32, b % 8, c % 32), here.on(4)),
+        0x43 => ClaimHere::Item(Claim::String(a % 32, b % 8, c % 64), here.on(4)),
+        0x44 => ClaimHere::Item(Claim::AnyString(a % 32, b % 8), here.on(3)),
+        0x45 => ClaimHere::Item(Claim::GapFrom(a % 8, b % 32), here.on(3)),
+        0x46 => ClaimHere::Item(Claim::AttributeGapFrom(a % 8, b % 32), here.on(3)),
+        _ => ClaimHere::End,
+    }
+}
+
+pub fn string_here(s: &[u8], here: Position) -> StringHere
+    ensures is { λ r. ⌜ r ≡ stringHere (now (s .entry)) (here .at) ⌝ }
+    ensures fits { λ r. ⌜ StringMoves (now (s .entry)) (here .at) r ⌝ }
+{
+    if s.len() <= here.at {
+        return StringHere::End;
+    }
+    let a = here.operand(s, 1);
+    match commands::byte_at(s, here.at) {
+        0x47 => StringHere::One(a % 64, here.on(2)),
+        0x48 => StringHere::Any(here.on(1)),
+        _ => StringHere::End,
+    }
+}
 
 // An operand of a command that has `count` of them; 0 where it has none there.
 fn present(s: &[u8], here: Position, count: usize, i: usize) -> u64
@@ -57,134 +116,6 @@ fn fact_there(s: &[u8], here: Position, code: u8, templates: usize) -> bool
     }
 }
 
-// The item that may stand here, of a rank that is at least `least`.
-fn fact_here(s: &[u8], here: Position, context: Context, templates: usize, least: u64) -> Decoded
-    ensures { λ r. ⌜ r ≡ factHere context templates (now (s .entry)) least (here .at) ⌝ }
-{
-    let d = here.command(s, context);
-    let Decoded::Moved(code, _) = d else {
-        return d;
-    };
-    if !fact_there(s, here, code, templates) {
-        return Decoded::Refused(Form::Missing, here.at);
-    }
-    if rank(s, here, code) < least {
-        return Decoded::Refused(Form::NotRising, here.at);
-    }
-    d
-}
-
-// The byte at an offset that is inside.
-pub fn inside(s: &[u8], i: usize) -> u8
-    requires { ⌜ i < length (now s) ⌝ }
-    ensures { λ r. ⌜ r ≡ byte (now (s .entry)) i ⌝ }
-{
-    s[i]
-}
-
-// The offset after an item here with one operand of at most `most`, or 0.
-fn after_one(s: &[u8], at: usize, most: usize) -> usize
-    requires { ⌜ at + 1 < length (now s) ⌝ }
-    ensures { λ r. ⌜ (0 < r → (r ≡ at + 2) × (byte (now (s .entry)) (at + 1) ≤ most)) ⌝ }
-{
-    if most < (inside(s, at + 1) as usize) {
-        return 0;
-    }
-    at + 2
-}
-
-// The same for two operands.
-fn after_two(s: &[u8], at: usize, first: usize, second: usize) -> usize
-    requires { ⌜ at + 2 < length (now s) ⌝ }
-    ensures { λ r. ⌜ (0 < r → (r ≡ at + 3) × (byte (now (s .entry)) (at + 1) ≤ first) × (byte (now (s .entry)) (at + 2) ≤ second)) ⌝ }
-{
-    if first < (inside(s, at + 1) as usize) {
-        return 0;
-    }
-    if second < (inside(s, at + 2) as usize) {
-        return 0;
-    }
-    at + 3
-}
-
-// The same for three, the second a gap.
-fn after_three(s: &[u8], at: usize, first: usize, third: usize) -> usize
-    requires { ⌜ at + 3 < length (now s) ⌝ }
-    ensures { λ r. ⌜ (0 < r → (r ≡ at + 4) × (byte (now (s .entry)) (at + 1) ≤ first) × (byte (now (s .entry)) (at + 2) ≤ 7) × (byte (now (s .entry)) (at + 3) ≤ third)) ⌝ }
-{
-    if first < (inside(s, at + 1) as usize) {
-        return 0;
-    }
-    if 7 < s[at + 2] {
-        return 0;
-    }
-    if third < (inside(s, at + 3) as usize) {
-        return 0;
-    }
-    at + 4
-}
-
-// The offset after the item of a template variable here, where its operands are in range and its templates are there; or 0.
-fn after_claim(s: &[u8], at: usize, templates: usize) -> usize
-    requires { ⌜ at + 3 < length (now s) ⌝ }
-    ensures { λ r. ⌜ (0 < r → StepsOver Context.TemplateFacts templates (now (s .entry)) at r) ⌝ }
-{
-    match s[at] {
-        0x41 => after_one(s, at, templates),
-        0x42 => after_three(s, at, templates, templates),
-        0x43 => after_three(s, at, templates, 63),
-        0x44 => after_two(s, at, templates, 7),
-        0x45 => after_two(s, at, 7, templates),
-        0x46 => after_two(s, at, 7, templates),
-        _ => 0,
-    }
-}
-
-// The same for a string variable.
-fn after_string(s: &[u8], at: usize, templates: usize) -> usize
-    requires { ⌜ at + 3 < length (now s) ⌝ }
-    ensures { λ r. ⌜ (0 < r → StepsOver Context.StringFacts templates (now (s .entry)) at r) ⌝ }
-{
-    match s[at] {
-        0x47 => after_one(s, at, 63),
-        0x48 => at + 1,
-        _ => 0,
-    }
-}
-
-// The offset after the item here, where it is seen at once that it may stand here; 0 where `fact_here` is to tell what is wrong.
-fn after_fact(s: &[u8], at: usize, context: Context, templates: usize) -> usize
-    ensures { λ r. ⌜ (0 < r → Short context templates (now (s .entry)) at r) ⌝ }
-{
-    if s.len() <= at {
-        return 0;
-    }
-    if s.len() - at <= 3 {
-        return 0;
-    }
-    match context {
-        Context::TemplateFacts => after_claim(s, at, templates),
-        Context::StringFacts => after_string(s, at, templates),
-        _ => 0,
-    }
-}
-
-// The rank of an item that reaches up to `next`.
-fn rank_up_to(s: &[u8], at: usize, next: usize) -> u64
-    requires { ⌜ (at + 3 < length (now s)) × (at ≤ next) ⌝ }
-    ensures { λ r. ⌜ ((context : Context) (templates : ℕ) → StepsOver context templates (now (s .entry)) at next → Ranked (now (s .entry)) at (byte (now (s .entry)) at) r) ⌝ }
-{
-    let one = inside(s, at) as u64;
-    let two = one * 256 + (inside(s, at + 1) as u64);
-    let three = two * 256 + (inside(s, at + 2) as u64);
-    match next - at {
-        1 => one * 16777216,
-        2 => two * 65536,
-        3 => three * 256,
-        _ => three * 256 + (inside(s, at + 3) as u64),
-    }
-}
-
 // The items under a head, up to the first command that is none of them.
 fn read_facts(s: &[u8], here: Position, context: Context, templates: usize) -> Part
     ensures { λ r. ⌜ FactsRead context templates (now (s .entry)) 0 (here .at) r ⌝ }
@@ -192,25 +123,22 @@ fn read_facts(s: &[u8], here: Position, context: Context, templates: usize) -> P
     let mut at = here;
     let mut least = 0;
     loop {
-        let next = after_fact(s, at.at, context, templates);
-        if next != 0 {
-            let place = rank_up_to(s, at.at, next);
-            if place < least {
-                return Part::Refused(Form::NotRising, at.at);
-            }
-            least = place + 1;
-            at = Position { at: next };
-        } else {
-            if !commands::is_allowed(context, commands::byte_at(s, at.at)) {
-                return Part::Whole(at);
-            }
-            let d = fact_here(s, at, context, templates, least);
-            let Decoded::Moved(code, next) = d else {
-                return part_of(d);
-            };
-            least = rank(s, at, code) + 1;
-            at = next;
+        if !commands::is_allowed(context, commands::byte_at(s, at.at)) {
+            return Part::Whole(at);
         }
+        let d = at.command(s, context);
+        let Decoded::Moved(code, next) = d else {
+            return d.part();
+        };
+        if !fact_there(s, at, code, templates) {
+            return Part::Refused(Form::Missing, at.at);
+        }
+        let place = rank(s, at, code);
+        if place < least {
+            return Part::Refused(Form::NotRising, at.at);
+        }
+        least = place + 1;
+        at = next;
     }
 }
 
@@ -221,32 +149,8 @@ fn head_number(s: &[u8], here: Position) -> usize
     (here.operand(s, 1) as usize) * 8 + (here.operand(s, 2) as usize)
 }
 
-// Whether it is seen at once that a head of a number that is at least `least` stands here.
-fn is_head(s: &[u8], at: usize, points: usize, least: usize) -> bool
-    ensures { λ r. ⌜ (r ≡ true → (at + 2 < length (now (s .entry))) × (headHere points (now (s .entry)) least at ≡ Decoded.Moved 0x40 (record { at = at + 3 }))) ⌝ }
-{
-    if s.len() <= at {
-        return false;
-    }
-    if s.len() - at <= 2 {
-        return false;
-    }
-    if s[at] != 0x40 {
-        return false;
-    }
-    let p = inside(s, at + 1) as usize;
-    let v = inside(s, at + 2) as usize;
-    if 7 < v {
-        return false;
-    }
-    if points <= p {
-        return false;
-    }
-    least <= p * 8 + v
-}
-
-// The head that may stand here, at least `least` as p * 8 + v, or `4F`, test by test.
-fn tested_head(s: &[u8], here: Position, points: usize, least: usize) -> Decoded
+// The head that may stand here, at least `least` as p * 8 + v, or `4F`.
+fn head_here(s: &[u8], here: Position, points: usize, least: usize) -> Decoded
     ensures { λ r. ⌜ r ≡ headHere points (now (s .entry)) least (here .at) ⌝ }
 {
     let d = here.command(s, Context::Heads);
@@ -263,17 +167,6 @@ fn tested_head(s: &[u8], here: Position, points: usize, least: usize) -> Decoded
         return Decoded::Refused(Form::NotRising, here.at);
     }
     d
-}
-
-// The same, at once where it can be seen.
-fn head_here(s: &[u8], here: Position, points: usize, least: usize) -> Decoded
-    ensures { λ r. ⌜ r ≡ headHere points (now (s .entry)) least (here .at) ⌝ }
-{
-    let at = here.at;
-    if is_head(s, at, points, least) {
-        return Decoded::Moved(0x40, Position { at: at + 3 });
-    }
-    tested_head(s, here, points, least)
 }
 
 // The items that may stand under a head.
@@ -304,7 +197,7 @@ pub fn read_proposal(
     loop {
         let d = head_here(s, at, points, least);
         let Decoded::Moved(code, next) = d else {
-            return part_of(d);
+            return d.part();
         };
         if code == 0x4F {
             return Part::Whole(next);

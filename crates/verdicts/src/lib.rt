@@ -1,6 +1,7 @@
 // What a call answers: acceptance, or a refusal with its kind and place (document 01, "Verdicts").
 ghost use mathlib.Core.Path.{_≡_};
 ghost use Rattle.verdicts.specs.Printed.{formNumber, coverNumbers, faultNumbers, refusalNumbers, numbersOf};
+ghost use Rattle.verdicts.specs.Acceptance.{accepts};
 
 // Why bytes cannot be read.
 pub enum Form {
@@ -64,6 +65,16 @@ pub enum Refusal {
 pub enum Verdict {
     Accepted,
     Refused(Refusal),
+}
+
+// Whether a verdict is acceptance.
+pub fn is_accepted(v: Verdict) -> bool
+    ensures { λ r. ⌜ r ≡ accepts v ⌝ }
+{
+    match v {
+        Verdict::Accepted => true,
+        Verdict::Refused(_) => false,
+    }
 }
 
 // A verdict as document 01 prints it: the number, and the places, unused ones 0.

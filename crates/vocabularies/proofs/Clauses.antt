@@ -1,5 +1,5 @@
 -- Clauses: what each makes of the reading, where they end, and what code that reads them does.
-use Prim.Native.Nat.{ℕ, zero, suc, _+_, _-_, _*_, _/_, _^_, _≤_, _<_, min}
+use Prim.Native.Nat.{ℕ, zero, suc, _+_, _-_, _≤_, _<_, min}
 use mathlib.Core.Path.{_≡_, refl, sym, _∙_}
 use mathlib.Core.List.{List, [], _∷_}
 use mathlib.Core.Bool.{Bool, true, false}
@@ -14,17 +14,18 @@ use Rattle.commands.specs.declared.Part.{Part}
 use Rattle.commands.specs.declared.Part.the-variants.{Whole, Refused}
 use Rattle.commands.specs.Commands.{byte}
 use Rattle.commands.specs.Reading.{Read, whole, refused, unfinished, andThen, when}
-use Rattle.commands.specs.Parts.{Agrees, Enough}
-use Rattle.commands.proofs.Laws.{byte-past, andThen-whole}
+use Rattle.commands.specs.declared.Past.{Past}
+use Rattle.commands.specs.declared.Past.the-variants.{Over, Other}
+use Rattle.commands.specs.Parts.{Agrees, AgreesAs, Enough, past}
+use Rattle.commands.proofs.Laws.{byte-past, past-over, past-other, andThen-whole}
 use Rattle.vocabularies.specs.declared.Facts.{Facts}
-use Rattle.vocabularies.specs.declared.Gathered.{Gathered}
+use Rattle.vocabularies.specs.declared.FormulaRead.{FormulaRead}
 use Rattle.vocabularies.specs.Vocabulary.{Formula}
 use Rattle.vocabularies.specs.Facts.{factsOf}
 use Rattle.vocabularies.specs.VocabularyReading.{formula, mostFacts, clauses}
-use Rattle.vocabularies.specs.Promises.{Short, FormulaReads, Represents, Gathers, ClausesRead}
+use Rattle.vocabularies.specs.Promises.{Represents, FactsWith, FormulaReads, ClausesRead}
 use Rattle.vocabularies.proofs.Parts.{agrees-whole, agrees-refused, last-agrees, last-whole, Finished, last-finishes, andThen-finishes}
 use Rattle.vocabularies.proofs.Formulas.{formula-ends, formula-fuel, formula-finishes, formula-moved}
-use Rattle.vocabularies.proofs.ShortFormulas.{short-ends}
 
 -- What follows a clause's `04`, once its formula is read, and once that is whole.
 counted : ℕ → List ℕ → ℕ → Formula → ℕ → Read (List Formula)
@@ -143,82 +144,60 @@ pub record ClausesContinue (s : List ℕ) (start at : ℕ) : Type 0 where
 pub clauses-start : (s : List ℕ) (at : ℕ) → ClausesContinue s at at
 clauses-start s at = record { continues = λ r h. h }
 
-module _ (s : List ℕ) (start : ℕ) (place : Position) (on : ClausesContinue s start (place .at)) (b : ℕ) (first : b ≡ byte s (place .at)) where
-  pub clauses-end : (b ≡ 0x04 → ⊥) → ClausesRead s start (Whole place)
-  clauses-end n = on .continues (Whole place) λ f h. agrees f h
+module _ (s : List ℕ) (start : ℕ) (place : Position) (on : ClausesContinue s start (place .at)) (mark : Past) (m : mark ≡ past s (place .at) 0x04) where
+  pub clauses-end : mark ≡ Other → ClausesRead s start (Whole place)
+  clauses-end e = on .continues (Whole place) λ f h. agrees f h
     where
       agrees : (f : ℕ) → Enough s (place .at) f → Agrees (clauses f s (place .at)) (Whole place)
       agrees zero h = absurd (omega arith)
-      agrees (suc f) h = rw (step-end f s (place .at) (λ e. n (first ∙ e))) (refl, tt)
+      agrees (suc f) h = rw (step-end f s (place .at) (past-other s (place .at) 0x04 mark m e (λ z. absurd (omega arith)))) (refl, tt)
 
-  -- A clause whose formula is seen at once to be whole, with facts that are not too many.
-  module _ (e : b ≡ 0x04) (short : ℕ) (told : 0 < short → Short s 0 (place .at + 1) 0 short) (some : short ≡ 0 → ⊥) where
-    S : Short s 0 (place .at + 1) 0 short
-    S = told (omega (arith, some))
+  module _ (first : Position) (e : mark ≡ Over first) where
+    o : (place .at < length s) × (byte s (place .at) ≡ 0x04) × (first .at ≡ place .at + 1)
+    o = past-over s (place .at) 0x04 mark first m e
 
-    pub clauses-short : ClausesContinue s start (short / 16)
-    clauses-short = record { continues = λ p h. on .continues p λ f n. agrees p h f n }
-      where
-        agrees : (p : Part) → ClausesRead s (short / 16) p → (f : ℕ) → Enough s (place .at) f → Agrees (clauses f s (place .at)) p
-        agrees p h zero n = absurd (omega arith)
-        agrees p h (suc f) n =
-            let w = within s (place .at) (sym first ∙ e) in
-            let a = S .reads f (omega (arith, n, w)) in
-            let z = short-ends s 0 (place .at + 1) 0 short S in
-            let l = a .2 [] in
-            rw (step f s (place .at) (sym first ∙ e), a .1, few f s (place .at) (a .0) (short / 16) (omega (arith, l, S .few)))
-            (last-agrees (clauses f s (short / 16)) (_∷_ (a .0)) p (h f (omega (arith, n, w, z .0))))
-
-    pub short-falls : length s - short / 16 < length s - place .at
-    short-falls =
-        let w = within s (place .at) (sym first ∙ e) in
-        let z = short-ends s 0 (place .at + 1) 0 short S in
-        omega (arith, w, z .0)
-
-  module _ (e : b ≡ 0x04) (part : Part) (read : FormulaReads s 0 (place .at + 1) part) where
     here : byte s (place .at) ≡ 0x04
-    here = sym first ∙ e
+    here = o .1
 
-    pub clauses-refused : (i : Form) (n : ℕ) → part ≡ Refused i n → ClausesRead s start part
-    clauses-refused i n q = on .continues part λ f h. agrees f h
-      where
-        agrees : (f : ℕ) → Enough s (place .at) f → Agrees (clauses f s (place .at)) part
-        agrees zero h = absurd (omega arith)
-        agrees (suc f) h =
-            let w = within s (place .at) here in
-            rw (q, step f s (place .at) here, agrees-refused (λ _ _. Unit {0}) (formula f s 0 (place .at + 1)) i n (rw q at (read f (omega arith)))) (refl, refl)
+    module _ (none : Facts) (empty : Represents none []) (r : FormulaRead) (read : FormulaReads s 0 (first .at) none r) where
+      -- What is read behind the `04`.
+      reads : (f : ℕ) → Enough s (place .at) (suc f) → AgreesAs (λ ψ end. FactsWith none ψ (r .facts)) (formula f s 0 (place .at + 1)) (r .part)
+      reads f h = rw (o .2) at (read f (omega (arith, o .0, o .2)))
 
-    module _ (next : Position) (q : part ≡ Whole next) (none : Facts) (empty : Represents none []) (r : Gathered) (gathered : Gathers s (place .at + 1) none r) where
-      -- The formula at a fuel that is enough, and the count of its facts.
-      formed : (f : ℕ) → Enough s (place .at) (suc f) → (ψ : Formula) × (formula f s 0 (place .at + 1) ≡ whole ψ (next .at)) × (r .facts .count ≡ min 9 (length (factsOf ψ)))
-      formed f h =
-          let w = within s (place .at) here in
-          let a = agrees-whole (λ _ _. Unit {0}) (formula f s 0 (place .at + 1)) next (rw q at (read f (omega arith))) in
-          (a .0, a .1, gathered .gathers f 0 (a .0) (next .at) (a .1) [] empty .counts)
-
-      pub clauses-many : 8 < r .facts .count → ClausesRead s start (Refused TooManyFacts (place .at))
-      clauses-many l = on .continues (Refused TooManyFacts (place .at)) λ f h. agrees f h
+      pub clauses-refused : (i : Form) (n : ℕ) → r .part ≡ Refused i n → ClausesRead s start (r .part)
+      clauses-refused i n q = on .continues (r .part) λ f h. agrees f h
         where
-          agrees : (f : ℕ) → Enough s (place .at) f → Agrees (clauses f s (place .at)) (Refused TooManyFacts (place .at))
+          agrees : (f : ℕ) → Enough s (place .at) f → Agrees (clauses f s (place .at)) (r .part)
           agrees zero h = absurd (omega arith)
           agrees (suc f) h =
-              let a = formed f h in
-              rw (step f s (place .at) here, a .1, many f s (place .at) (a .0) (next .at) (omega arith)) (refl, refl)
+              rw (q, step f s (place .at) here, agrees-refused (λ ψ end. FactsWith none ψ (r .facts)) (formula f s 0 (place .at + 1)) i n (rw q at (reads f h))) (refl, refl)
 
-      pub clauses-more : r .facts .count ≤ 8 → ClausesContinue s start (next .at)
-      clauses-more l = record { continues = λ p h. on .continues p λ f n. agrees p h f n }
-        where
-          agrees : (p : Part) → ClausesRead s (next .at) p → (f : ℕ) → Enough s (place .at) f → Agrees (clauses f s (place .at)) p
-          agrees p h zero n = absurd (omega arith)
-          agrees p h (suc f) n =
-              let a = formed f n in
-              let w = within s (place .at) here in
-              let z = formula-ends f s 0 (place .at + 1) (a .0) (next .at) (a .1) in
-              rw (step f s (place .at) here, a .1, few f s (place .at) (a .0) (next .at) (omega arith))
-              (last-agrees (clauses f s (next .at)) (_∷_ (a .0)) p (h f (omega arith)))
+      module _ (next : Position) (q : r .part ≡ Whole next) where
+        -- The formula at a fuel that is enough, and the count of its facts.
+        formed : (f : ℕ) → Enough s (place .at) (suc f) → (ψ : Formula) × (formula f s 0 (place .at + 1) ≡ whole ψ (next .at)) × (r .facts .count ≡ min 9 (length (factsOf ψ)))
+        formed f h =
+            let a = agrees-whole (λ ψ end. FactsWith none ψ (r .facts)) (formula f s 0 (place .at + 1)) next (rw q at (reads f h)) in
+            (a .0, a .1, a .2 [] empty .counts)
 
-    pub clause-falls : (next : Position) → part ≡ Whole next → length s - next .at < length s - place .at
-    clause-falls next q = let m = formula-moved s 0 (place .at + 1) part next read q in omega arith
+        pub clauses-many : 8 < r .facts .count → ClausesRead s start (Refused TooManyFacts (place .at))
+        clauses-many l = on .continues (Refused TooManyFacts (place .at)) λ f h. agrees f h
+          where
+            agrees : (f : ℕ) → Enough s (place .at) f → Agrees (clauses f s (place .at)) (Refused TooManyFacts (place .at))
+            agrees zero h = absurd (omega arith)
+            agrees (suc f) h =
+                let a = formed f h in
+                rw (step f s (place .at) here, a .1, many f s (place .at) (a .0) (next .at) (omega arith)) (refl, refl)
 
-  pub clause-fits : b ≡ 0x04 → length s * 1 < 2 ^ 63 → place .at + 1 < 2 ^ 64
-  clause-fits e l = let w = within s (place .at) (sym first ∙ e) in omega arith
+        pub clauses-more : r .facts .count ≤ 8 → ClausesContinue s start (next .at)
+        clauses-more l = record { continues = λ p h. on .continues p λ f n. agrees p h f n }
+          where
+            agrees : (p : Part) → ClausesRead s (next .at) p → (f : ℕ) → Enough s (place .at) f → Agrees (clauses f s (place .at)) p
+            agrees p h zero n = absurd (omega arith)
+            agrees p h (suc f) n =
+                let a = formed f n in
+                let z = formula-ends f s 0 (place .at + 1) (a .0) (next .at) (a .1) in
+                rw (step f s (place .at) here, a .1, few f s (place .at) (a .0) (next .at) (omega arith))
+                (last-agrees (clauses f s (next .at)) (_∷_ (a .0)) p (h f (omega (arith, o .0))))
+
+        pub clause-falls : length s - next .at < length s - place .at
+        clause-falls = let n = formula-moved s 0 (first .at) none r read next q in omega (arith, o .0, o .2)

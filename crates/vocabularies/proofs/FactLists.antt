@@ -1,63 +1,44 @@
 -- Lists of facts as code keeps them.
 use Prim.Native.Nat.{ℕ, zero, suc, _+_, _≤_, _<_}
-use mathlib.Core.Path.{_≡_, refl, sym, _∙_}
+use mathlib.Core.Path.{_≡_, refl, sym, ap, _∙_}
 use mathlib.Core.List.{List, [], _∷_, _++_}
 use mathlib.Core.Bool.{Bool, true, false, or-true}
 use native.Mathlib.Omega.{arith}
-use lib.ListN.{length, getD, set, length-append, List·getD-append}
+use lib.ListN.{length, getD, set, length-append, length-set, List·getD-append}
 use lib.Seq.{getD-append-seam, getD-set-same, getD-set-other}
 use lib.Dec.{eqb}
 use borrow.Author.Count.{below-more}
 use borrow.Author.Tests.{eq-eqb, ne-eqb, eqb-true, eqb-false}
+use Rattle.strings.specs.declared.StringSet.{StringSet}
+use Rattle.strings.specs.Strings.{setNumber}
+use Rattle.vocabularies.specs.declared.Fact as Kept
+use Rattle.vocabularies.specs.declared.Fact.the-variants.{Present, Ordered, Valued}
+use Rattle.vocabularies.specs.declared.KeptFact.{KeptFact}
 use Rattle.vocabularies.specs.declared.Facts.{Facts}
 use Rattle.vocabularies.specs.Facts.{Fact, present, ordered, valued, sameFact, isAmong, add}
-use Rattle.vocabularies.specs.Promises.{kindOf, firstOf, secondOf, Written, Stored, Represents, TellsSame, TellsAmong, Adds}
+use Rattle.vocabularies.specs.Promises.{meaningOf, keptAt, Stored, Represents, TellsAmong, Adds}
 
--- Two facts are the same where all their numbers are.
-other-kind : (x y : Fact) → (kindOf y ≡ kindOf x → ⊥) → false ≡ sameFact x y
-other-kind (present c) (present c′) n = absurd (n refl)
-other-kind (present c) (ordered c′ d′) n = refl
-other-kind (present c) (valued a′ m′) n = refl
-other-kind (ordered c d) (present c′) n = refl
-other-kind (ordered c d) (ordered c′ d′) n = absurd (n refl)
-other-kind (ordered c d) (valued a′ m′) n = refl
-other-kind (valued a m) (present c′) n = refl
-other-kind (valued a m) (ordered c′ d′) n = refl
-other-kind (valued a m) (valued a′ m′) n = absurd (n refl)
+-- Facts of one kind are compared by their operands.
+module _ (x : Kept.Fact) where
+  pub told-present : (c of : ℕ) → x ≡ Present of → eqb c of ≡ sameFact (present c) (meaningOf x)
+  told-present c of e = rw e
 
-other-first : (x y : Fact) → (firstOf y ≡ firstOf x → ⊥) → false ≡ sameFact x y
-other-first (present c) (present c′) n = sym (ne-eqb c c′ (λ e. n (sym e)))
-other-first (present c) (ordered c′ d′) n = refl
-other-first (present c) (valued a′ m′) n = refl
-other-first (ordered c d) (present c′) n = refl
-other-first (ordered c d) (ordered c′ d′) n = rw (ne-eqb c c′ (λ e. n (sym e)))
-other-first (ordered c d) (valued a′ m′) n = refl
-other-first (valued a m) (present c′) n = refl
-other-first (valued a m) (ordered c′ d′) n = refl
-other-first (valued a m) (valued a′ m′) n = rw (ne-eqb a a′ (λ e. n (sym e)))
+  module _ (c d first second : ℕ) (e : x ≡ Ordered first second) where
+    pub told-ordered : c ≡ first → eqb d second ≡ sameFact (ordered c d) (meaningOf x)
+    told-ordered q = rw (e, eq-eqb c first q)
 
-by-second : (x y : Fact) → kindOf y ≡ kindOf x → firstOf y ≡ firstOf x → eqb (secondOf x) (secondOf y) ≡ sameFact x y
-by-second (present c) (present c′) k e = sym (eq-eqb c c′ (sym e))
-by-second (present c) (ordered c′ d′) k e = absurd (omega arith)
-by-second (present c) (valued a′ m′) k e = absurd (omega arith)
-by-second (ordered c d) (present c′) k e = absurd (omega arith)
-by-second (ordered c d) (ordered c′ d′) k e = rw (eq-eqb c c′ (sym e))
-by-second (ordered c d) (valued a′ m′) k e = absurd (omega arith)
-by-second (valued a m) (present c′) k e = absurd (omega arith)
-by-second (valued a m) (ordered c′ d′) k e = absurd (omega arith)
-by-second (valued a m) (valued a′ m′) k e = rw (eq-eqb a a′ (sym e))
+    pub other-pair : (c ≡ first → ⊥) → eqb c first ≡ sameFact (ordered c d) (meaningOf x)
+    other-pair n = rw (e, ne-eqb c first n)
 
-module _ (x y : Fact) (kind first second kind′ first′ second′ : ℕ) (w : Written x kind first second) (w′ : Written y kind′ first′ second′) where
-  pub differs-in-kind : (kind′ ≡ kind → ⊥) → false ≡ sameFact x y
-  differs-in-kind n = other-kind x y (λ e. n (w′ .has-kind ∙ e ∙ sym (w .has-kind)))
+  module _ (a of : ℕ) (set among : StringSet) (e : x ≡ Valued of among) where
+    pub told-valued : (r : Bool) → a ≡ of → r ≡ eqb (setNumber set) (setNumber among) → r ≡ sameFact (valued a (setNumber set)) (meaningOf x)
+    told-valued r q told = rw (e, eq-eqb a of q) told
 
-  pub differs-in-first : (first′ ≡ first → ⊥) → false ≡ sameFact x y
-  differs-in-first n = other-first x y (λ e. n (w′ .has-first ∙ e ∙ sym (w .has-first)))
+    pub other-attribute : (a ≡ of → ⊥) → eqb a of ≡ sameFact (valued a (setNumber set)) (meaningOf x)
+    other-attribute n = rw (e, ne-eqb a of n)
 
-  pub same-by-second : kind′ ≡ kind → first′ ≡ first → eqb second second′ ≡ sameFact x y
-  same-by-second k e =
-      rw (w .has-second, w′ .has-second)
-      (by-second x y (sym (w′ .has-kind) ∙ k ∙ w .has-kind) (sym (w′ .has-first) ∙ e ∙ w .has-first))
+  pub told-same : (x′ : Kept.Fact) (y : Fact) (r : Bool) → x ≡ x′ → r ≡ sameFact (meaningOf x′) y → r ≡ sameFact (meaningOf x) y
+  told-same x′ y r e told = rw e told
 
 -- A fact is among a list where it is the same as one of its entries.
 pub among-at : (x : Fact) (xs : List Fact) (i : ℕ) → i < length xs → sameFact x (getD xs i (present 0)) ≡ true → isAmong x xs ≡ true
@@ -72,25 +53,22 @@ not-among x [] h = refl
 not-among x (y ∷ ys) h = rw (h zero (omega arith)) (not-among x ys (λ i l. h (suc i) (omega arith)))
 
 -- A search through the facts that are kept: none below a place is the one that is looked for.
-module _ (t : Facts) (kind first second : ℕ) where
+module _ (t : Facts) (x : Kept.Fact) where
   abbrev pub NoneBelow : ℕ → Type 0
-  NoneBelow i = (x : Fact) (xs : List Fact) → Written x kind first second → Represents t xs → (k : ℕ) → k < i → k < length xs → sameFact x (getD xs k (present 0)) ≡ false
+  NoneBelow i = (xs : List Fact) → Represents t xs → (k : ℕ) → k < i → k < length xs → sameFact (meaningOf x) (getD xs k (present 0)) ≡ false
 
-  pub none-yet : NoneBelow 0
-  none-yet x xs w h k l m = absurd (omega arith)
+  module _ (i : ℕ) (y : Kept.Fact) (r : Bool) (few : t .count ≤ 8) (here : i < t .count) (there : y ≡ keptAt t i) (told : r ≡ sameFact (meaningOf x) (meaningOf y)) where
+    told-of : (xs : List Fact) → Represents t xs → r ≡ sameFact (meaningOf x) (getD xs i (present 0))
+    told-of xs h = told ∙ ap (λ (z : Kept.Fact). sameFact (meaningOf x) (meaningOf z)) there ∙ ap (sameFact (meaningOf x)) (h .stores i (omega arith) (omega (arith, h .counts)))
 
-  module _ (i : ℕ) (r : Bool) (few : t .count ≤ 8) (here : i < t .count) (told : TellsSame t kind first second i r) where
-    told-of : (x : Fact) (xs : List Fact) → Written x kind first second → Represents t xs → r ≡ sameFact x (getD xs i (present 0))
-    told-of x xs w h = told x (getD xs i (present 0)) w (h .stores i (omega arith) (omega arith))
-
-    pub found : r ≡ true → TellsAmong t kind first second true
-    found e x xs w h = sym (among-at x xs i (omega arith) (sym (told-of x xs w h) ∙ e))
+    pub found : r ≡ true → TellsAmong t x true
+    found e xs h = sym (among-at (meaningOf x) xs i (omega (arith, h .counts)) (sym (told-of xs h) ∙ e))
 
     pub none-here : NoneBelow i → r ≡ false → NoneBelow (i + 1)
-    none-here none e x xs w h = below-more (λ k. k < length xs → sameFact x (getD xs k (present 0)) ≡ false) i (λ k l. none x xs w h k l) (λ l. sym (told-of x xs w h) ∙ e)
+    none-here none e xs h = below-more (λ k. k < length xs → sameFact (meaningOf x) (getD xs k (present 0)) ≡ false) i (λ k l. none xs h k l) (λ l. sym (told-of xs h) ∙ e)
 
-  pub none-found : (i : ℕ) → t .count ≤ 8 → t .count ≤ i → NoneBelow i → TellsAmong t kind first second false
-  none-found i few l none x xs w h = sym (not-among x xs (λ k m. none x xs w h k (omega arith) m))
+  pub none-found : (i : ℕ) → t .count ≤ 8 → t .count ≤ i → NoneBelow i → TellsAmong t x false
+  none-found i few l none xs h = sym (not-among (meaningOf x) xs (λ k m. none xs h k (omega (arith, h .counts)) m))
 
 -- A fact that is there leaves the list as it is; another one is put at its end.
 module _ (x : Fact) (xs : List Fact) where
@@ -105,40 +83,49 @@ module _ (x : Fact) (xs : List Fact) where
   longer : length (xs ++ (x ∷ [])) ≡ length xs + 1
   longer = length-append xs (x ∷ [])
 
-module _ (t : Facts) (kind first second : ℕ) where
+module _ (t : Facts) (x : Kept.Fact) where
+  -- The first eight of a longer list are those of the list.
+  first-eight : (xs : List Fact) → Represents t xs → 8 ≤ t .count → (i : ℕ) → i < 8 → Stored t i (getD (xs ++ (meaningOf x ∷ [])) i (present 0))
+  first-eight xs h many i l =
+      let n : i < length xs = omega (arith, h .counts) in
+      rw (List·getD-append xs (meaningOf x ∷ []) (present 0) i n) (h .stores i l n)
+
   -- More than eight stay more than eight.
-  pub adds-above : 8 < t .count → Adds t kind first second t
-  adds-above many x xs w h = go (isAmong x xs) refl
+  pub adds-above : 8 < t .count → Adds t x t
+  adds-above many xs h = go (isAmong (meaningOf x) xs) refl
     where
-      go : (b : Bool) → isAmong x xs ≡ b → Represents t (add x xs)
-      go true e = rw (there x xs e) h
-      go false e = rw (new x xs e) (record { counts = omega (arith, longer x xs); stores = λ i l m. rw (List·getD-append xs (x ∷ []) (present 0) i (omega arith)) (h .stores i l (omega arith)) })
+      go : (b : Bool) → isAmong (meaningOf x) xs ≡ b → Represents t (add (meaningOf x) xs)
+      go true e = rw (there (meaningOf x) xs e) h
+      go false e = rw (new (meaningOf x) xs e)
+          (record { room = h .room; counts = omega (arith, longer (meaningOf x) xs, h .counts); stores = λ i l m. first-eight xs h (omega arith) i l })
 
-  module _ (r : Bool) (told : TellsAmong t kind first second r) where
-    pub adds-present : r ≡ true → Adds t kind first second t
-    adds-present e x xs w h = rw (there x xs (sym (told x xs w h) ∙ e)) h
+  module _ (r : Bool) (told : TellsAmong t x r) where
+    pub adds-present : r ≡ true → Adds t x t
+    adds-present e xs h = rw (there (meaningOf x) xs (sym (told xs h) ∙ e)) h
 
-    pub adds-ninth : r ≡ false → t .count ≤ 8 → 8 ≤ t .count
-        → Adds t kind first second (record { kinds = t .kinds; firsts = t .firsts; seconds = t .seconds; count = t .count + 1 })
-    adds-ninth e few many x xs w h = rw (new x xs (sym (told x xs w h) ∙ e))
-        (record { counts = omega (arith, longer x xs); stores = λ i l m. rw (List·getD-append xs (x ∷ []) (present 0) i (omega arith)) (h .stores i l (omega arith)) })
+    pub adds-ninth : r ≡ false → t .count ≤ 8 → 8 ≤ t .count → Adds t x (record { kept = t .kept; count = t .count + 1 })
+    adds-ninth e few many xs h = rw (new (meaningOf x) xs (sym (told xs h) ∙ e))
+        (record { room = h .room; counts = omega (arith, longer (meaningOf x) xs, h .counts); stores = λ i l m. first-eight xs h many i l })
 
-    pub adds-new : r ≡ false → t .count < 8 → t .count < length (t .kinds) → t .count < length (t .firsts) → t .count < length (t .seconds)
-        → Adds t kind first second (record { kinds = set (t .kinds) (t .count) kind; firsts = set (t .firsts) (t .count) first; seconds = set (t .seconds) (t .count) second; count = t .count + 1 })
-    adds-new e few l₁ l₂ l₃ x xs w h = rw (new x xs (sym (told x xs w h) ∙ e))
-        (record { counts = omega (arith, longer x xs); stores = λ i l m. go i (eqb i (t .count)) refl l m })
+    pub adds-new : r ≡ false → t .count < 8
+        → Adds t x (record { kept = set (t .kept) (t .count) (record { fact = x }); count = t .count + 1 })
+    adds-new e few xs h = rw (new (meaningOf x) xs (sym (told xs h) ∙ e))
+        (record { room = length-set (t .kept) (t .count) (record { fact = x }) ∙ h .room; counts = omega (arith, longer (meaningOf x) xs, h .counts); stores = λ i l m. go i (eqb i (t .count)) refl l m })
       where
-        go : (i : ℕ) (b : Bool) → eqb i (t .count) ≡ b → i < 8 → i < length (xs ++ (x ∷ []))
-            → Written (getD (xs ++ (x ∷ [])) i (present 0)) (getD (set (t .kinds) (t .count) kind) i 0) (getD (set (t .firsts) (t .count) first) i 0) (getD (set (t .seconds) (t .count) second) i 0)
+        go : (i : ℕ) (b : Bool) → eqb i (t .count) ≡ b → i < 8 → i < length (xs ++ (meaningOf x ∷ []))
+            → Stored (record { kept = set (t .kept) (t .count) (record { fact = x }); count = t .count + 1 }) i (getD (xs ++ (meaningOf x ∷ [])) i (present 0))
         go i true e l m =
             let q : i ≡ t .count = eqb-true i (t .count) e in
-            let n : t .count ≡ length xs = omega arith in
-            rw (q, getD-set-same (t .kinds) (t .count) kind 0 l₁, getD-set-same (t .firsts) (t .count) first 0 l₂, getD-set-same (t .seconds) (t .count) second 0 l₃, n, getD-append-seam xs x [] (present 0)) w
+            let n : i ≡ length xs = omega (arith, h .counts) in
+            ap (λ (k : ℕ). meaningOf (getD (set (t .kept) (t .count) (record { fact = x })) k (record { fact = Present 0 }) .fact)) q
+            ∙ ap (λ (k : KeptFact). meaningOf (k .fact)) (getD-set-same (t .kept) (t .count) (record { fact = x }) (record { fact = Present 0 }) (omega (arith, h .room)))
+            ∙ sym (ap (λ (k : ℕ). getD (xs ++ (meaningOf x ∷ [])) k (present 0)) n ∙ getD-append-seam xs (meaningOf x) [] (present 0))
         go i false e l m =
             let q : i ≡ t .count → ⊥ = eqb-false i (t .count) e in
-            let n : i < length xs = omega (arith, longer x xs) in
-            rw (getD-set-other (t .kinds) (t .count) i kind 0 q, getD-set-other (t .firsts) (t .count) i first 0 q, getD-set-other (t .seconds) (t .count) i second 0 q, List·getD-append xs (x ∷ []) (present 0) i n)
-            (h .stores i l n)
+            let n : i < length xs = omega (arith, longer (meaningOf x) xs, h .counts, q) in
+            ap (λ (k : KeptFact). meaningOf (k .fact)) (getD-set-other (t .kept) (t .count) i (record { fact = x }) (record { fact = Present 0 }) q)
+            ∙ h .stores i l n
+            ∙ sym (List·getD-append xs (meaningOf x ∷ []) (present 0) i n)
 
 -- Up to eight facts are kept whole.
 module _ (t : Facts) (xs : List Fact) (h : Represents t xs) (few : t .count ≤ 8) where

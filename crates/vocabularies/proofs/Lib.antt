@@ -7,4 +7,3 @@ pub mod Clauses
 pub mod Rules
 pub mod Vocabularies
 pub mod Laws
-pub mod ShortFormulas

@@ -1,5 +1,5 @@
 -- What holds of a part that agrees with the definition that reads it.
-use Prim.Native.Nat.{ℕ, _+_, _-_, _*_, _^_, _<_}
+use Prim.Native.Nat.{ℕ, _+_, _-_, _<_}
 use mathlib.Core.Path.{_≡_, refl, sym, _∙_}
 use mathlib.Core.List.{List}
 use mathlib.Core.Bool.{Bool, true, false}
@@ -93,7 +93,7 @@ module _ {A : Type 0} where
   when-finishes true y n h k = h
   when-finishes false y n h k = k
 
--- Over a command that was read the bytes that are left fall, and its offset is far below what a word holds.
+-- Over a command that was read the bytes that are left fall.
 module _ (x : Context) (s : List ℕ) (d : Decoded) (at code : ℕ) (next : Position) (c : d ≡ command x s at) (e : d ≡ Decodeds.Moved code next) where
   m : MovedOver x s at code next
   m = moved x s at code next (sym c ∙ e)
@@ -103,9 +103,3 @@ module _ (x : Context) (s : List ℕ) (d : Decoded) (at code : ℕ) (next : Posi
 
   pub command-falls : (t : ℕ) → length s - at ≡ t → length s - next .at < t
   command-falls t l = omega (arith, m)
-
-  pub command-low : length s * 1 < 2 ^ 63 → at < 2 ^ 63
-  command-low l = omega (arith, m)
-
-  pub command-fits : length s * 1 < 2 ^ 63 → at + 1 < 2 ^ 64
-  command-fits l = omega (arith, m)

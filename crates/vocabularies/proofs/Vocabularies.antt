@@ -2,7 +2,7 @@
 use Prim.Native.Nat.{ℕ, zero, suc, _+_, _-_, _≤_, _<_}
 use mathlib.Core.Path.{_≡_, refl, sym, _∙_}
 use mathlib.Core.List.{List, [], _∷_, _++_}
-use mathlib.Core.Bool.{Bool, true, false, not, cond, _&&_, and-true}
+use mathlib.Core.Bool.{Bool, true, false, not, _&&_, and-true}
 use native.Mathlib.Omega.{arith}
 use lib.ListN.{length}
 use lib.Dec.{leb, eqb}
@@ -139,9 +139,9 @@ pub record RulesContinue (s : List ℕ) (at : ℕ) (t : Tables) : Type 0 where
   pub describes : DescribesRules s given t
   pub continues : (r : VocabularyRead) → RulesFrom s given at r → VocabularyReads s r
 
-pub rules-start : (s : List ℕ) (t : Tables) → ((s : List ℕ) → DescribesRules s [] t) → RulesContinue s 0 t
+pub rules-start : (s : List ℕ) (t : Tables) (place : Position) → ((s : List ℕ) → DescribesRules s [] t) → place ≡ record { at = 0 } → RulesContinue s (place .at) t
 unfolding vocabulary
-rules-start s t h = record { given = []; describes = h s; continues = λ r k. k (enough s) (omega arith) }
+rules-start s t place h e = rw e (record { given = []; describes = h s; continues = λ r k. k (enough s) (omega arith) })
 
 module _ (s : List ℕ) (place : Position) (t : Tables) (on : RulesContinue s (place .at) t) (d : Decoded) (c : d ≡ command Rules s (place .at)) where
   pub rules-refused : (i : Form) (n : ℕ) (p : Part) → d ≡ Decodeds.Refused i n → p ≡ partOf d → VocabularyReads s (record { part = p; tables = t })

@@ -1,93 +1,55 @@
 -- What the code that reads vocabularies promises, in terms of the definitions that read them.
-use Prim.Native.Nat.{ℕ, _+_, _/_, _%_, _≤_, _<_, min}
+use Prim.Native.Nat.{ℕ, _<_, min}
 use mathlib.Core.Path.{_≡_}
 use mathlib.Core.List.{List, [], _∷_, _++_}
 use mathlib.Core.Option.{some}
-use mathlib.Core.Bool.{Bool, false, cond}
+use mathlib.Core.Bool.{Bool, false}
 use lib.ListN.{length, getD}
 use Rattle.sets.specs.Sets.{member}
+use Rattle.strings.specs.Strings.{setNumber}
 use Rattle.commands.specs.declared.Context.{Context}
-use Rattle.commands.specs.declared.Context.the-variants.{Formulas}
 use Rattle.commands.specs.declared.Part.{Part}
-use Rattle.commands.specs.declared.Part.the-variants.{Whole, Refused}
-use Rattle.commands.specs.declared.Decoded.{Decoded}
-use Rattle.commands.specs.declared.Decoded.the-variants as Decodeds
-use Rattle.commands.specs.Commands.{byte, command}
 use Rattle.commands.specs.Reading.{whole}
 use Rattle.commands.specs.Parts.{Agrees, AgreesAs, Enough}
+pub use Rattle.commands.specs.Parts.{partOf}
 use Rattle.vocabularies.specs.declared.Tables.{Tables}
 use Rattle.vocabularies.specs.declared.VocabularyRead.{VocabularyRead}
+use Rattle.vocabularies.specs.declared.Fact as Kept
+use Rattle.vocabularies.specs.declared.Fact.the-variants.{Present, Ordered, Valued}
 use Rattle.vocabularies.specs.declared.Facts.{Facts}
-use Rattle.vocabularies.specs.declared.Gathered.{Gathered}
+use Rattle.vocabularies.specs.declared.FormulaRead.{FormulaRead}
 use Rattle.vocabularies.specs.declared.Names.{Names}
 use Rattle.vocabularies.specs.declared.RuleRead.{RuleRead}
-use Rattle.vocabularies.specs.Facts.{Fact, present, ordered, valued, sameFact, isAmong, add, withFacts}
+use Rattle.vocabularies.specs.Facts.{Fact, present, ordered, valued, isAmong, add, withFacts}
 use Rattle.vocabularies.specs.Vocabulary.{Formula, Rule, Vocabulary, ruleOf, declared, isIn}
-use Rattle.vocabularies.specs.VocabularyReading.{leaf, shapeAt, formula, mostFacts, rising, clauses, ruleBody, vocabulary}
+use Rattle.vocabularies.specs.VocabularyReading.{leaf, shapeAt, formula, rising, clauses, ruleBody, vocabulary}
 
--- A command alone as a part.
-abbrev pub partOf : Decoded → Part
-partOf (Decodeds.Moved code next) = Whole next
-partOf (Decodeds.Refused f at) = Refused f at
+-- The fact of the definitions that a fact of the code stands for.
+abbrev pub meaningOf : Kept.Fact → Fact
+meaningOf (Present c) = present c
+meaningOf (Ordered c d) = ordered c d
+meaningOf (Valued a set) = valued a (setNumber set)
 
-abbrev pub FormulaReads : List ℕ → ℕ → ℕ → Part → Type 0
-FormulaReads s depth at r = (f : ℕ) → Enough s at f → Agrees (formula f s depth at) r
-
--- A formula's command stands at an offset, and ends at another.
-abbrev pub StepsOver : List ℕ → ℕ → ℕ → Type 0
-StepsOver s at next = command Formulas s at ≡ Decodeds.Moved (byte s at) (record { at = next })
-
--- A formula of one command adds at most this many facts.
-abbrev pub AddsMost : ℕ → ℕ → Type 0
-AddsMost code n = 0x10 ≤ code → code ≤ 0x17 → (s : List ℕ) (at : ℕ) (ψ : Formula) → shapeAt s at code ≡ leaf ψ → (xs : List Fact) → length (withFacts ψ xs) ≤ length xs + n
-
--- The formula at an offset is whole: r has 16 times the offset after it, and a number, at most 8, that its facts do not pass, added
--- to `facts` others.
-pub record Short (s : List ℕ) (depth at facts r : ℕ) : Type 0 where
-  pub few : r % 16 ≤ mostFacts
-  pub reads : (f : ℕ) → Enough s at f
-      → (ψ : Formula) × (formula f s depth at ≡ whole ψ (r / 16)) × ((xs : List Fact) → length (withFacts ψ xs) + facts ≤ length xs + r % 16)
-
--- A fact in numbers: its kind, and its operands.
-abbrev pub kindOf : Fact → ℕ
-kindOf (present c) = 0
-kindOf (ordered c d) = 1
-kindOf (valued a m) = 2
-
-abbrev pub firstOf : Fact → ℕ
-firstOf (present c) = c
-firstOf (ordered c d) = c
-firstOf (valued a m) = a
-
-abbrev pub secondOf : Fact → ℕ
-secondOf (present c) = 0
-secondOf (ordered c d) = d
-secondOf (valued a m) = m
-
-pub record Written (x : Fact) (kind first second : ℕ) : Type 0 where
-  pub has-kind : kind ≡ kindOf x
-  pub has-first : first ≡ firstOf x
-  pub has-second : second ≡ secondOf x
+-- The fact that is kept at a place.
+abbrev pub keptAt : Facts → ℕ → Kept.Fact
+keptAt t i = getD (t .kept) i (record { fact = Present 0 }) .fact
 
 abbrev pub Stored : Facts → ℕ → Fact → Type 0
-Stored t i x = Written x (getD (t .kinds) i 0) (getD (t .firsts) i 0) (getD (t .seconds) i 0)
+Stored t i x = meaningOf (keptAt t i) ≡ x
 
 -- A list of facts as code keeps it: whole up to 8 facts, and of a longer one the first 8.
 pub record Represents (t : Facts) (xs : List Fact) : Type 0 where
+  pub room : length (t .kept) ≡ 8
   pub counts : t .count ≡ min 9 (length xs)
   pub stores : (i : ℕ) → i < 8 → i < length xs → Stored t i (getD xs i (present 0))
 
--- What is told of the fact that three numbers write: whether it is the one at a place, whether it is among those kept, and what is
--- kept with it.
-module _ (t : Facts) (kind first second : ℕ) where
-  abbrev pub TellsSame : ℕ → Bool → Type 0
-  TellsSame i r = (x y : Fact) → Written x kind first second → Stored t i y → r ≡ sameFact x y
-
+-- Whether a fact is among those kept, and what is kept with it.
+module _ (t : Facts) (x : Kept.Fact) where
   abbrev pub TellsAmong : Bool → Type 0
-  TellsAmong r = (x : Fact) (xs : List Fact) → Written x kind first second → Represents t xs → r ≡ isAmong x xs
+  TellsAmong r = (xs : List Fact) → Represents t xs → r ≡ isAmong (meaningOf x) xs
 
   abbrev pub Adds : Facts → Type 0
-  Adds r = (x : Fact) (xs : List Fact) → Written x kind first second → Represents t xs → Represents r (add x xs)
+  Adds r = (xs : List Fact) → Represents t xs → Represents r (add (meaningOf x) xs)
 
 -- The facts with those of a formula.
 abbrev pub FactsWith : Facts → Formula → Facts → Type 0
@@ -97,11 +59,9 @@ FactsWith t ψ r = (xs : List Fact) → Represents t xs → Represents r (withFa
 abbrev pub LeafAdds : List ℕ → ℕ → ℕ → Facts → Facts → Type 0
 LeafAdds s at code t r = (ψ : Formula) → shapeAt s at code ≡ leaf ψ → FactsWith t ψ r
 
--- The same for the formula at an offset, where one can be read there; and its end.
-pub record Gathers (s : List ℕ) (at : ℕ) (t : Facts) (r : Gathered) : Type 0 where
-  pub onward : at ≤ r .end .at
-  pub ends : (f depth : ℕ) (ψ : Formula) (end : ℕ) → formula f s depth at ≡ whole ψ end → r .end .at ≡ end
-  pub gathers : (f depth : ℕ) (ψ : Formula) (end : ℕ) → formula f s depth at ≡ whole ψ end → FactsWith t ψ (r .facts)
+-- A formula below so many open connectives; where it is whole, its facts are added to those before it.
+abbrev pub FormulaReads : List ℕ → ℕ → ℕ → Facts → FormulaRead → Type 0
+FormulaReads s depth at t r = (f : ℕ) → Enough s at f → AgreesAs (λ ψ end. FactsWith t ψ (r .facts)) (formula f s depth at) (r .part)
 
 -- The names of a rising list as a set.
 abbrev pub NamesRead : List ℕ → Context → ℕ → Names → Type 0

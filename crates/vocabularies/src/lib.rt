@@ -1,20 +1,22 @@
 // The vocabulary of the panel: its rules, their clauses, and how they are read.
-ghost use Prim.Native.Nat.{ℕ, _+_, _^_, _≤_, _<_};
+ghost use Prim.Native.Nat.{ℕ, _≤_, _<_};
 ghost use mathlib.Core.Path.{_≡_};
 ghost use mathlib.Core.List.{List, []};
 ghost use mathlib.Core.Logic.{_⊎_};
-ghost use lib.ListN.{length};
-ghost use Rattle.commands.specs.Commands.{byte, setAt, Single};
+ghost use Rattle.strings.specs.Strings.{setNumber};
+ghost use Rattle.commands.specs.Commands.{Single};
+ghost use Rattle.commands.specs.Parts.{partOf};
 ghost use Rattle.vocabularies.specs.Vocabulary.{order};
-ghost use Rattle.vocabularies.specs.Promises.{partOf, StepsOver, AddsMost, Short, FormulaReads, Represents, TellsSame, TellsAmong, Adds, FactsWith, LeafAdds, Gathers, NamesRead, ClausesRead, RuleReads, Long, DescribesRules, VocabularyReads};
+ghost use Rattle.vocabularies.specs.Facts.{present, ordered, valued, sameFact};
+ghost use Rattle.vocabularies.specs.Promises.{meaningOf, keptAt, Represents, TellsAmong, Adds, FactsWith, LeafAdds, FormulaReads, NamesRead, ClausesRead, RuleReads, Long, DescribesRules, VocabularyReads};
 use commands::Context;
 use commands::Decoded;
 use commands::Part;
+use commands::Past;
 use commands::Position;
 use commands::byte_at;
-use commands::inner_set;
 use commands::is_allowed;
-use commands::set_at;
+use strings::StringSet;
 use verdicts::Form;
 
 // What reading a vocabulary keeps: for each element that has a rule, the allowed attributes and contents as sets, and the offset
@@ -32,19 +34,29 @@ pub struct VocabularyRead {
     pub tables: Tables,
 }
 
-// The facts of a clause so far, in the order of their definition: of each its kind and its operands. `count` is 9 where there are
-// more than 8, of which only the first 8 are kept.
+// A fact of a clause: a content of `15` and `16`, a pair of `16`, an attribute and a set of `17`.
+pub enum Fact {
+    Present(u8),
+    Ordered(u8, u8),
+    Valued(u8, StringSet),
+}
+
+// A fact where it is kept: an array of enums cannot be a field.
+pub struct KeptFact {
+    pub fact: Fact,
+}
+
+// The facts of a clause so far, in the order of their definition. `count` is 9 where there are more than 8, of which only the first
+// 8 are kept.
 pub struct Facts {
-    pub kinds: [u8; 8],
-    pub firsts: [u8; 8],
-    pub seconds: [u64; 8],
+    pub kept: [KeptFact; 8],
     pub count: usize,
 }
 
-// The facts of a formula, and the position after it.
-pub struct Gathered {
+// A formula that was read: the part that it is, and the facts with its own.
+pub struct FormulaRead {
+    pub part: Part,
     pub facts: Facts,
-    pub end: Position,
 }
 
 // The names of a rising list as a set, with the part that the list is.
@@ -65,241 +77,76 @@ const FORMULA_NESTING: usize = 16;
 
 pub const MOST_FACTS: usize = 8;
 
-// The kinds of facts: a content of `15` and `16`, a pair of `16`, an attribute and a set of `17`.
-pub const PRESENT: u8 = 0;
-
-pub const ORDERED: u8 = 1;
-
-pub const VALUED: u8 = 2;
-
-// A command alone as a part.
-pub fn part_of(d: Decoded) -> Part
-    ensures { λ r. ⌜ r ≡ partOf d ⌝ }
-{
-    match d {
-        Decoded::Moved(_, next) => Part::Whole(next),
-        Decoded::Refused(form, at) => Part::Refused(form, at),
-    }
-}
-
-// A formula in prefix order, below `depth` open connectives.
-pub fn read_formula(s: &[u8], here: Position, depth: usize) -> Part
-    ensures { λ r. ⌜ FormulaReads (now (s .entry)) depth (here .at) r ⌝ }
-{
-    let d = here.command(s, Context::Formulas);
-    let Decoded::Moved(code, next) = d else {
-        return part_of(d);
-    };
-    match code {
-        0x10 | 0x11 => {
-            if FORMULA_NESTING <= depth {
-                return Part::Refused(Form::TooMany, here.at);
-            }
-            let first = read_formula(s, next, depth + 1);
-            let Part::Whole(middle) = first else {
-                return first;
-            };
-            read_formula(s, middle, depth + 1)
-        }
-        0x12 => {
-            if FORMULA_NESTING <= depth {
-                return Part::Refused(Form::TooMany, here.at);
-            }
-            read_formula(s, next, depth + 1)
-        }
-        _ => Part::Whole(next),
-    }
-}
-
-// The offset after a command here with one operand of at most `most`, or 0.
-fn after_name(s: &[u8], at: usize, most: u8) -> usize
-    requires { ⌜ at < length (now s) ⌝ }
-    ensures { λ r. ⌜ (0 < r → (r ≡ at + 2) × (r ≤ length (now (s .entry))) × (byte (now (s .entry)) (at + 1) ≤ most)) ⌝ }
-{
-    if s.len() - at < 2 {
-        return 0;
-    }
-    if most < s[at + 1] {
-        return 0;
-    }
-    at + 2
-}
-
-// The same for two contents.
-fn after_pair(s: &[u8], at: usize) -> usize
-    requires { ⌜ at < length (now s) ⌝ }
-    ensures { λ r. ⌜ (0 < r → (r ≡ at + 3) × (r ≤ length (now (s .entry))) × (byte (now (s .entry)) (at + 1) ≤ 63) × (byte (now (s .entry)) (at + 2) ≤ 63)) ⌝ }
-{
-    if s.len() - at < 3 {
-        return 0;
-    }
-    if 63 < s[at + 1] {
-        return 0;
-    }
-    if 63 < s[at + 2] {
-        return 0;
-    }
-    at + 3
-}
-
-// The same for an attribute and a set of strings.
-fn after_value(s: &[u8], at: usize) -> usize
-    requires { ⌜ at < length (now s) ⌝ }
-    ensures { λ r. ⌜ (0 < r → (r ≡ at + 10) × (r ≤ length (now (s .entry))) × (byte (now (s .entry)) (at + 1) ≤ 31) × (0 < setAt (now (s .entry)) (at + 2))) ⌝ }
-{
-    if s.len() - at < 10 {
-        return 0;
-    }
-    if 31 < s[at + 1] {
-        return 0;
-    }
-    if inner_set(s, at + 2) == 0 {
-        return 0;
-    }
-    at + 10
-}
-
-// The offset after the command of a formula here; 0 where `command` is to tell what is wrong with it.
-fn after_command(s: &[u8], at: usize) -> usize
-    ensures { λ r. ⌜ (0 < r → StepsOver (now (s .entry)) at r) ⌝ }
-{
-    if s.len() <= at {
-        return 0;
-    }
-    match s[at] {
-        0x10 => at + 1,
-        0x11 => at + 1,
-        0x12 => at + 1,
-        0x13 => at + 1,
-        0x14 => after_name(s, at, 31),
-        0x15 => after_name(s, at, 63),
-        0x16 => after_pair(s, at),
-        0x17 => after_value(s, at),
-        _ => 0,
-    }
-}
-
-// How many facts a formula that is one command has at most.
-fn facts_of(code: u8) -> usize
-    ensures few { λ r. ⌜ r ≤ 3 ⌝ }
-    ensures most { λ r. ⌜ AddsMost code r ⌝ }
-{
-    match code {
-        0x15 => 1,
-        0x16 => 3,
-        0x17 => 1,
-        _ => 0,
-    }
-}
-
-// The formula of one command here, after so many facts: 16 times the offset after it, and the facts with its own, at most 8. 0 where it
-// is not one that is seen at once to be whole.
-fn short_leaf(s: &[u8], at: usize, facts: usize) -> usize
-    requires { ⌜ facts ≤ 8 ⌝ }
-    ensures { λ r. ⌜ (0 < r → (depth : ℕ) → Short (now (s .entry)) depth at facts r) ⌝ }
-{
-    let next = after_command(s, at);
-    if next == 0 {
-        return 0;
-    }
-    let code = s[at];
-    if code <= 0x12 {
-        return 0;
-    }
-    let more = facts + facts_of(code);
-    if MOST_FACTS < more {
-        return 0;
-    }
-    if 0x0800_0000_0000_0000 <= next {
-        return 0;
-    }
-    next * 16 + more
-}
-
-// The same for a formula, below `depth` open connectives.
-fn short_formula(s: &[u8], at: usize, depth: usize, facts: usize) -> usize
-    requires { ⌜ facts ≤ 8 ⌝ }
-    ensures { λ r. ⌜ (0 < r → Short (now (s .entry)) depth at facts r) ⌝ }
-{
-    let leaf = short_leaf(s, at, facts);
-    if leaf != 0 {
-        return leaf;
-    }
-    short_connective(s, at, depth, facts)
-}
-
-// The same for a connective with its formulas.
-fn short_connective(s: &[u8], at: usize, depth: usize, facts: usize) -> usize
-    requires { ⌜ facts ≤ 8 ⌝ }
-    ensures { λ r. ⌜ (0 < r → Short (now (s .entry)) depth at facts r) ⌝ }
-{
-    if s.len() <= at {
-        return 0;
-    }
-    let code = s[at];
-    if code < 0x10 {
-        return 0;
-    }
-    if 0x12 < code {
-        return 0;
-    }
-    if FORMULA_NESTING <= depth {
-        return 0;
-    }
-    let first = short_formula(s, at + 1, depth + 1, facts);
-    if first == 0 {
-        return 0;
-    }
-    if code == 0x12 {
-        return first;
-    }
-    short_formula(s, first / 16, depth + 1, first % 16)
-}
-
-// The same for the formula of a clause: most are one command.
-fn short_clause(s: &[u8], at: usize) -> usize
-    ensures { λ r. ⌜ (0 < r → Short (now (s .entry)) 0 at 0 r) ⌝ }
-{
-    let leaf = short_leaf(s, at, 0);
-    if leaf != 0 {
-        return leaf;
-    }
-    short_connective(s, at, 0, 0)
-}
-
 pub fn no_facts() -> Facts
     ensures { λ r. ⌜ Represents r [] ⌝ }
 {
+    let none = KeptFact {
+        fact: Fact::Present(0),
+    };
     Facts {
-        kinds: [0u8; 8],
-        firsts: [0u8; 8],
-        seconds: [0u64; 8],
+        kept: [none; 8],
         count: 0,
     }
 }
 
-// Whether a fact stands at a place.
-fn stands_at(facts: Facts, i: usize, kind: u8, first: u8, second: u64) -> bool
+// The fact at a place.
+pub fn fact_at(facts: Facts, i: usize) -> Fact
     requires { ⌜ i < 8 ⌝ }
-    ensures { λ r. ⌜ TellsSame facts kind first second i r ⌝ }
+    ensures { λ r. ⌜ r ≡ keptAt facts i ⌝ }
 {
-    if facts.kinds[i] != kind {
-        return false;
-    }
-    if facts.firsts[i] != first {
-        return false;
-    }
-    second == facts.seconds[i]
+    let kept = facts.kept[i];
+    kept.fact
 }
 
-fn is_among(facts: Facts, kind: u8, first: u8, second: u64) -> bool
+// Whether a fact is that content c is present.
+pub fn is_present(fact: Fact, c: u8) -> bool
+    ensures { λ r. ⌜ r ≡ sameFact (present c) (meaningOf fact) ⌝ }
+{
+    match fact {
+        Fact::Present(of) => c == of,
+        Fact::Ordered(_, _) => false,
+        Fact::Valued(_, _) => false,
+    }
+}
+
+fn is_ordered(fact: Fact, c: u8, d: u8) -> bool
+    ensures { λ r. ⌜ r ≡ sameFact (ordered c d) (meaningOf fact) ⌝ }
+{
+    match fact {
+        Fact::Present(_) => false,
+        Fact::Ordered(first, second) => c == first && d == second,
+        Fact::Valued(_, _) => false,
+    }
+}
+
+fn is_valued(fact: Fact, a: u8, set: StringSet) -> bool
+    ensures { λ r. ⌜ r ≡ sameFact (valued a (setNumber set)) (meaningOf fact) ⌝ }
+{
+    match fact {
+        Fact::Present(_) => false,
+        Fact::Ordered(_, _) => false,
+        Fact::Valued(of, among) => a == of && strings::same(set, among),
+    }
+}
+
+pub fn same_fact(fact: Fact, other: Fact) -> bool
+    ensures { λ r. ⌜ r ≡ sameFact (meaningOf fact) (meaningOf other) ⌝ }
+{
+    match fact {
+        Fact::Present(c) => is_present(other, c),
+        Fact::Ordered(c, d) => is_ordered(other, c, d),
+        Fact::Valued(a, set) => is_valued(other, a, set),
+    }
+}
+
+fn is_among(facts: Facts, fact: Fact) -> bool
     requires { ⌜ facts .count ≤ 8 ⌝ }
-    ensures { λ r. ⌜ TellsAmong facts kind first second r ⌝ }
+    ensures { λ r. ⌜ TellsAmong facts fact r ⌝ }
 {
     let count = facts.count;
     let mut i = 0;
     while i < count {
-        if stands_at(facts, i, kind, first, second) {
+        if same_fact(fact, fact_at(facts, i)) {
             return true;
         }
         i += 1;
@@ -308,22 +155,20 @@ fn is_among(facts: Facts, kind: u8, first: u8, second: u64) -> bool
 }
 
 // The facts with one more, unless it is there.
-fn with_fact(facts: Facts, kind: u8, first: u8, second: u64) -> Facts
-    ensures { λ r. ⌜ Adds facts kind first second r ⌝ }
+fn with_fact(facts: Facts, fact: Fact) -> Facts
+    ensures { λ r. ⌜ Adds facts fact r ⌝ }
 {
     let count = facts.count;
     if MOST_FACTS < count {
         return facts;
     }
-    if is_among(facts, kind, first, second) {
+    if is_among(facts, fact) {
         return facts;
     }
     let mut more = facts;
     more.count = count + 1;
     if count < MOST_FACTS {
-        more.kinds[count] = kind;
-        more.firsts[count] = first;
-        more.seconds[count] = second;
+        more.kept[count] = KeptFact { fact };
     }
     more
 }
@@ -332,44 +177,63 @@ fn with_fact(facts: Facts, kind: u8, first: u8, second: u64) -> Facts
 fn with_order(facts: Facts, c: u8, d: u8) -> Facts
     ensures { λ r. ⌜ FactsWith facts (order c d) r ⌝ }
 {
-    let one = with_fact(facts, PRESENT, c, 0);
-    let two = with_fact(one, PRESENT, d, 0);
-    with_fact(two, ORDERED, c, d as u64)
+    let one = with_fact(facts, Fact::Present(c));
+    let two = with_fact(one, Fact::Present(d));
+    with_fact(two, Fact::Ordered(c, d))
 }
 
 // The facts with those of a formula that is one command.
-fn with_leaf(s: &[u8], at: usize, code: u8, facts: Facts) -> Facts
-    requires { ⌜ at < 2 ^ 63 ⌝ }
-    ensures { λ r. ⌜ LeafAdds (now (s .entry)) at code facts r ⌝ }
+fn with_leaf(s: &[u8], here: Position, code: u8, facts: Facts) -> Facts
+    ensures { λ r. ⌜ LeafAdds (now (s .entry)) (here .at) code facts r ⌝ }
 {
     match code {
         0x13 => facts,
         0x14 => facts,
-        0x15 => with_fact(facts, PRESENT, byte_at(s, at + 1), 0),
-        0x16 => with_order(facts, byte_at(s, at + 1), byte_at(s, at + 2)),
-        _ => with_fact(facts, VALUED, byte_at(s, at + 1), set_at(s, at + 2)),
+        0x15 => with_fact(facts, Fact::Present(here.operand(s, 1))),
+        0x16 => with_order(facts, here.operand(s, 1), here.operand(s, 2)),
+        _ => with_fact(facts, Fact::Valued(here.operand(s, 1), here.string_set(s))),
     }
 }
 
-// The facts with those of the formula here.
-pub fn gather(s: &[u8], here: Position, facts: Facts) -> Gathered
-    ensures { λ r. ⌜ Gathers (now (s .entry)) (here .at) facts r ⌝ }
+// A formula in prefix order, below `depth` open connectives, after some facts.
+pub fn read_formula(s: &[u8], here: Position, depth: usize, facts: Facts) -> FormulaRead
+    ensures { λ r. ⌜ FormulaReads (now (s .entry)) depth (here .at) facts r ⌝ }
 {
     let d = here.command(s, Context::Formulas);
     let Decoded::Moved(code, next) = d else {
-        return Gathered { facts, end: here };
+        return FormulaRead {
+            part: d.part(),
+            facts,
+        };
     };
     match code {
         0x10 | 0x11 => {
-            let first = gather(s, next, facts);
+            if FORMULA_NESTING <= depth {
+                return FormulaRead {
+                    part: Part::Refused(Form::TooMany, here.at),
+                    facts,
+                };
+            }
+            let first = read_formula(s, next, depth + 1, facts);
+            let part = first.part;
+            let Part::Whole(middle) = part else {
+                return first;
+            };
             let held = first.facts;
-            let middle = first.end;
-            gather(s, middle, held)
+            read_formula(s, middle, depth + 1, held)
         }
-        0x12 => gather(s, next, facts),
-        _ => Gathered {
-            facts: with_leaf(s, here.at, code, facts),
-            end: next,
+        0x12 => {
+            if FORMULA_NESTING <= depth {
+                return FormulaRead {
+                    part: Part::Refused(Form::TooMany, here.at),
+                    facts,
+                };
+            }
+            read_formula(s, next, depth + 1, facts)
+        }
+        _ => FormulaRead {
+            part: Part::Whole(next),
+            facts: with_leaf(s, here, code, facts),
         },
     }
 }
@@ -393,11 +257,11 @@ fn read_names(s: &[u8], here: Position, context: Context, code: u8, most: u8) ->
         let d = place.name_command(s, context, code, most);
         let Decoded::Moved(_, next) = d else {
             return Names {
-                part: part_of(d),
+                part: d.part(),
                 set,
             };
         };
-        let name = byte_at(s, at + 1);
+        let name = place.operand(s, 1);
         if name < least {
             return Names {
                 part: Part::Refused(Form::NotRising, at),
@@ -416,25 +280,20 @@ pub fn read_clauses(s: &[u8], here: Position) -> Part
 {
     let mut place = here;
     loop {
-        let at = place.at;
-        if byte_at(s, at) != 0x04 {
+        let mark = place.past(s, 0x04);
+        let Past::Over(start) = mark else {
             return Part::Whole(place);
+        };
+        let read = read_formula(s, start, 0, no_facts());
+        let part = read.part;
+        let Part::Whole(next) = part else {
+            return part;
+        };
+        let facts = read.facts;
+        if MOST_FACTS < facts.count {
+            return Part::Refused(Form::TooManyFacts, place.at);
         }
-        let start = Position { at: at + 1 };
-        let short = short_clause(s, at + 1);
-        if short != 0 {
-            place = Position { at: short / 16 };
-        } else {
-            let part = read_formula(s, start, 0);
-            let Part::Whole(next) = part else {
-                return part;
-            };
-            let facts = gather(s, start, no_facts()).facts;
-            if MOST_FACTS < facts.count {
-                return Part::Refused(Form::TooManyFacts, at);
-            }
-            place = next;
-        }
+        place = next;
     }
 }
 
@@ -489,18 +348,18 @@ fn no_tables() -> Tables
 pub fn read_vocabulary(s: &[u8]) -> VocabularyRead
     ensures { λ r. ⌜ VocabularyReads (now (s .entry)) r ⌝ }
 {
-    let mut place = Position { at: 0 };
+    let mut place = Position::new(0);
     let mut tables = no_tables();
     loop {
         let at = place.at;
         let d = place.command(s, Context::Rules);
         let Decoded::Moved(code, next) = d else {
             return VocabularyRead {
-                part: part_of(d),
+                part: d.part(),
                 tables,
             };
         };
-        let e = byte_at(s, at + 1);
+        let e = place.operand(s, 1);
         if code == 0x05 {
             if !sets::has(tables.declared, e) {
                 return VocabularyRead {

@@ -32,15 +32,17 @@ head p x cs = record { point = p; variable = templates x; facts = map claim cs }
 
 abbrev pub j1-job : Job
 j1-job = record {
-  vocabulary = record { rules = page-rules; root = 1 };
-  templates = frame ∷ body ∷ [];
-  program =
-      step (setTemplate 0 1) 1 1
-      ∷ step (setTemplate 1 2) 2 2
-      ∷ step (plug 0 0 0 1) 3 3
-      ∷ step (show 0) 4 4
-      ∷ stop
-      ∷ [];
+  script = record {
+    vocabulary = record { rules = page-rules; root = 1 };
+    templates = frame ∷ body ∷ [];
+    program =
+        step (setTemplate 0 1) 1 1
+        ∷ step (setTemplate 1 2) 2 2
+        ∷ step (plug 0 0 0 1) 3 3
+        ∷ step (show 0) 4 4
+        ∷ stop
+        ∷ [];
+  };
   proposal =
       head 0 0 (root 0 ∷ [])
       ∷ head 0 1 (root 0 ∷ [])

@@ -17,7 +17,7 @@ first = record { second = false; string = 0 }
 abbrev page : Items
 page = one (element 1 20 [] (one (element 2 27 [] (one text))))
 
-pub shows : shown (j1-job .templates) (j1-job .program) (first ∷ first ∷ first ∷ first ∷ []) ≡ page ∷ []
+pub shows : shown (j1-job .script .templates) (j1-job .script .program) (first ∷ first ∷ first ∷ first ∷ []) ≡ page ∷ []
 unfolding shown statementAt templateAt closed plugged
 shows = refl
 
@@ -25,11 +25,11 @@ shows = refl
 abbrev graph : Summary
 graph = closedSummary (entries (j1-job .proposal) 3 .template 0)
 
-graph-shown : graphShown (j1-job .program) (j1-job .proposal) 3 ≡ some graph
+graph-shown : graphShown (j1-job .script .templates) (j1-job .script .program) (entries (j1-job .proposal)) 3 ≡ some graph
 unfolding graphShown statementAt
 graph-shown = refl
 
-pub stands : Language (j1-job .templates) graph page
+pub stands : Language (j1-job .script .templates) graph page
 unfolding templateAt entries held under sameNumbers _⋈_
 stands = (
   1,

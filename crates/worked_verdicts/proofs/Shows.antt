@@ -3,7 +3,6 @@ use Prim.Native.Nat.{ℕ, zero, suc, _+_, _≤_, _<_}
 use native.Mathlib.Nat.{le-of-suc-le-suc}
 use native.Mathlib.Omega.{arith}
 use mathlib.Core.Path.{_≡_, refl, ap, subst}
-use mathlib.Core.List.{List}
 use mathlib.Core.Bool.{Bool, true, false, false≢true}
 use mathlib.Core.Option.{Option, some, none}
 use lib.ListN.{length}
@@ -13,15 +12,14 @@ use Rattle.verdicts.specs.declared.Fault.the-variants.{NotRoot, WrongElement}
 use Rattle.verdicts.specs.declared.Refusal.the-variants as Refusals
 use Rattle.verdicts.specs.declared.Verdict.{Verdict}
 use Rattle.verdicts.specs.declared.Verdict.the-variants.{Accepted, Refused}
-use Rattle.commands.specs.Reading.{whole}
-use Rattle.summaries.specs.Summaries.{Summary}
+use Rattle.summaries.specs.Summaries.{Summary, Environment, entries}
 use Rattle.summaries.specs.Languages.{graphShown}
-use Rattle.jobs.specs.Job.{Job, job}
-use Rattle.jobs.specs.JobVerdict.{AllCovered, ShowHolds, NotRootAt, WrongIn, JobVerdict, not-root, wrong-element, accepted}
+use Rattle.jobs.specs.Job.{Script, Job}
+use Rattle.jobs.specs.JobVerdict.{AllCovered, ShowHolds, NotRootAt, WrongIn, ScriptVerdict, not-root, wrong-element, accepted}
 use Rattle.covering.proofs.Whole.{past-stops}
 use Rattle.patterns.specs.Shows.{Tables, ExactTables, Least, onlyIf, lowestOver, lowestRoot, lowestWrongIn, lowestWrong}
 use Rattle.patterns.proofs.Lowest.{least-of, least-below, none-of, least-test, least-over}
-use Rattle.patterns.proofs.ReadJobs.{GivenJob}
+use Rattle.patterns.proofs.ReadJobs.{GivenShows}
 use Rattle.patterns.proofs.JobShows.{nothing-shown, lowest-not-root, lowest-wrong-element, wrong-in, show-holds}
 use Rattle.worked_verdicts.proofs.Counting.{one-more}
 use Rattle.worked_verdicts.proofs.Tables.{tablesBy, enoughRounds, tables-exact}
@@ -66,68 +64,68 @@ abbrev onlyEnough : Bool → Found → Found
 onlyEnough true f = f
 onlyEnough false f = undecided
 
-module _ (t : ℕ) (j : Job) where
+module _ (t : ℕ) (π : Script) (E : ℕ → Environment) where
   abbrev inGraph : Option Summary → Found
   inGraph none = right
-  inGraph (some G) = onlyEnough (enoughRounds (j .templates) G t (j .vocabulary))
-      (byLowest (lowestRoot (j .templates) G (j .vocabulary) (tablesBy (j .templates) G t (j .vocabulary)))
-      (lowestWrong (j .templates) G (j .vocabulary) (tablesBy (j .templates) G t (j .vocabulary)))
-      (placeOf (suc (length (j .templates))) (lowestWrongIn (j .templates) G (j .vocabulary) (tablesBy (j .templates) G t (j .vocabulary)))))
+  inGraph (some G) = onlyEnough (enoughRounds (π .templates) G t (π .vocabulary))
+      (byLowest (lowestRoot (π .templates) G (π .vocabulary) (tablesBy (π .templates) G t (π .vocabulary)))
+      (lowestWrong (π .templates) G (π .vocabulary) (tablesBy (π .templates) G t (π .vocabulary)))
+      (placeOf (suc (length (π .templates))) (lowestWrongIn (π .templates) G (π .vocabulary) (tablesBy (π .templates) G t (π .vocabulary)))))
 
   unfoldable pub showBy : ℕ → Found
   unfolding enoughRounds tablesBy lowestRoot lowestWrong placeOf graphShown
-  showBy p = inGraph (graphShown (j .program) (j .proposal) p)
+  showBy p = inGraph (graphShown (π .templates) (π .program) E p)
 
 -- What it means that this is found.
-module _ (j : Job) (p : ℕ) where
+module _ (π : Script) (E : ℕ → Environment) (p : ℕ) where
   pub record OtherPage (r : ℕ) : Type 0 where
-    pub page : NotRootAt j p r
-    pub lowest : (r′ : ℕ) → NotRootAt j p r′ → r ≤ r′
+    pub page : NotRootAt π E p r
+    pub lowest : (r′ : ℕ) → NotRootAt π E p r′ → r ≤ r′
 
   pub record WrongFound (n at : ℕ) : Type 0 where
-    pub no-other : (r : ℕ) → NotRootAt j p r → ⊥
-    pub element : WrongIn j p n at
-    pub lowest : (n′ at′ : ℕ) → WrongIn j p n′ at′ → at ≤ at′
+    pub no-other : (r : ℕ) → NotRootAt π E p r → ⊥
+    pub element : WrongIn π E p n at
+    pub lowest : (n′ at′ : ℕ) → WrongIn π E p n′ at′ → at ≤ at′
 
   abbrev pub FoundAt : Found → Type 0
-  FoundAt right = ShowHolds j p
+  FoundAt right = ShowHolds π E p
   FoundAt (other-page r) = OtherPage r
   FoundAt (wrong n at) = WrongFound n at
   FoundAt undecided = Unit {0}
 
-module _ (t : ℕ) (j : Job) (read : GivenJob j) (p : ℕ) where
-  module _ (G : Summary) (shows : graphShown (j .program) (j .proposal) p ≡ some G) (T : Tables)
-      (exact : ExactTables (j .templates) G (j .vocabulary) T) where
-    by-lowest : (a b : Option ℕ) → lowestRoot (j .templates) G (j .vocabulary) T ≡ a → lowestWrong (j .templates) G (j .vocabulary) T ≡ b
-        → FoundAt j p (byLowest a b (placeOf (suc (length (j .templates))) (lowestWrongIn (j .templates) G (j .vocabulary) T)))
+module _ (t : ℕ) (π : Script) (E : ℕ → Environment) (read : GivenShows π E) (p : ℕ) where
+  module _ (G : Summary) (shows : graphShown (π .templates) (π .program) E p ≡ some G) (T : Tables)
+      (exact : ExactTables (π .templates) G (π .vocabulary) T) where
+    by-lowest : (a b : Option ℕ) → lowestRoot (π .templates) G (π .vocabulary) T ≡ a → lowestWrong (π .templates) G (π .vocabulary) T ≡ b
+        → FoundAt π E p (byLowest a b (placeOf (suc (length (π .templates))) (lowestWrongIn (π .templates) G (π .vocabulary) T)))
     by-lowest (some r) b e f =
-        let l = subst (Least _) e (lowest-not-root j read p G shows T exact) in
+        let l = subst (Least _) e (lowest-not-root π E read p G shows T exact) in
         record { page = least-of l; lowest = least-below l }
-    by-lowest none none e f = show-holds j read p G shows T exact .1 (e, f)
-    by-lowest none (some at) e f = go (placeOf (suc (length (j .templates))) (lowestWrongIn (j .templates) G (j .vocabulary) T) at) refl
+    by-lowest none none e f = show-holds π E read p G shows T exact .1 (e, f)
+    by-lowest none (some at) e f = go (placeOf (suc (length (π .templates))) (lowestWrongIn (π .templates) G (π .vocabulary) T) at) refl
       where
-        go : (o : Option ℕ) → placeOf (suc (length (j .templates))) (lowestWrongIn (j .templates) G (j .vocabulary) T) at ≡ o → FoundAt j p (wrongIn o at)
+        go : (o : Option ℕ) → placeOf (suc (length (π .templates))) (lowestWrongIn (π .templates) G (π .vocabulary) T) at ≡ o → FoundAt π E p (wrongIn o at)
         go none q = tt
         go (some n) q =
-            let (h, i) = place-of (suc (length (j .templates))) (lowestWrongIn (j .templates) G (j .vocabulary) T) at n q in
-            let l = subst (Least _) f (lowest-wrong-element j read p G shows T exact) in
+            let (h, i) = place-of (suc (length (π .templates))) (lowestWrongIn (π .templates) G (π .vocabulary) T) at n q in
+            let l = subst (Least _) f (lowest-wrong-element π E read p G shows T exact) in
             record {
-              no-other = none-of (subst (Least _) e (lowest-not-root j read p G shows T exact));
-              element = wrong-in j read p G shows T exact n at (le-of-suc-le-suc h) i;
+              no-other = none-of (subst (Least _) e (lowest-not-root π E read p G shows T exact));
+              element = wrong-in π E read p G shows T exact n at (le-of-suc-le-suc h) i;
               lowest = λ n′ at′ w. least-below l at′ (n′, w);
             }
 
-  pub show-by : FoundAt j p (showBy t j p)
+  pub show-by : FoundAt π E p (showBy t π E p)
   unfolding showBy
-  show-by = go (graphShown (j .program) (j .proposal) p) refl
+  show-by = go (graphShown (π .templates) (π .program) E p) refl
     where
-      enough-or : (G : Summary) → graphShown (j .program) (j .proposal) p ≡ some G → (b : Bool) → enoughRounds (j .templates) G t (j .vocabulary) ≡ b
-          → (f : Found) → (ExactTables (j .templates) G (j .vocabulary) (tablesBy (j .templates) G t (j .vocabulary)) → FoundAt j p f) → FoundAt j p (onlyEnough b f)
-      enough-or G shows true e f h = h (tables-exact (j .templates) G t (j .vocabulary) (read .graphs p G shows) (read .templates) e)
+      enough-or : (G : Summary) → graphShown (π .templates) (π .program) E p ≡ some G → (b : Bool) → enoughRounds (π .templates) G t (π .vocabulary) ≡ b
+          → (f : Found) → (ExactTables (π .templates) G (π .vocabulary) (tablesBy (π .templates) G t (π .vocabulary)) → FoundAt π E p f) → FoundAt π E p (onlyEnough b f)
+      enough-or G shows true e f h = h (tables-exact (π .templates) G t (π .vocabulary) (read .graphs p G shows) (read .script .templates) e)
       enough-or G shows false e f h = tt
 
-      go : (o : Option Summary) → graphShown (j .program) (j .proposal) p ≡ o → FoundAt j p (inGraph t j o)
-      go none e = nothing-shown j p e
+      go : (o : Option Summary) → graphShown (π .templates) (π .program) E p ≡ o → FoundAt π E p (inGraph t π E o)
+      go none e = nothing-shown π E p e
       go (some G) e = enough-or G e _ refl _ (λ exact. by-lowest G e _ exact _ _ refl refl)
 
 -- Point by point.
@@ -137,46 +135,49 @@ pageVerdict p (other-page r) rest = some (Refused (Refusals.Page (NotRoot p r)))
 pageVerdict p (wrong n at) rest = some (Refused (Refusals.Page (WrongElement p n at)))
 pageVerdict p undecided rest = none
 
-unfoldable pub showsFrom : ℕ → Job → ℕ → ℕ → Option Verdict
-unfolding showBy
-showsFrom t j zero p = some Accepted
-showsFrom t j (suc k) p = pageVerdict p (showBy t j p) (showsFrom t j k (suc p))
+module _ (t : ℕ) (π : Script) (E : ℕ → Environment) where
+  unfoldable showsFrom : ℕ → ℕ → Option Verdict
+  unfolding showBy
+  showsFrom zero p = some Accepted
+  showsFrom (suc k) p = pageVerdict p (showBy t π E p) (showsFrom k (suc p))
 
 unfoldable pub showsBy : ℕ → Job → Option Verdict
 unfolding showsFrom
-showsBy t j = showsFrom t j (length (j .program)) 0
+showsBy t j = showsFrom t (j .script) (entries (j .proposal)) (length (j .script .program)) 0
 
-module _ (t : ℕ) (s : List ℕ) (j : Job) (end : ℕ) (reads : job s ≡ whole j end) (read : GivenJob j) (covered : AllCovered j) where
-  past-shows : (p : ℕ) → length (j .program) ≤ p → ShowHolds j p
+module _ (t : ℕ) (π : Script) (E : ℕ → Environment) (read : GivenShows π E) (covered : AllCovered π E) where
+  past-shows : (p : ℕ) → length (π .program) ≤ p → ShowHolds π E p
   unfolding graphShown
-  past-shows p h = nothing-shown j p (rw (past-stops (j .program) p h))
+  past-shows p h = nothing-shown π E p (rw (past-stops (π .program) p h))
 
-  all-shows : (p : ℕ) → length (j .program) ≤ p → ((q : ℕ) → q < p → ShowHolds j q) → (q : ℕ) → ShowHolds j q
+  all-shows : (p : ℕ) → length (π .program) ≤ p → ((q : ℕ) → q < p → ShowHolds π E q) → (q : ℕ) → ShowHolds π E q
   all-shows p h below q = go (ltb q p) refl
     where
-      go : (b : Bool) → ltb q p ≡ b → ShowHolds j q
+      go : (b : Bool) → ltb q p ≡ b → ShowHolds π E q
       go true e = below q (ltb-true q p e)
       go false e = let l = ltb-false q p e in past-shows q (omega arith)
 
-  page-verdict : (p : ℕ) → ((q : ℕ) → q < p → ShowHolds j q) → (f : Found) → FoundAt j p f → (rest : Option Verdict)
-      → (ShowHolds j p → (v : Verdict) → rest ≡ some v → JobVerdict s v) → (v : Verdict) → pageVerdict p f rest ≡ some v → JobVerdict s v
+  page-verdict : (p : ℕ) → ((q : ℕ) → q < p → ShowHolds π E q) → (f : Found) → FoundAt π E p f → (rest : Option Verdict)
+      → (ShowHolds π E p → (v : Verdict) → rest ≡ some v → ScriptVerdict π E v) → (v : Verdict) → pageVerdict p f rest ≡ some v → ScriptVerdict π E v
   page-verdict p below right h rest goes v e = goes h v e
   page-verdict p below (other-page r) h rest goes v e =
       let is : Refused (Refusals.Page (NotRoot p r)) ≡ v = cc in
-      subst (JobVerdict s) is (not-root reads covered below (h .page) (h .lowest))
+      subst (ScriptVerdict π E) is (not-root covered below (h .page) (h .lowest))
   page-verdict p below (wrong n at) h rest goes v e =
       let is : Refused (Refusals.Page (WrongElement p n at)) ≡ v = cc in
-      subst (JobVerdict s) is (wrong-element reads covered below (h .no-other) (h .element) (h .lowest))
+      subst (ScriptVerdict π E) is (wrong-element covered below (h .no-other) (h .element) (h .lowest))
   page-verdict p below undecided h rest goes v e = absurd (let z : _≡_ {A = ℕ} 0 1 = cc in omega arith)
 
-  shows-from : (k p : ℕ) → p + k ≡ length (j .program) → ((q : ℕ) → q < p → ShowHolds j q) → (v : Verdict) → showsFrom t j k p ≡ some v → JobVerdict s v
+  shows-from : (k p : ℕ) → p + k ≡ length (π .program) → ((q : ℕ) → q < p → ShowHolds π E q) → (v : Verdict) → showsFrom t π E k p ≡ some v → ScriptVerdict π E v
   unfolding showsFrom
   shows-from zero p e below v i =
       let is : Accepted ≡ v = cc in
-      subst (JobVerdict s) is (accepted reads covered (all-shows p (omega arith) below))
-  shows-from (suc k) p e below v i = page-verdict p below (showBy t j p) (show-by t j read p) (showsFrom t j k (suc p))
-      (λ here. shows-from k (suc p) (omega arith) (one-more (ShowHolds j) p below here)) v i
+      subst (ScriptVerdict π E) is (accepted covered (all-shows p (omega arith) below))
+  shows-from (suc k) p e below v i = page-verdict p below (showBy t π E p) (show-by t π E read p) (showsFrom t π E k (suc p))
+      (λ here. shows-from k (suc p) (omega arith) (one-more (ShowHolds π E) p below here)) v i
 
-  pub shows-by : (v : Verdict) → showsBy t j ≡ some v → JobVerdict s v
-  unfolding showsBy
-  shows-by v = shows-from (length (j .program)) 0 (omega arith) (λ q h. absurd (omega arith)) v
+pub shows-by : (t : ℕ) (j : Job) → GivenShows (j .script) (entries (j .proposal)) → AllCovered (j .script) (entries (j .proposal))
+    → (v : Verdict) → showsBy t j ≡ some v → ScriptVerdict (j .script) (entries (j .proposal)) v
+unfolding showsBy
+shows-by t j read covered v =
+    shows-from t (j .script) (entries (j .proposal)) read covered (length (j .script .program)) 0 (omega arith) (λ q h. absurd (omega arith)) v

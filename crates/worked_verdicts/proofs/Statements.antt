@@ -103,7 +103,7 @@ module _ (φs : List Items) (program : List Statement) (hs : List Head) where
   unfolding named templateWithin stringWithin fragmentItems under
   startCovered v = not (named program v) || startWithin hs v
 
-  pub start-covered : (v : Variable) → Decides (startCovered v) (StartCovered φs program hs v)
+  pub start-covered : (v : Variable) → Decides (startCovered v) (StartCovered φs program (entries hs) v)
   unfolding startCovered
   start-covered v = named-decides (named program v) (startWithin hs v) _ (start-within hs v)
 
@@ -111,6 +111,6 @@ module _ (φs : List Items) (program : List Statement) (hs : List Head) where
   unfolding named templateWithin stringWithin fragmentItems plugItems fillItems under entries
   stepCovered p a next v = not (named program v) || stepWithin φs hs p a next v
 
-  pub step-covered : (p : ℕ) (a : Act) (next : ℕ) (v : Variable) → Decides (stepCovered p a next v) (StepCovered φs program hs p a next v)
+  pub step-covered : (p : ℕ) (a : Act) (next : ℕ) (v : Variable) → Decides (stepCovered p a next v) (StepCovered φs program (entries hs) p a next v)
   unfolding stepCovered
   step-covered p a next v = named-decides (named program v) (stepWithin φs hs p a next v) _ (step-within φs hs p a next v)

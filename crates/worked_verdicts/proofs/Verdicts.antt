@@ -11,13 +11,14 @@ use Rattle.verdicts.specs.declared.Refusal.the-variants as Refusals
 use Rattle.verdicts.specs.declared.Verdict.{Verdict}
 use Rattle.verdicts.specs.declared.Verdict.the-variants.{Refused}
 use Rattle.commands.specs.Reading.{Read, whole, refused, unfinished}
+use Rattle.summaries.specs.Summaries.{entries}
 use Rattle.jobs.specs.Job.{Job, job}
-use Rattle.jobs.specs.JobVerdict.{JobVerdict, unreadable, start-uncovered, step-uncovered}
+use Rattle.jobs.specs.JobVerdict.{ScriptVerdict, start-uncovered, step-uncovered, JobVerdict, unreadable, readable}
 use Rattle.covering.specs.declared.Covering.{Covering}
 use Rattle.covering.specs.declared.Covering.the-variants.{Covered, Uncovered}
 use Rattle.covering.specs.Promises.{Covers, CoverFails}
 use Rattle.patterns.proofs.ReadVocabularies.{Bytes}
-use Rattle.patterns.proofs.ReadJobs.{job-given}
+use Rattle.patterns.proofs.ReadJobs.{GivenShows, job-given}
 use Rattle.worked_verdicts.proofs.Covering.{coverBy, cover-by}
 use Rattle.worked_verdicts.proofs.Shows.{showsBy, shows-by}
 
@@ -35,20 +36,21 @@ unfolding job coverBy showsBy
 verdictBy t s = ofReading t (job s)
 
 module _ (t : ℕ) (s : List ℕ) (bytes : Bytes s) (v : Verdict) where
-  module _ (j : Job) (end : ℕ) (reads : job s ≡ whole j end) where
-    of-cover : (c : Cover) → CoverFails j c → JobVerdict s (Refused (Refusals.Cover c))
-    of-cover (Start x) h = start-uncovered reads (h .variable) (h .fails) (h .before)
+  module _ (j : Job) where
+    of-cover : (c : Cover) → CoverFails (j .script) (entries (j .proposal)) c → ScriptVerdict (j .script) (entries (j .proposal)) (Refused (Refusals.Cover c))
+    of-cover (Start x) h = start-uncovered (h .variable) (h .fails) (h .before)
     of-cover (Step p next x) h =
-        rw (h .next-is) (step-uncovered (h .second) reads (h .start) (h .variable) (h .fails) (h .before))
+        rw (h .next-is) (step-uncovered (h .second) (h .start) (h .variable) (h .fails) (h .before))
 
-    of-covering : (r : Covering) → Covers j r → uncoveredOr r (showsBy t j) ≡ some v → JobVerdict s v
-    of-covering Covered h e = shows-by t s j end reads (job-given s bytes j end reads) h v e
-    of-covering (Uncovered c) h e =
+    of-covering : GivenShows (j .script) (entries (j .proposal)) → (r : Covering) → Covers (j .script) (entries (j .proposal)) r → uncoveredOr r (showsBy t j) ≡ some v
+        → ScriptVerdict (j .script) (entries (j .proposal)) v
+    of-covering given Covered h e = shows-by t j given h v e
+    of-covering given (Uncovered c) h e =
         let is : Refused (Refusals.Cover c) ≡ v = cc in
-        subst (JobVerdict s) is (of-cover c h)
+        subst (ScriptVerdict (j .script) (entries (j .proposal))) is (of-cover c h)
 
   of-reading : (r : Read Job) → job s ≡ r → ofReading t r ≡ some v → JobVerdict s v
-  of-reading (whole j end) reads e = of-covering j end reads (coverBy j) (cover-by j) e
+  of-reading (whole j end) reads e = readable reads (of-covering j (job-given s bytes j end reads) (coverBy j) (cover-by j) e)
   of-reading (refused f at) reads e =
       let is : Refused (Refusals.Form f (record { at = at; slice = 0 })) ≡ v = cc in
       subst (JobVerdict s) is (unreadable reads)

@@ -26,13 +26,13 @@ first-fault-requires c κs = search needs
 returns : tie.Need-returns
 returns c j end reads K =
     let gaps = gaps-table _ j end reads _ _ K (c .before .before .before .before .before .before .gaps-of .result) (c .before .before .before .before .before .before .gaps-of .ensures) in
-    uncovered _ j end reads (c .before .before .before .first-uncovered .result) (c .before .before .before .first-uncovered .ensures j _ _ (tables-of _ _ j end _ reads K) gaps) _ (c .before .covering .given .1)
+    uncovered (c .before .before .before .first-uncovered .result) (c .before .before .before .first-uncovered .ensures j _ _ (tables-of _ _ j end _ reads K) gaps) _ (c .before .covering .given .1)
 
 returns-2 : tie.Need-returns-2
 returns-2 c j end reads K =
     let gaps = gaps-table _ j end reads _ _ K (c .before .before .before .before .before .before .before .before .before .before .before .gaps-of .result) (c .before .before .before .before .before .before .before .before .before .before .before .gaps-of .ensures) in
     c .first-fault .ensures j (read-at _ j end reads _ _ K (c .before .before .before .before .before .before .before .before .before .before .before .gaps-of .result) gaps (c .before .before .before .tables-of .result) (c .before .before .before .tables-of .ensures))
-    (covered _ j end reads (c .before .before .before .before .before .before .before .before .first-uncovered .result) (c .before .before .before .before .before .before .before .before .first-uncovered .ensures j _ _ (tables-of _ _ j end _ reads K) gaps) (c .before .before .before .before .before .before .enum-told .given .1))
+    (covered (c .before .before .before .before .before .before .before .before .first-uncovered .result) (c .before .before .before .before .before .before .before .before .first-uncovered .ensures j _ _ (tables-of _ _ j end _ reads K) gaps) (c .before .before .before .before .before .before .enum-told .given .1))
 
 pub check-read-spec : {M : Type 1} → statement M
 check-read-spec =

@@ -1,4 +1,4 @@
--- The shows of the points passed by hold: they show nothing, or have the words.
+-- The shows of the points passed by hold: they show nothing, or the graph.
 use Prim.Native.Nat.{_-_}
 use mathlib.Core.Logic.{⊎-elim}
 use borrow.Author.Tests.{not-false}
@@ -9,28 +9,28 @@ use Rattle.checker.proofs.other_show.Statement.{statement}
 use Rattle.checker.proofs.other_show.Tie as tie
 
 abbrev Inv-loop : tie.InvT-loop
-Inv-loop s heads places points words from q₀ q = PassedBy s heads places points words from q
+Inv-loop s heads places points graph from q₀ q = PassedBy s heads places points graph from q
 
 abbrev μ-loop : tie.MeasureT-loop
-μ-loop s heads places points words from q₀ q = points - q
+μ-loop s heads places points graph from q₀ q = points - q
 
 loop-holds : tie.Need-loop-holds Inv-loop μ-loop
 loop-holds c = passed-none _ _ _ _ _ _
 
-mul-at : tie.Need-mul-at Inv-loop μ-loop
-mul-at c = search needs
+none-requires : tie.Need-none-requires Inv-loop μ-loop
+none-requires c κs = search needs
 
-element-copy-out-at : tie.Need-element-copy-out-at Inv-loop μ-loop
-element-copy-out-at c = search needs
+mul-shown-graph : tie.Need-mul-shown-graph Inv-loop μ-loop
+mul-shown-graph c = search needs
 
-is-show-requires : tie.Need-is-show-requires Inv-loop μ-loop
-is-show-requires c κs = search needs
+element-copy-out-shown-graph : tie.Need-element-copy-out-shown-graph Inv-loop μ-loop
+element-copy-out-shown-graph c = search needs
 
-shown-words-requires : tie.Need-shown-words-requires Inv-loop μ-loop
-shown-words-requires c κs = search needs
+shown-graph-requires : tie.Need-shown-graph-requires Inv-loop μ-loop
+shown-graph-requires c κs = search needs
 
-same-words-requires : tie.Need-same-words-requires Inv-loop μ-loop
-same-words-requires c κs = search needs
+same-requires : tie.Need-same-requires Inv-loop μ-loop
+same-requires c κs = search needs
 
 returns : tie.Need-returns Inv-loop μ-loop
 returns c = c .before .before .before .before .before .before .before .before .before .loop .inv
@@ -43,15 +43,16 @@ loop-less c = search needs
 
 loop-again : tie.Need-loop-again Inv-loop μ-loop
 loop-again c =
-    let l = c .before .before .before .before .loop in
-    let h = c .before .before .before .loop-test .taken in
-    let show = c .before .is-show in
-    let places = c .before .before .before .before .before .before .args .places .now in
+    let l = c .before .before .before .before .before .before .loop in
+    let h = c .before .before .before .before .before .loop-test .taken in
+    let none = c .before .before .before .before .none in
+    let show = c .before .shown-graph in
+    let places = c .before .before .before .before .before .before .before .before .args .places .now in
     passed-more _ _ _ _ _ _ (l .q) (l .inv) (λ rules templates count starts j R right.
     let is = place-is _ (l .q) places (R .parts .few-points) h in
     ⊎-elim
-    (λ m. same-graph _ _ _ _ _ _ _ _ j R (l .q) _ h is (show .result) (show .ensures) (m .0 .taken) _ (m .2 .ensures) _ right (m .4 .ensures (not-false _ (m .5 .left))))
-    (λ m. shows-nothing _ _ _ _ _ _ _ _ j R (l .q) _ h is (show .result) (show .ensures) (m .left))
+    (λ m. same-graph _ _ _ _ _ _ _ _ j R (l .q) _ h is _ (none .ensures) _ (show .result) (show .ensures) (m .0 .taken) _ right (m .2 .ensures (not-false _ (m .3 .left))))
+    (λ m. shows-nothing _ _ _ _ _ _ _ _ j R (l .q) _ h is _ (none .ensures) _ (show .result) (show .ensures) (m .left))
     (c .if1 .came))
 
 returns-2 : tie.Need-returns-2 Inv-loop μ-loop
@@ -64,11 +65,11 @@ other-show-spec =
     Inv-loop
     μ-loop
     loop-holds
-    mul-at
-    element-copy-out-at
-    is-show-requires
-    shown-words-requires
-    same-words-requires
+    none-requires
+    mul-shown-graph
+    element-copy-out-shown-graph
+    shown-graph-requires
+    same-requires
     returns
     add-q
     loop-less

@@ -11,19 +11,13 @@ flagged-by-requires : tie.Need-flagged-by-requires
 flagged-by-requires c κs = search needs
 
 returns : tie.Need-returns
-returns c =
-    valued-there (c .before .before .before .args .facts) (c .before .before .before .args .names) (c .before .before .before .args .a)
-    (c .before .before .before .args .m) (c .flagged-by .result) (c .before .before .is-member .result) (c .before .before .is-member .ensures)
-    (c .before .if1 .taken) (c .flagged-by .ensures)
+returns c = valued-there _ _ _ _ _ _ (c .before .before .is-member .ensures) (c .before .if1 .taken) (c .flagged-by .ensures)
 
 all-if-requires : tie.Need-all-if-requires
 all-if-requires c κs = search needs
 
 returns-2 : tie.Need-returns-2
-returns-2 c =
-    valued-absent (c .before .before .before .args .facts) (c .before .before .before .args .names) (c .before .before .before .args .a)
-    (c .before .before .before .args .m) (c .all-if .result) (c .before .before .is-member .result) (c .before .before .is-member .ensures)
-    (c .before .if1 .left) (c .all-if .ensures)
+returns-2 c = valued-absent _ _ _ _ _ _ (c .before .before .is-member .ensures) (c .before .if1 .left) (c .all-if .ensures)
 
 pub absent-or-valued-spec : {M : Type 1} → statement M
 absent-or-valued-spec =

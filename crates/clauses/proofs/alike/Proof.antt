@@ -3,6 +3,7 @@ use Prim.Native.Nat.{_-_, _≤_}
 use mathlib.Core.Logic.{inl, inr}
 use native.Mathlib.Omega.{arith}
 use borrow.Author.Needs.{needs}
+use Rattle.clauses.proofs.AttributeFlags.{tells-at}
 use Rattle.clauses.proofs.StringSets.{AlikeTo, alike-none, alike-more, alike-all}
 use Rattle.clauses.proofs.alike.Statement.{statement}
 use Rattle.clauses.proofs.alike.Tie as tie
@@ -13,14 +14,23 @@ Inv-loop facts a s count set₀ i₀ set i = (i ≤ 8) × AlikeTo facts a s i se
 abbrev μ-loop : tie.MeasureT-loop
 μ-loop facts a s count set₀ i₀ set i = 8 - i
 
+all-requires : tie.Need-all-requires Inv-loop μ-loop
+all-requires c κs = search needs
+
 loop-holds : tie.Need-loop-holds Inv-loop μ-loop
-loop-holds c = (omega arith, alike-none (c .args .facts) (c .args .a) (c .args .s))
+loop-holds c = (omega arith, alike-none _ _ _ _ (c .all .ensures))
 
 returns : tie.Need-returns Inv-loop μ-loop
-returns c = alike-all (c .before .before .before .args .facts) (c .before .before .before .args .a) (c .before .before .before .args .s) (c .before .before .loop .i) (c .before .before .loop .set) (inl (c .if1 .taken)) (c .before .before .loop .inv .1)
+returns c = alike-all _ _ _ (c .before .before .loop .i) _ (inl (c .if1 .taken)) (c .before .before .loop .inv .1)
 
-alike-at-requires : tie.Need-alike-at-requires Inv-loop μ-loop
-alike-at-requires c κs = search needs
+fact-at-requires : tie.Need-fact-at-requires Inv-loop μ-loop
+fact-at-requires c κs = search needs
+
+flagged-strings-requires : tie.Need-flagged-strings-requires Inv-loop μ-loop
+flagged-strings-requires c κs = search needs
+
+with-same-flag-requires : tie.Need-with-same-flag-requires Inv-loop μ-loop
+with-same-flag-requires c κs = search needs
 
 add-i : tie.Need-add-i Inv-loop μ-loop
 add-i c = search needs
@@ -29,14 +39,17 @@ loop-less : tie.Need-loop-less Inv-loop μ-loop
 loop-less c = search needs
 
 loop-again : tie.Need-loop-again Inv-loop μ-loop
-loop-again c = (
-  omega arith,
-  alike-more (c .before .before .before .before .args .facts) (c .before .before .before .before .args .a) (c .before .before .before .before .args .s) (c .before .before .before .loop .i) (c .before .before .before .loop .set) (c .alike-at .result) (omega arith) (omega arith)
-      (c .alike-at .ensures) (c .before .before .before .loop .inv .1),
-)
+loop-again c =
+    let l = c .before .before .before .before .before .loop in
+    let args = c .before .before .before .before .before .before .before .args in
+    let told = c .before .flagged-strings in (
+      omega arith,
+      alike-more _ _ _ (l .i) _ (told .result) _ (omega arith) (omega arith) (tells-at (args .facts) (l .i) (args .a) _ _ (c .before .before .fact-at .ensures) (told .ensures))
+          (c .with-same-flag .ensures) (l .inv .1),
+    )
 
 returns-2 : tie.Need-returns-2 Inv-loop μ-loop
-returns-2 c = alike-all (c .before .before .args .facts) (c .before .before .args .a) (c .before .before .args .s) (c .before .loop .i) (c .before .loop .set) (inr (c .loop-test .left)) (c .before .loop .inv .1)
+returns-2 c = alike-all _ _ _ (c .before .loop .i) _ (inr (c .loop-test .left)) (c .before .loop .inv .1)
 
 pub alike-spec : {M : Type 1} → statement M
 alike-spec =
@@ -44,9 +57,12 @@ alike-spec =
     (tie.spec
     Inv-loop
     μ-loop
+    all-requires
     loop-holds
     returns
-    alike-at-requires
+    fact-at-requires
+    flagged-strings-requires
+    with-same-flag-requires
     add-i
     loop-less
     loop-again

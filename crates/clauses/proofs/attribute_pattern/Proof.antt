@@ -1,10 +1,11 @@
 -- Each turn puts the flag of one fact below those of the facts after it.
+use Prim.Native.Nat.{_-_}
 use mathlib.Core.Bool.{true, false}
 use mathlib.Core.Path.{sym, _∙_}
 use native.Mathlib.Omega.{arith}
 use borrow.Author.Needs.{needs}
 use Rattle.readings.proofs.Spreading.{odd, even}
-use Rattle.clauses.proofs.AttributeFlags.{Numbering, numbering-none, too-many, numbering-all, numbering-room, numbering-more}
+use Rattle.clauses.proofs.AttributeFlags.{tells-at, Numbering, numbering-none, too-many, numbering-all, numbering-room, numbering-more}
 use Rattle.clauses.proofs.attribute_pattern.Statement.{statement}
 use Rattle.clauses.proofs.attribute_pattern.Tie as tie
 
@@ -15,40 +16,56 @@ abbrev μ-loop : tie.MeasureT-loop
 μ-loop facts a s count i₀ pattern₀ i pattern = i
 
 returns : tie.Need-returns Inv-loop μ-loop
-returns c = too-many (c .before .args .facts) (c .before .args .a) (c .before .args .s) (c .if1 .taken)
+returns c = too-many _ _ _ (c .if1 .taken)
 
 loop-holds : tie.Need-loop-holds Inv-loop μ-loop
-loop-holds c = numbering-none (c .before .args .facts) (c .before .args .a) (c .before .args .s) (c .if1 .left)
+loop-holds c = numbering-none _ _ _ (c .if1 .left)
 
 sub-i : tie.Need-sub-i Inv-loop μ-loop
 sub-i c = search needs
 
-flag-at-requires : tie.Need-flag-at-requires Inv-loop μ-loop
-flag-at-requires c κs = omega (arith, c .before .loop .inv .within, c .before .loop .inv .few)
+fact-at-requires : tie.Need-fact-at-requires Inv-loop μ-loop
+fact-at-requires c κs = omega (arith, c .before .loop .inv .within, c .before .loop .inv .few)
+
+flagged-strings-requires : tie.Need-flagged-strings-requires Inv-loop μ-loop
+flagged-strings-requires c κs = search needs
+
+has-requires : tie.Need-has-requires Inv-loop μ-loop
+has-requires c κs = search needs
 
 mul-pattern : tie.Need-mul-pattern Inv-loop μ-loop
-mul-pattern c = omega (arith, numbering-room (c .before .before .before .before .before .args .facts) (c .before .before .before .before .before .args .a) (c .before .before .before .before .before .args .s) (c .before .before .before .loop .i) (c .before .before .before .loop .pattern) (c .before .before .before .loop .inv) (c .before .before .loop-test .taken))
+mul-pattern c = omega (arith, numbering-room _ _ _ _ _ (c .before .before .before .before .before .loop .inv) (c .before .before .before .before .loop-test .taken))
 
 add-pattern : tie.Need-add-pattern Inv-loop μ-loop
-add-pattern c = omega (arith, numbering-room (c .before .before .before .before .before .args .facts) (c .before .before .before .before .before .args .a) (c .before .before .before .before .before .args .s) (c .before .before .before .loop .i) (c .before .before .before .loop .pattern) (c .before .before .before .loop .inv) (c .before .before .loop-test .taken))
+add-pattern c = omega (arith, numbering-room _ _ _ _ _ (c .before .before .before .before .before .loop .inv) (c .before .before .before .before .loop-test .taken))
 
 loop-less : tie.Need-loop-less Inv-loop μ-loop
 loop-less c = search needs
 
 loop-again : tie.Need-loop-again Inv-loop μ-loop
-loop-again c = rw (odd (c .before .before .before .loop .pattern)) (numbering-more (c .before .before .before .before .before .args .facts) (c .before .before .before .before .before .args .a) (c .before .before .before .before .before .args .s) (c .before .before .before .loop .i) (c .before .before .before .loop .pattern) (c .before .before .before .loop .inv) (c .before .before .loop-test .taken) true (λ f w. sym (c .if2 .taken) ∙ c .before .flag-at .ensures f w))
+loop-again c =
+    let l = c .before .before .before .before .before .loop in
+    let args = c .before .before .before .before .before .before .before .args in
+    let told = c .before .before .flagged-strings in
+    rw (odd (l .pattern)) (numbering-more _ _ _ (l .i) (l .pattern) (l .inv) (c .before .before .before .before .loop-test .taken) true (told .result)
+    (tells-at (args .facts) (l .i - 1) (args .a) _ _ (c .before .before .before .fact-at .ensures) (told .ensures)) (sym (c .if2 .taken) ∙ c .before .has .ensures))
 
 mul-pattern-2 : tie.Need-mul-pattern-2 Inv-loop μ-loop
-mul-pattern-2 c = omega (arith, numbering-room (c .before .before .before .before .before .args .facts) (c .before .before .before .before .before .args .a) (c .before .before .before .before .before .args .s) (c .before .before .before .loop .i) (c .before .before .before .loop .pattern) (c .before .before .before .loop .inv) (c .before .before .loop-test .taken))
+mul-pattern-2 c = omega (arith, numbering-room _ _ _ _ _ (c .before .before .before .before .before .loop .inv) (c .before .before .before .before .loop-test .taken))
 
 loop-less-2 : tie.Need-loop-less-2 Inv-loop μ-loop
 loop-less-2 c = search needs
 
 loop-again-2 : tie.Need-loop-again-2 Inv-loop μ-loop
-loop-again-2 c = rw (even (c .before .before .before .loop .pattern)) (numbering-more (c .before .before .before .before .before .args .facts) (c .before .before .before .before .before .args .a) (c .before .before .before .before .before .args .s) (c .before .before .before .loop .i) (c .before .before .before .loop .pattern) (c .before .before .before .loop .inv) (c .before .before .loop-test .taken) false (λ f w. sym (c .if2 .left) ∙ c .before .flag-at .ensures f w))
+loop-again-2 c =
+    let l = c .before .before .before .before .before .loop in
+    let args = c .before .before .before .before .before .before .before .args in
+    let told = c .before .before .flagged-strings in
+    rw (even (l .pattern)) (numbering-more _ _ _ (l .i) (l .pattern) (l .inv) (c .before .before .before .before .loop-test .taken) false (told .result)
+    (tells-at (args .facts) (l .i - 1) (args .a) _ _ (c .before .before .before .fact-at .ensures) (told .ensures)) (sym (c .if2 .left) ∙ c .before .has .ensures))
 
 returns-2 : tie.Need-returns-2 Inv-loop μ-loop
-returns-2 c = numbering-all (c .before .before .before .args .facts) (c .before .before .before .args .a) (c .before .before .before .args .s) (c .before .loop .i) (c .before .loop .pattern) (c .loop-test .left) (c .before .loop .inv)
+returns-2 c = numbering-all _ _ _ (c .before .loop .i) (c .before .loop .pattern) (c .loop-test .left) (c .before .loop .inv)
 
 pub attribute-pattern-spec : {M : Type 1} → statement M
 attribute-pattern-spec =
@@ -59,7 +76,9 @@ attribute-pattern-spec =
     returns
     loop-holds
     sub-i
-    flag-at-requires
+    fact-at-requires
+    flagged-strings-requires
+    has-requires
     mul-pattern
     add-pattern
     loop-less

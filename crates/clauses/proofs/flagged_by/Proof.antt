@@ -11,9 +11,7 @@ flagged-requires : tie.Need-flagged-requires
 flagged-requires c κs = search needs
 
 returns : tie.Need-returns
-returns c =
-    flagged-placed (c .before .before .args .facts) (c .before .before .args .kind) (c .before .before .args .first) (c .before .before .args .second)
-    (c .before .place-of .result) (c .flagged .result) (c .before .place-of .ensures) (c .flagged .ensures)
+returns c = flagged-placed _ _ _ _ (c .before .place-of .ensures) (c .flagged .ensures)
 
 pub flagged-by-spec : {M : Type 1} → statement M
 flagged-by-spec = tie.close (tie.spec place-of-requires flagged-requires returns)

@@ -11,9 +11,7 @@ complement-requires : tie.Need-complement-requires
 complement-requires c κs = search needs
 
 returns : tie.Need-returns
-returns c =
-    is-unbroken (c .before .before .args .facts) (c .before .before .args .c) (c .before .before .args .d) (c .before .flagged-by .result) (c .complement .result)
-    (c .before .flagged-by .ensures) (c .complement .ensures)
+returns c = is-unbroken _ _ _ _ _ (c .before .flagged-by .ensures) (c .complement .ensures)
 
 pub unbroken-spec : {M : Type 1} → statement M
 unbroken-spec = tie.close (tie.spec flagged-by-requires complement-requires returns)

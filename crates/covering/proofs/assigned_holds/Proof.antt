@@ -1,21 +1,14 @@
--- Each statement that sets a template variable has its own transfer function.
+-- Each act that sets a template variable has its own transfer function.
 use borrow.Author.Needs.{needs}
+use mathlib.Core.Path.{refl}
+use mathlib.Core.Bool.{true}
 use Rattle.summaries.specs.Summaries.{saysClaim, held}
-use Rattle.covering.proofs.Steps.{copied-decides, fragment-decides, plugged-decides, filled-decides, unset-decides}
+use Rattle.covering.proofs.Steps.{copied-decides, fragment-decides, plugged-decides, filled-decides, no-template}
 use Rattle.covering.proofs.assigned_holds.Statement.{statement}
 use Rattle.covering.proofs.assigned_holds.Tie as tie
 
-operand-requires : tie.Need-operand-requires
-operand-requires c κs = search needs
-
-operand-requires-2 : tie.Need-operand-requires-2
-operand-requires-2 c κs = search needs
-
-operand-requires-3 : tie.Need-operand-requires-3
-operand-requires-3 c κs = search needs
-
-cast-d : tie.Need-cast-d
-cast-d c = search needs
+enum-known-act : tie.Need-enum-known-act
+enum-known-act c = search needs
 
 cast-template-head : tie.Need-cast-template-head
 cast-template-head c = search needs
@@ -23,11 +16,11 @@ cast-template-head c = search needs
 template-head-requires : tie.Need-template-head-requires
 template-head-requires c κs = search needs
 
-byte-at-requires : tie.Need-byte-at-requires
-byte-at-requires c κs = search needs
-
 entry-within-requires : tie.Need-entry-within-requires
 entry-within-requires c κs = search needs
+
+enum-known-act-2 : tie.Need-enum-known-act-2
+enum-known-act-2 c = search needs
 
 cast-fragment-within : tie.Need-cast-fragment-within
 cast-fragment-within c = search needs
@@ -41,11 +34,35 @@ element-copy-out-fragment-within c = search needs
 fragment-within-requires : tie.Need-fragment-within-requires
 fragment-within-requires c κs = search needs
 
+enum-known-act-3 : tie.Need-enum-known-act-3
+enum-known-act-3 c = search needs
+
+cast-template-head-2 : tie.Need-cast-template-head-2
+cast-template-head-2 c = search needs
+
 template-head-requires-2 : tie.Need-template-head-requires-2
 template-head-requires-2 c κs = search needs
 
+cast-template-head-3 : tie.Need-cast-template-head-3
+cast-template-head-3 c = search needs
+
+template-head-requires-3 : tie.Need-template-head-requires-3
+template-head-requires-3 c κs = search needs
+
 plug-within-requires : tie.Need-plug-within-requires
 plug-within-requires c κs = search needs
+
+enum-known-act-4 : tie.Need-enum-known-act-4
+enum-known-act-4 c = search needs
+
+cast-template-head-4 : tie.Need-cast-template-head-4
+cast-template-head-4 c = search needs
+
+template-head-requires-4 : tie.Need-template-head-requires-4
+template-head-requires-4 c κs = search needs
+
+cast-string-head : tie.Need-cast-string-head
+cast-string-head c = search needs
 
 string-head-requires : tie.Need-string-head-requires
 string-head-requires c κs = search needs
@@ -56,60 +73,83 @@ strings-of-requires c κs = search needs
 fill-within-requires : tie.Need-fill-within-requires
 fill-within-requires c κs = search needs
 
-template-head-requires-3 : tie.Need-template-head-requires-3
-template-head-requires-3 c κs = search needs
+enum-told : tie.Need-enum-told
+enum-told c = search needs
 
-entry-within-requires-2 : tie.Need-entry-within-requires-2
-entry-within-requires-2 c κs = search needs
+enum-told-2 : tie.Need-enum-told-2
+enum-told-2 c = search needs
+
+enum-told-3 : tie.Need-enum-told-3
+enum-told-3 c = search needs
+
+enum-told-4 : tie.Need-enum-told-4
+enum-told-4 c = search needs
 
 returns : tie.Need-returns
-returns c j a zs P first f k =
-    copied-decides j (c .before .before .before .before .before .before .before .before .args .s .now) (c .before .before .before .before .before .before .before .before .args .gaps .now) (c .before .before .before .before .before .before .before .before .args .heads .now) (c .before .before .before .before .before .before .before .before .args .place) (c .before .before .before .before .before .before .before .before .args .p) a P (c .before .before .byte-at .result) (c .before .before .byte-at .ensures) _ first f (held saysClaim zs) (c .entry-within .result) (c .before .match .keys1) (c .before .before .before .before .before .before .operand .result) (c .before .before .before .template-head .result) (c .before .before .before .before .before .before .operand .ensures) (c .before .before .before .template-head .ensures) (λ xs l. c .entry-within .ensures xs zs l k)
+returns c = λ j x zs P set l.
+    copied-decides j (c .before .before .before .before .before .before .args .s .now) (c .before .before .before .before .before .before .args .gaps .now) (c .before .before .before .before .before .before .args .heads .now) (c .before .before .before .before .before .before .args .p) (c .before .before .before .before .before .before .args .act) P x (held saysClaim zs) (c .entry-within .result) set _ _ (c .before .before .before .act .given .1) (c .before .template-head .result .at) (c .before .template-head .ensures) (λ xs k. c .entry-within .ensures xs zs k l)
 
 returns-2 : tie.Need-returns-2
-returns-2 c j a zs P first f k =
-    fragment-decides j (c .before .before .before .before .before .before .before .before .before .args .s .now) (c .before .before .before .before .before .before .before .before .before .args .gaps .now) (c .before .before .before .before .before .before .before .before .before .args .heads .now) (c .before .before .before .before .before .before .before .before .before .args .place) (c .before .before .before .before .before .before .before .before .before .args .p) a P (c .before .before .before .byte-at .result) (c .before .before .before .byte-at .ensures) _ first f (held saysClaim zs) (c .fragment-within .result) (c .before .before .match .keys2) (c .before .before .before .before .before .before .before .operand .result) (c .before .before .before .before .before .before .before .operand .ensures) (λ φ g l. c .fragment-within .ensures φ zs g l k)
+returns-2 c = λ j x zs P set l.
+    fragment-decides j (c .before .before .before .before .before .before .args .s .now) (c .before .before .before .before .before .before .args .gaps .now) (c .before .before .before .before .before .before .args .heads .now) (c .before .before .before .before .before .before .args .p) (c .before .before .before .before .before .before .args .act) P x (held saysClaim zs) (c .fragment-within .result) set _ _ (c .before .before .before .act2 .given .1) (λ φ g. c .fragment-within .ensures φ zs g l)
 
 returns-3 : tie.Need-returns-3
-returns-3 c j a zs P first f k =
-    plugged-decides j (c .before .before .before .before .before .before .before .before .before .args .s .now) (c .before .before .before .before .before .before .before .before .before .args .gaps .now) (c .before .before .before .before .before .before .before .before .before .args .heads .now) (c .before .before .before .before .before .before .before .before .before .args .place) (c .before .before .before .before .before .before .before .before .before .args .p) a P (c .before .before .before .byte-at .result) (c .before .before .before .byte-at .ensures) _ first f (held saysClaim zs) (c .plug-within .result) (c .before .before .match .keys3) (c .before .before .before .before .before .before .before .operand .result) (c .before .before .before .before .before .before .operand2 .result) (c .before .before .before .before .before .operand3 .result) (c .before .before .before .before .template-head .result) (c .before .template-head2 .result) (c .before .before .before .before .before .before .before .operand .ensures) (c .before .before .before .before .before .before .operand2 .ensures) (c .before .before .before .before .before .operand3 .ensures)
-    (c .before .before .before .before .template-head .ensures) (c .before .template-head2 .ensures) (λ xs ys l m. c .plug-within .ensures xs ys zs l m k)
+returns-3 c = λ j x zs P set l.
+    plugged-decides j (c .before .before .before .before .before .before .before .args .s .now) (c .before .before .before .before .before .before .before .args .gaps .now) (c .before .before .before .before .before .before .before .args .heads .now) (c .before .before .before .before .before .before .before .args .p) (c .before .before .before .before .before .before .before .args .act) P x (held saysClaim zs) (c .plug-within .result) set _ _ _ _ (c .before .before .before .before .act3 .given .1) (c .before .before .template-head2 .result .at) (c .before .template-head3 .result .at) (c .before .before .template-head2 .ensures) (c .before .template-head3 .ensures)
+    (λ xs ys k m. c .plug-within .ensures xs ys zs k m l)
 
 returns-4 : tie.Need-returns-4
-returns-4 c j a zs P first f k =
-    filled-decides j (c .before .before .before .before .before .before .before .before .before .before .args .s .now) (c .before .before .before .before .before .before .before .before .before .before .args .gaps .now) (c .before .before .before .before .before .before .before .before .before .before .args .heads .now) (c .before .before .before .before .before .before .before .before .before .before .args .place) (c .before .before .before .before .before .before .before .before .before .before .args .p) a P (c .before .before .before .before .byte-at .result) (c .before .before .before .before .byte-at .ensures) _ first f (held saysClaim zs) (c .fill-within .result) (c .before .before .before .match .keys4) (c .before .before .before .before .before .before .before .before .operand .result) (c .before .before .before .before .before .before .before .operand2 .result) (c .before .before .before .before .before .before .operand3 .result) (c .before .before .before .before .before .template-head .result) (c .before .before .string-head .result) (c .before .before .before .before .before .before .before .before .operand .ensures) (c .before .before .before .before .before .before .before .operand2 .ensures) (c .before .before .before .before .before .before .operand3 .ensures)
-    (c .before .before .before .before .before .template-head .ensures) (c .before .before .string-head .ensures) (c .before .strings-of .result) (c .before .strings-of .ensures) (λ xs Y l e. c .fill-within .ensures xs Y zs l e k)
+returns-4 c = λ j x zs P set l.
+    filled-decides j (c .before .before .before .before .before .before .before .before .args .s .now) (c .before .before .before .before .before .before .before .before .args .gaps .now) (c .before .before .before .before .before .before .before .before .args .heads .now) (c .before .before .before .before .before .before .before .before .args .p) (c .before .before .before .before .before .before .before .before .args .act) P x (held saysClaim zs) (c .fill-within .result) set _ _ _ _ (c .before .before .before .before .before .act4 .given .1) (c .before .before .before .template-head4 .result .at) (c .before .before .string-head .result .at) (c .before .before .before .template-head4 .ensures) (c .before .before .string-head .ensures) (c .before .strings-of .result) (c .before .strings-of .ensures)
+    (λ xs Y k e. c .fill-within .ensures xs Y zs k e l)
 
 returns-5 : tie.Need-returns-5
-returns-5 c j a zs P first f k =
-    let others = c .before .before .match .rest in
-    unset-decides j (c .before .before .before .before .before .before .before .before .before .args .s .now) (c .before .before .before .before .before .before .before .before .before .args .gaps .now) (c .before .before .before .before .before .before .before .before .before .args .heads .now) (c .before .before .before .before .before .before .before .before .before .args .place) (c .before .before .before .before .before .before .before .before .before .args .p) a P (c .before .before .before .byte-at .result) (c .before .before .before .byte-at .ensures) _ first f (held saysClaim zs) (c .entry-within2 .result) (others .0 .0 .0 .1) (others .0 .0 .1) (others .0 .1) (others .1) (c .before .template-head3 .result) (c .before .template-head3 .ensures) (λ xs l. c .entry-within2 .ensures xs zs l k)
+returns-5 c = λ j x zs P set l. no-template j (c .before .before .before .args .s .now) (c .before .before .before .args .gaps .now) (c .before .before .before .args .heads .now) (c .before .before .before .args .p) (c .before .before .before .args .act) P x (held saysClaim zs) true set _ (c .enum-told .given .1) (λ y. refl)
+
+returns-6 : tie.Need-returns-6
+returns-6 c = λ j x zs P set l. no-template j (c .before .before .before .args .s .now) (c .before .before .before .args .gaps .now) (c .before .before .before .args .heads .now) (c .before .before .before .args .p) (c .before .before .before .args .act) P x (held saysClaim zs) true set _ (c .enum-told2 .given .1) (λ y. refl)
+
+returns-7 : tie.Need-returns-7
+returns-7 c = λ j x zs P set l. no-template j (c .before .before .before .args .s .now) (c .before .before .before .args .gaps .now) (c .before .before .before .args .heads .now) (c .before .before .before .args .p) (c .before .before .before .args .act) P x (held saysClaim zs) true set _ (c .enum-told3 .given .1) (λ y. refl)
+
+returns-8 : tie.Need-returns-8
+returns-8 c = λ j x zs P set l. no-template j (c .before .before .before .args .s .now) (c .before .before .before .args .gaps .now) (c .before .before .before .args .heads .now) (c .before .before .before .args .p) (c .before .before .before .args .act) P x (held saysClaim zs) true set _ (c .enum-told4 .given .1) (λ y. refl)
 
 pub assigned-holds-spec : {M : Type 1} → statement M
 assigned-holds-spec =
     tie.close
     (tie.spec
-    operand-requires
-    operand-requires-2
-    operand-requires-3
-    cast-d
+    enum-known-act
     cast-template-head
     template-head-requires
-    byte-at-requires
     entry-within-requires
+    enum-known-act-2
     cast-fragment-within
     mul-fragment-within
     element-copy-out-fragment-within
     fragment-within-requires
+    enum-known-act-3
+    cast-template-head-2
     template-head-requires-2
+    cast-template-head-3
+    template-head-requires-3
     plug-within-requires
+    enum-known-act-4
+    cast-template-head-4
+    template-head-requires-4
+    cast-string-head
     string-head-requires
     strings-of-requires
     fill-within-requires
-    template-head-requires-3
-    entry-within-requires-2
+    enum-told
+    enum-told-2
+    enum-told-3
+    enum-told-4
     returns
     returns-2
     returns-3
     returns-4
-    returns-5)
+    returns-5
+    returns-6
+    returns-7
+    returns-8)

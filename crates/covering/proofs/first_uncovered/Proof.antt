@@ -1,6 +1,7 @@
 -- The start is compared before the steps.
 use borrow.Author.Needs.{needs}
 use lib.Dec.{lit<}
+use Rattle.summaries.specs.Summaries.{entries}
 use Rattle.covering.proofs.Whole.{start-fails, start-then}
 use Rattle.covering.proofs.first_uncovered.Statement.{statement}
 use Rattle.covering.proofs.first_uncovered.Tie as tie
@@ -10,14 +11,14 @@ start-uncovered-requires c κs = search needs
 
 returns : tie.Need-returns
 returns c j count starts T G =
-    start-fails j (c .before .start-uncovered .result) (c .before .start-uncovered .ensures j (T .entry 0 (lit< tt)) (T .names-are)) (c .if1 .taken)
+    start-fails (j .script) (entries (j .proposal)) (c .before .start-uncovered .result) (c .before .start-uncovered .ensures j (T .entry 0 (lit< tt)) (T .names-are)) (c .if1 .taken)
 
 steps-uncovered-requires : tie.Need-steps-uncovered-requires
 steps-uncovered-requires c κs = search needs
 
 returns-2 : tie.Need-returns-2
 returns-2 c j count starts T G =
-    start-then j (c .before .before .start-uncovered .result) (c .before .before .start-uncovered .ensures j (T .entry 0 (lit< tt)) (T .names-are)) (c .before .if1 .left) (c .steps-uncovered .result) (c .steps-uncovered .ensures j count starts T G)
+    start-then (j .script) (entries (j .proposal)) (c .before .before .start-uncovered .result) (c .before .before .start-uncovered .ensures j (T .entry 0 (lit< tt)) (T .names-are)) (c .before .if1 .left) (c .steps-uncovered .result) (c .steps-uncovered .ensures j count starts T G)
 
 pub first-uncovered-spec : {M : Type 1} → statement M
 first-uncovered-spec =

@@ -4,8 +4,9 @@ use native.Mathlib.Omega.{arith}
 use borrow.Author.Count.{below-more}
 use borrow.Author.Needs.{needs}
 use borrow.Author.Tests.{not-true, not-false}
-use Rattle.programs.specs.Program.{Act}
+use Rattle.programs.specs.Promises.{asAct}
 use Rattle.summaries.specs.ProposalReading.{variableOf}
+use Rattle.summaries.specs.Summaries.{entries}
 use Rattle.summaries.specs.Covering.{StepCovered}
 use Rattle.jobs.specs.Job.{Job}
 use Rattle.entries.proofs.Tests.{decided-true, decided-false}
@@ -14,24 +15,24 @@ use Rattle.covering.proofs.lowest_uncovered.Statement.{statement}
 use Rattle.covering.proofs.lowest_uncovered.Tie as tie
 
 abbrev Inv-loop : tie.InvT-loop
-Inv-loop s gaps heads names place p next v₀ v =
+Inv-loop s gaps heads names act p next v₀ v =
     (v ≤ 8)
-    × ((j : Job) (a : Act) → StepAt j s gaps heads place p next a → NamesAre j names → (u : ℕ) → u < v → StepCovered (j .templates) (j .program) (j .proposal) p a next (variableOf u))
+    × ((j : Job) → StepAt j s gaps heads p next (asAct act) → NamesAre j names → (u : ℕ) → u < v → StepCovered (j .script .templates) (j .script .program) (entries (j .proposal)) p (asAct act) next (variableOf u))
 
 abbrev μ-loop : tie.MeasureT-loop
-μ-loop s gaps heads names place p next v₀ v = 8 - v
+μ-loop s gaps heads names act p next v₀ v = 8 - v
 
 loop-holds : tie.Need-loop-holds Inv-loop μ-loop
-loop-holds c = (search needs, λ j a S N u h. absurd (omega arith))
+loop-holds c = (search needs, λ j S N u h. absurd (omega arith))
 
 named-holds-requires : tie.Need-named-holds-requires Inv-loop μ-loop
 named-holds-requires c κs = search needs
 
 returns : tie.Need-returns Inv-loop μ-loop
-returns c j a S N = record {
+returns c j S N = record {
   most = search needs;
-  below = c .before .before .before .loop .inv .1 j a S N;
-  fails = λ h w. decided-false (c .before .named-holds .result) (c .before .named-holds .ensures j a S N) (not-true _ (c .if1 .taken)) w;
+  below = c .before .before .before .loop .inv .1 j S N;
+  fails = λ h w. decided-false (c .before .named-holds .result) (c .before .named-holds .ensures j S N) (not-true _ (c .if1 .taken)) w;
 }
 
 add-v : tie.Need-add-v Inv-loop μ-loop
@@ -43,13 +44,13 @@ loop-less c = search needs
 loop-again : tie.Need-loop-again Inv-loop μ-loop
 loop-again c = (
   omega arith,
-  λ j a S N. below-more _ _ (c .before .before .before .loop .inv .1 j a S N) (decided-true (c .before .named-holds .result) (c .before .named-holds .ensures j a S N) (not-false _ (c .if1 .left))),
+  λ j S N. below-more _ _ (c .before .before .before .loop .inv .1 j S N) (decided-true (c .before .named-holds .result) (c .before .named-holds .ensures j S N) (not-false _ (c .if1 .left))),
 )
 
 returns-2 : tie.Need-returns-2 Inv-loop μ-loop
-returns-2 c j a S N = record {
+returns-2 c j S N = record {
   most = search needs;
-  below = λ u h. c .before .loop .inv .1 j a S N u (omega arith);
+  below = λ u h. c .before .loop .inv .1 j S N u (omega arith);
   fails = λ h. absurd (omega arith);
 }
 

@@ -1,6 +1,5 @@
 -- Root 0 of a template variable, string 0 of a string variable.
 use borrow.Author.Needs.{needs}
-use mathlib.Core.Path.{sym}
 use Rattle.covering.proofs.Whole.{start-template, start-string}
 use Rattle.covering.proofs.start_holds.Statement.{statement}
 use Rattle.covering.proofs.start_holds.Tie as tie
@@ -16,7 +15,7 @@ has-requires c κs = search needs
 
 returns : tie.Need-returns
 returns c hs entry f =
-    start-template (c .before .before .before .before .before .args .s .now) (c .before .before .before .before .before .args .heads .now) hs entry (c .before .before .before .before .before .args .v) (c .before .before .template-head .result) (c .has .result) (c .before .before .before .if1 .taken) (c .before .before .template-head .ensures) (c .before .roots-of .result) (c .before .roots-of .ensures) (c .has .ensures)
+    start-template (c .before .before .before .before .before .args .s .now) (c .before .before .before .before .before .args .heads .now) hs entry (c .before .before .before .before .before .args .v) (c .before .before .template-head .result .at) (c .has .result) (c .before .before .before .if1 .taken) (c .before .before .template-head .ensures) (c .before .roots-of .result) (c .before .roots-of .ensures) (c .has .ensures)
 
 string-head-requires : tie.Need-string-head-requires
 string-head-requires c κs = search needs
@@ -24,16 +23,15 @@ string-head-requires c κs = search needs
 strings-of-requires : tie.Need-strings-of-requires
 strings-of-requires c κs = search needs
 
-has-requires-2 : tie.Need-has-requires-2
-has-requires-2 c κs = search needs
+one-value-requires : tie.Need-one-value-requires
+one-value-requires c κs = search needs
+
+values-within-requires : tie.Need-values-within-requires
+values-within-requires c κs = search needs
 
 returns-2 : tie.Need-returns-2
 returns-2 c hs entry f =
-    start-string (c .before .before .before .before .before .args .s .now) (c .before .before .before .before .before .args .heads .now) hs entry (c .before .before .before .before .before .args .v) (c .before .before .string-head .result) (c .before .strings-of .result .any) (c .before .before .before .if1 .left) f (c .before .before .string-head .ensures) (c .before .strings-of .result) (c .before .strings-of .ensures) (rw (c .if2 .taken))
-
-returns-3 : tie.Need-returns-3
-returns-3 c hs entry f =
-    start-string (c .before .before .before .before .before .before .args .s .now) (c .before .before .before .before .before .before .args .heads .now) hs entry (c .before .before .before .before .before .before .args .v) (c .before .before .before .string-head .result) (c .has2 .result) (c .before .before .before .before .if1 .left) f (c .before .before .before .string-head .ensures) (c .before .before .strings-of .result) (c .before .before .strings-of .ensures) (rw (c .before .if2 .left) (sym (c .has2 .ensures)))
+    start-string (c .before .before .before .before .before .before .args .s .now) (c .before .before .before .before .before .before .args .heads .now) hs entry (c .before .before .before .before .before .before .args .v) (c .before .before .before .string-head .result .at) (c .values-within .result) (c .before .before .before .before .if1 .left) f (c .before .before .before .string-head .ensures) (c .before .before .strings-of .result) (c .before .before .strings-of .ensures) (c .before .one-value .result) (c .before .one-value .ensures) (c .values-within .ensures)
 
 pub start-holds-spec : {M : Type 1} → statement M
 start-holds-spec =
@@ -45,6 +43,6 @@ start-holds-spec =
     returns
     string-head-requires
     strings-of-requires
-    has-requires-2
-    returns-2
-    returns-3)
+    one-value-requires
+    values-within-requires
+    returns-2)

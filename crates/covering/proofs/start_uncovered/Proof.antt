@@ -4,6 +4,7 @@ use native.Mathlib.Omega.{arith}
 use borrow.Author.Count.{below-more}
 use borrow.Author.Needs.{needs}
 use borrow.Author.Tests.{not-true, not-false}
+use Rattle.summaries.specs.Summaries.{entries}
 use Rattle.jobs.specs.Job.{Job}
 use Rattle.jobs.specs.JobVerdict.{StartHolds}
 use Rattle.entries.proofs.Tests.{decided-true, decided-false}
@@ -12,7 +13,7 @@ use Rattle.covering.proofs.start_uncovered.Statement.{statement}
 use Rattle.covering.proofs.start_uncovered.Tie as tie
 
 abbrev Inv-loop : tie.InvT-loop
-Inv-loop s heads names v₀ v = (v ≤ 8) × ((j : Job) → EntriesAt s heads (j .proposal) 0 → NamesAre j names → (u : ℕ) → u < v → StartHolds j u)
+Inv-loop s heads names v₀ v = (v ≤ 8) × ((j : Job) → EntriesAt s heads (j .proposal) 0 → NamesAre j names → (u : ℕ) → u < v → StartHolds (j .script) (entries (j .proposal)) u)
 
 abbrev μ-loop : tie.MeasureT-loop
 μ-loop s heads names v₀ v = 8 - v

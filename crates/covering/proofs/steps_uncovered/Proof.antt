@@ -4,8 +4,9 @@ use mathlib.Core.Path.{_≡_}
 use mathlib.Core.List.{List}
 use native.Mathlib.Omega.{arith}
 use borrow.Author.Needs.{needs}
+use Rattle.summaries.specs.Summaries.{entries}
 use Rattle.jobs.specs.Job.{Job}
-use Rattle.entries.specs.Gaps.{GapsTable}
+use Rattle.pages.specs.Gaps.{GapsTable}
 use Rattle.covering.specs.Tables.{Tables}
 use Rattle.covering.specs.Promises.{PointCovers}
 use Rattle.covering.proofs.Whole.{Below, steps-fail, steps-go, steps-end}
@@ -13,14 +14,14 @@ use Rattle.covering.proofs.steps_uncovered.Statement.{statement}
 use Rattle.covering.proofs.steps_uncovered.Tie as tie
 
 abbrev Inv-loop : tie.InvT-loop
-Inv-loop s gaps heads names places points p₀ p = (j : Job) (count : ℕ) (starts : List ℕ) → Tables j s count starts points places names heads → GapsTable gaps (j .templates) → Below j p
+Inv-loop s gaps heads names places points p₀ p = (j : Job) (count : ℕ) (starts : List ℕ) → Tables j s count starts points places names heads → GapsTable gaps (j .script .templates) → Below (j .script) (entries (j .proposal)) p
 
 abbrev μ-loop : tie.MeasureT-loop
 μ-loop s gaps heads names places points p₀ p = points - p
 
 -- What was found at the point.
-found : (c : tie.After-point-uncovered Inv-loop μ-loop) (j : Job) (count : ℕ) (starts : List ℕ) → Tables j (c .before .before .before .before .before .args .s .now) count starts (c .before .before .before .before .before .args .points) (c .before .before .before .before .before .args .places .now) (c .before .before .before .before .before .args .names) (c .before .before .before .before .before .args .heads .now) → GapsTable (c .before .before .before .before .before .args .gaps .now) (j .templates)
-    → PointCovers j (c .before .before .before .loop .p) (c .point-uncovered .result)
+found : (c : tie.After-point-uncovered Inv-loop μ-loop) (j : Job) (count : ℕ) (starts : List ℕ) → Tables j (c .before .before .before .before .before .args .s .now) count starts (c .before .before .before .before .before .args .points) (c .before .before .before .before .before .args .places .now) (c .before .before .before .before .before .args .names) (c .before .before .before .before .before .args .heads .now) → GapsTable (c .before .before .before .before .before .args .gaps .now) (j .script .templates)
+    → PointCovers (j .script) (entries (j .proposal)) (c .before .before .before .loop .p) (c .point-uncovered .result)
 found c j count starts T G =
     let h = c .before .before .loop-test .taken in
     let l = T .few-points in
@@ -46,7 +47,7 @@ enum-told-2 : tie.Need-enum-told-2 Inv-loop μ-loop
 enum-told-2 c = search needs
 
 returns : tie.Need-returns Inv-loop μ-loop
-returns c j count starts T G = steps-fail j (c .before .before .before .before .before .loop .p) (c .before .before .point-uncovered .result) _ (c .enum-told2 .given .1) (found (c .before .before) j count starts T G) (c .before .before .before .before .before .loop .inv j count starts T G)
+returns c j count starts T G = steps-fail (j .script) (entries (j .proposal)) (c .before .before .before .before .before .loop .p) (c .before .before .point-uncovered .result) _ (c .enum-told2 .given .1) (found (c .before .before) j count starts T G) (c .before .before .before .before .before .loop .inv j count starts T G)
 
 add-p : tie.Need-add-p Inv-loop μ-loop
 add-p c = search needs
@@ -55,10 +56,10 @@ loop-less : tie.Need-loop-less Inv-loop μ-loop
 loop-less c = search needs
 
 loop-again : tie.Need-loop-again Inv-loop μ-loop
-loop-again c j count starts T G = steps-go j (c .before .before .before .before .before .loop .p) (c .before .before .point-uncovered .result) (c .enum-told .given .1) (found (c .before .before) j count starts T G) (c .before .before .before .before .before .loop .inv j count starts T G)
+loop-again c j count starts T G = steps-go (j .script) (entries (j .proposal)) (c .before .before .before .before .before .loop .p) (c .before .before .point-uncovered .result) (c .enum-told .given .1) (found (c .before .before) j count starts T G) (c .before .before .before .before .before .loop .inv j count starts T G)
 
 returns-2 : tie.Need-returns-2 Inv-loop μ-loop
-returns-2 c j count starts T G = steps-end j (c .before .before .before .args .points) (c .before .loop .p) (T .points-are) (c .loop-test .left) (c .before .loop .inv j count starts T G)
+returns-2 c j count starts T G = steps-end (j .script) (entries (j .proposal)) (c .before .before .before .args .points) (c .before .loop .p) (T .points-are) (c .loop-test .left) (c .before .loop .inv j count starts T G)
 
 pub steps-uncovered-spec : {M : Type 1} → statement M
 steps-uncovered-spec =

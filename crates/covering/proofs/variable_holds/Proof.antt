@@ -1,6 +1,7 @@
 -- Variables 0 to 3 are the template variables, 4 to 7 the string variables.
 use borrow.Author.Needs.{needs}
 use native.Mathlib.Omega.{arith}
+use Rattle.programs.specs.Promises.{asAct}
 use Rattle.summaries.specs.Summaries.{entries}
 use Rattle.covering.proofs.Steps.{variable-template, variable-string}
 use Rattle.covering.proofs.variable_holds.Statement.{statement}
@@ -10,15 +11,15 @@ template-holds-requires : tie.Need-template-holds-requires
 template-holds-requires c κs = search needs
 
 returns : tie.Need-returns
-returns c j a S f =
-    variable-template (j .templates) a (entries (j .proposal) (c .before .before .before .args .p)) (entries (j .proposal) (c .before .before .before .args .next)) (c .before .before .before .args .v) (c .template-holds .result) (c .before .if1 .taken) (c .template-holds .ensures j a S (c .before .if1 .taken))
+returns c j S f =
+    variable-template (j .script .templates) (asAct (c .before .before .before .args .act)) (entries (j .proposal) (c .before .before .before .args .p)) (entries (j .proposal) (c .before .before .before .args .next)) (c .before .before .before .args .v) (c .template-holds .result) (c .before .if1 .taken) (c .template-holds .ensures j S (c .before .if1 .taken))
 
 string-holds-requires : tie.Need-string-holds-requires
 string-holds-requires c κs = search needs
 
 returns-2 : tie.Need-returns-2
-returns-2 c j a S f =
-    variable-string (j .templates) a (entries (j .proposal) (c .before .before .before .args .p)) (entries (j .proposal) (c .before .before .before .args .next)) (c .before .before .before .args .v) (c .string-holds .result) (c .before .if1 .left) (c .string-holds .ensures j (c .before .before .before .args .gaps .now) a S (omega arith))
+returns-2 c j S f =
+    variable-string (j .script .templates) (asAct (c .before .before .before .args .act)) (entries (j .proposal) (c .before .before .before .args .p)) (entries (j .proposal) (c .before .before .before .args .next)) (c .before .before .before .args .v) (c .string-holds .result) (c .before .if1 .left) (c .string-holds .ensures j (c .before .before .before .args .gaps .now) S (omega arith))
 
 pub variable-holds-spec : {M : Type 1} → statement M
 variable-holds-spec =

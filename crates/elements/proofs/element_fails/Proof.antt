@@ -1,22 +1,31 @@
 -- The patterns of attributes and contents joined, and the clause at each of them.
-use borrow.Author.Needs.{needs}
-use Rattle.elements.specs.ClauseWords.{clauseIn}
 use Rattle.elements.proofs.Searches.{clause-tested}
+use borrow.Author.Needs.{needs}
 use Rattle.elements.proofs.element_fails.Statement.{statement}
 use Rattle.elements.proofs.element_fails.Tie as tie
 
-element-patterns-requires : tie.Need-element-patterns-requires
-element-patterns-requires c κs = search needs
+attribute-patterns-requires : tie.Need-attribute-patterns-requires
+attribute-patterns-requires c κs = search needs
 
-fails-under-requires : tie.Need-fails-under-requires
-fails-under-requires c κs = search needs
+product-requires : tie.Need-product-requires
+product-requires c κs = search needs
+
+clause-fails-requires : tie.Need-clause-fails-requires
+clause-fails-requires c κs = search needs
 
 returns : tie.Need-returns
 returns c =
-    let args = c .before .before .before .args in
-    let joined = c .before .element-patterns in
-    clause-tested (args .s .now) (args .start .at) (clauseIn (args .clause .now)) (args .words .now) (args .n) (args .inner)
-    (joined .result) (joined .ensures) (args .names) (c .fails-under .result) (c .fails-under .ensures)
+    let args = c .before .before .before .before .before .before .before .args in
+    let outer = c .before .before .before .before .attribute-patterns in
+    let joined = c .before .before .before .product in
+    clause-tested (args .s .now) (args .start .at) (args .clause) (args .graph .now) (args .n) (args .names) (args .inner) (outer .result) (joined .result) (c .clause-fails .result)
+    (outer .ensures) (joined .ensures) (c .clause-fails .ensures .1)
 
 pub element-fails-spec : {M : Type 1} → statement M
-element-fails-spec = tie.close (tie.spec element-patterns-requires fails-under-requires returns)
+element-fails-spec =
+    tie.close
+    (tie.spec
+    attribute-patterns-requires
+    product-requires
+    clause-fails-requires
+    returns)

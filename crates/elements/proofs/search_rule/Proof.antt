@@ -1,82 +1,114 @@
--- The clauses from here on make of this table what all of them make of the first.
+-- What the clauses from here on find, lowered by what was found, is what all of them find.
 use Prim.Native.Nat.{_-_}
-use mathlib.Core.Path.{sym, _∙_}
+use mathlib.Core.Path.{ap}
 use native.Mathlib.Omega.{arith}
 use lib.ListN.{length}
+use Rattle.commands.specs.declared.Position.{Position}
+use Rattle.commands.proofs.Laws.{past-over, past-other}
+use Rattle.vocabularies.proofs.Laws.{formula-moved}
+use Rattle.elements.proofs.Rules.{Ruling, rule-nowhere, rule-ends, rule-unread, rule-goes, ruling-more, ruling-ends}
 use borrow.Author.Needs.{needs}
-use Rattle.elements.proofs.Rules.{Ruling, rule-nowhere, rule-ends, rule-goes, rule-skips, clause-inside}
 use Rattle.elements.proofs.search_rule.Statement.{statement}
 use Rattle.elements.proofs.search_rule.Tie as tie
 
 abbrev Inv-loop : tie.InvT-loop
-Inv-loop s e from words gaps lone starts count chosen always ever lowest₀ at₀ lowest at = Ruling s e from words gaps lone starts count chosen always ever lowest₀ at lowest
+Inv-loop s e from words starts count chosen lowest₀ here₀ place₀ lowest here place = Ruling s e words starts count chosen from (here .at) place lowest
 
 abbrev μ-loop : tie.MeasureT-loop
-μ-loop s e from words gaps lone starts count chosen always ever lowest₀ at₀ lowest at = length s - at
+μ-loop s e from words starts count chosen lowest₀ here₀ place₀ lowest here place = length s - here .at
 
 returns : tie.Need-returns Inv-loop μ-loop
 returns c =
     let args = c .before .before .args in
-    rule-nowhere (args .s .now) (args .e) (args .from) (args .words .now) (args .gaps .now) (args .lone .now) (args .starts .now) (args .count) (args .chosen) (args .always) (args .ever) (args .table) (c .if1 .taken)
+    rule-nowhere (args .s .now) (args .e) (args .graph .now) (args .starts .now) (args .count) (args .chosen) (args .from) (c .if1 .taken)
+
+new-requires : tie.Need-new-requires Inv-loop μ-loop
+new-requires c κs = search needs
 
 loop-holds : tie.Need-loop-holds Inv-loop μ-loop
-loop-holds c = record { goes = λ r S. S }
+loop-holds c = rw (c .new .ensures) (record { few = omega arith; goes = λ r S. S })
 
-byte-at-requires : tie.Need-byte-at-requires Inv-loop μ-loop
-byte-at-requires c κs = search needs
+past-requires : tie.Need-past-requires Inv-loop μ-loop
+past-requires c κs = search needs
 
-add-t25 : tie.Need-add-t25 Inv-loop μ-loop
-add-t25 c = omega (arith, clause-inside (c .before .before .before .before .before .args .s .now) (c .before .before .loop .at) (sym (c .before .byte-at .ensures) ∙ c .if2 .taken))
+enum-known-begins : tie.Need-enum-known-begins Inv-loop μ-loop
+enum-known-begins c = search needs
 
-always-holds-requires : tie.Need-always-holds-requires Inv-loop μ-loop
-always-holds-requires c κs = search needs
+enum-told : tie.Need-enum-told Inv-loop μ-loop
+enum-told c = search needs
 
-loop-less : tie.Need-loop-less Inv-loop μ-loop
-loop-less c = omega (arith, c .before .before .always-holds .ensures .0, clause-inside (c .before .before .before .before .before .before .before .before .args .s .now) (c .before .before .before .before .before .loop .at) (sym (c .before .before .before .before .byte-at .ensures) ∙ c .before .before .before .if2 .taken))
-
-loop-again : tie.Need-loop-again Inv-loop μ-loop
-loop-again c =
-    let args = c .before .before .before .before .before .before .before .before .args in
-    let l = c .before .before .before .before .before .loop in
-    let known = c .before .before .always-holds in
-    record {
-      goes = λ r S. l .inv .goes r (rule-skips (args .s .now) (args .e) (l .at) (args .words .now) (args .gaps .now) (args .lone .now) (args .starts .now) (args .count) (args .chosen) (args .always) (args .ever) (l .lowest)
-          (known .result) (known .ensures .1) (c .before .if3 .taken) (sym (c .before .before .before .before .byte-at .ensures) ∙ c .before .before .before .if2 .taken) r S);
-    }
+returns-2 : tie.Need-returns-2 Inv-loop μ-loop
+returns-2 c =
+    let args = c .before .before .before .before .before .before .before .args in
+    let l = c .before .before .before .loop in
+    let past = c .before .before .past in
+    ruling-ends _ _ _ _ _ _ _ _ _ _ (l .inv)
+    (rule-ends (args .s .now) (args .e) (args .graph .now) (args .starts .now) (args .count) (args .chosen) (l .here .at)
+    (past-other (args .s .now) (l .here .at) 0x04 (past .result) (past .ensures) (c .enum-told .given .1) (λ z. absurd (omega arith))))
 
 no-facts-requires : tie.Need-no-facts-requires Inv-loop μ-loop
 no-facts-requires c κs = search needs
 
-gather-requires : tie.Need-gather-requires Inv-loop μ-loop
-gather-requires c κs = search needs
+read-formula-requires : tie.Need-read-formula-requires Inv-loop μ-loop
+read-formula-requires c κs = search needs
 
-add-search-clause : tie.Need-add-search-clause Inv-loop μ-loop
-add-search-clause c = omega (arith, clause-inside (c .before .before .before .before .before .before .before .before .before .before .args .s .now) (c .before .before .before .before .before .before .before .loop .at) (sym (c .before .before .before .before .before .before .byte-at .ensures) ∙ c .before .before .before .before .before .if2 .taken))
+enum-known-part : tie.Need-enum-known-part Inv-loop μ-loop
+enum-known-part c = search needs
+
+enum-told-2 : tie.Need-enum-told-2 Inv-loop μ-loop
+enum-told-2 c = search needs
+
+returns-3 : tie.Need-returns-3 Inv-loop μ-loop
+returns-3 c =
+    let args = c .before .before .before .before .before .before .before .before .before .before .before .before .args in
+    let l = c .before .before .before .before .before .before .before .before .loop in
+    let past = c .before .before .before .before .before .before .before .past in
+    let over = past-over (args .s .now) (l .here .at) 0x04 (past .result) _ (past .ensures) (c .before .before .before .before .before .begins .given .1) in
+    let nothing = c .before .before .before .no-facts in
+    let read = c .before .before .read-formula in
+    ruling-ends _ _ _ _ _ _ _ _ _ _ (l .inv)
+    (rule-unread (args .s .now) (args .e) (args .graph .now) (args .starts .now) (args .count) (args .chosen) (l .here .at) (c .before .before .before .before .before .begins .given .0 .0) (over .2)
+    (nothing .result) (nothing .ensures) (read .result) (read .ensures) _ _ (c .enum-told2 .given .1) (over .1))
+
+facts-reading-requires : tie.Need-facts-reading-requires Inv-loop μ-loop
+facts-reading-requires c κs = search needs
 
 search-clause-requires : tie.Need-search-clause-requires Inv-loop μ-loop
 search-clause-requires c κs = search needs
 
-loop-less-2 : tie.Need-loop-less-2 Inv-loop μ-loop
-loop-less-2 c = omega (arith, c .before .before .before .gather .ensures .onward, clause-inside (c .before .before .before .before .before .before .before .before .before .before .before .before .args .s .now) (c .before .before .before .before .before .before .before .before .before .loop .at) (sym (c .before .before .before .before .before .before .before .before .byte-at .ensures) ∙ c .before .before .before .before .before .before .before .if2 .taken))
+lower-requires : tie.Need-lower-requires Inv-loop μ-loop
+lower-requires c κs = search needs
 
-loop-again-2 : tie.Need-loop-again-2 Inv-loop μ-loop
-loop-again-2 c =
-    let args = c .before .before .before .before .before .before .before .before .before .before .before .before .args in
-    let l = c .before .before .before .before .before .before .before .before .before .loop in
-    let nothing = c .before .before .before .before .no-facts in
-    let gathered = c .before .before .before .gather in
-    let more = c .before .search-clause in
-    record {
-      goes = λ r S. l .inv .goes r (rule-goes (args .s .now) (args .e) (l .at) (args .words .now) (args .gaps .now) (args .lone .now) (args .starts .now) (args .count) (args .chosen) (args .always) (args .ever) (l .lowest)
-          (nothing .result) (nothing .ensures) (gathered .result) (gathered .ensures) (more .result) (more .ensures) (sym (c .before .before .before .before .before .before .before .before .byte-at .ensures) ∙ c .before .before .before .before .before .before .before .if2 .taken) r S);
-    }
+add-place : tie.Need-add-place Inv-loop μ-loop
+add-place c =
+    let past = c .before .before .before .before .before .before .before .before .before .before .before .before .past in
+    let over = past-over (c .before .before .before .before .before .before .before .before .before .before .before .before .before .before .before .before .before .args .s .now) _ _ (past .result) _ (past .ensures) (c .before .before .before .before .before .before .before .before .before .before .begins .given .1) in
+    omega (arith, over .0, c .before .before .before .before .before .before .before .before .before .before .before .before .before .loop .inv .few, c .before .before .before .before .before .before .before .before .before .before .before .before .before .before .before .before .before .good .0 .1)
 
-returns-2 : tie.Need-returns-2 Inv-loop μ-loop
-returns-2 c =
-    let args = c .before .before .before .before .before .args in
-    let l = c .before .before .loop in
-    l .inv .goes (l .lowest) (rule-ends (args .s .now) (args .e) (l .at) (args .words .now) (args .gaps .now) (args .lone .now) (args .starts .now) (args .count) (args .chosen) (args .always) (args .ever) (l .lowest)
-    (λ q. c .if2 .left (c .before .byte-at .ensures ∙ q)))
+loop-less : tie.Need-loop-less Inv-loop μ-loop
+loop-less c =
+    let past = c .before .before .before .before .before .before .before .before .before .before .before .before .past in
+    let over = past-over (c .before .before .before .before .before .before .before .before .before .before .before .before .before .before .before .before .before .args .s .now) _ _ (past .result) _ (past .ensures) (c .before .before .before .before .before .before .before .before .before .before .begins .given .1) in
+    let read = c .before .before .before .before .before .before .before .read-formula in
+    let moves = formula-moved _ _ _ _ (read .result) (read .ensures) _ (c .before .before .before .before .before .part .given .1) in
+    omega (arith, over .0, over .2, moves .0)
+
+loop-again : tie.Need-loop-again Inv-loop μ-loop
+loop-again c =
+    let args = c .before .before .before .before .before .before .before .before .before .before .before .before .before .before .before .before .before .args in
+    let l = c .before .before .before .before .before .before .before .before .before .before .before .before .before .loop in
+    let past = c .before .before .before .before .before .before .before .before .before .before .before .before .past in
+    let over = past-over (args .s .now) (l .here .at) 0x04 (past .result) _ (past .ensures) (c .before .before .before .before .before .before .before .before .before .before .begins .given .1) in
+    let nothing = c .before .before .before .before .before .before .before .before .no-facts in
+    let read = c .before .before .before .before .before .before .before .read-formula in
+    let ended = c .before .before .before .before .before .part .given .1 in
+    let moves = formula-moved _ _ _ _ (read .result) (read .ensures) _ ended in
+    let reading = c .before .before .facts-reading in
+    let found = c .before .search-clause in
+    ruling-more (args .s .now) (args .e) (args .graph .now) (args .starts .now) (args .count) (args .chosen) (args .from) (l .here .at) (l .place) _ (l .lowest)
+    (found .result) (c .lower .result) (c .lower .ensures) (omega (arith, over .2, moves .0)) (l .inv)
+    (λ r later. rule-goes (args .s .now) (args .e) (args .graph .now) (args .starts .now) (args .count) (args .chosen) (l .here .at) (c .before .before .before .before .before .before .before .before .before .before .begins .given .0 .0) (over .2)
+    (nothing .result) (nothing .ensures) (read .result) (read .ensures) (reading .result) (reading .ensures) (l .place) _ ended (over .1) (found .result) (found .ensures) r later)
 
 pub search-rule-spec : {M : Type 1} → statement M
 search-rule-spec =
@@ -85,16 +117,20 @@ search-rule-spec =
     Inv-loop
     μ-loop
     returns
+    new-requires
     loop-holds
-    byte-at-requires
-    add-t25
-    always-holds-requires
-    loop-less
-    loop-again
+    past-requires
+    enum-known-begins
+    enum-told
+    returns-2
     no-facts-requires
-    gather-requires
-    add-search-clause
+    read-formula-requires
+    enum-known-part
+    enum-told-2
+    returns-3
+    facts-reading-requires
     search-clause-requires
-    loop-less-2
-    loop-again-2
-    returns-2)
+    lower-requires
+    add-place
+    loop-less
+    loop-again)

@@ -1,29 +1,30 @@
 -- The template is a root, and an origin of each gap passed.
-use Prim.Native.Nat.{ℕ, _-_, _%_, _≤_, _<_}
-use mathlib.Core.Path.{_≡_, sym, _∙_}
-use mathlib.Core.Bool.{true, false, false≢true}
+use Prim.Native.Nat.{ℕ, _-_, _≤_, _<_}
+use mathlib.Core.Path.{sym, _∙_}
+use mathlib.Core.Bool.{false≢true}
 use native.Mathlib.Omega.{arith}
-use borrow.Author.Needs.{needs}
 use borrow.Author.Count.{below-more}
 use borrow.Author.Tests.{not-true, not-false}
 use Rattle.entries.proofs.Tests.{decided-true, decided-false}
-use Rattle.entries.proofs.GapWords.{Origin, fragment-root, fragment-origin, fragment-all}
+use Rattle.entries.proofs.Fragments.{Origin, fragment-all, fragment-root, fragment-origin}
+use borrow.Author.Needs.{needs}
 use Rattle.entries.proofs.fragment_holds.Statement.{statement}
 use Rattle.entries.proofs.fragment_holds.Tie as tie
 
 abbrev Inv-loop : tie.InvT-loop
-Inv-loop words t gaps n k₀ k = (k ≤ 16) × ((i : ℕ) → i < k → Origin words gaps n i)
+Inv-loop graph t gaps k₀ k = (k ≤ 16) × ((i : ℕ) → i < k → Origin graph gaps t i)
 
 abbrev μ-loop : tie.MeasureT-loop
-μ-loop words t gaps n k₀ k = 16 - k
+μ-loop graph t gaps k₀ k = 16 - k
 
-is-set-requires : tie.Need-is-set-requires Inv-loop μ-loop
-is-set-requires c κs = search needs
+roots-requires : tie.Need-roots-requires Inv-loop μ-loop
+roots-requires c κs = search needs
+
+is-member-requires : tie.Need-is-member-requires Inv-loop μ-loop
+is-member-requires c κs = search needs
 
 returns : tie.Need-returns Inv-loop μ-loop
-returns c φ R g f k w =
-    let q : c .before .before .args .t % 64 ≡ c .before .before .args .t = omega arith in
-    false≢true (sym (not-true _ (c .if1 .taken)) ∙ (c .before .is-set .ensures ∙ rw q (fragment-root (c .before .before .args .words .now) (c .before .before .args .t) (c .before .before .args .gaps) φ R g k w)))
+returns c = λ φ R g k w. false≢true (sym (not-true _ (c .if1 .taken)) ∙ (c .before .is-member .ensures ∙ (c .before .before .roots .ensures _ ∙ fragment-root (c .before .before .before .args .graph .now) (c .before .before .before .args .t) (c .before .before .before .args .gaps) φ R g k w)))
 
 loop-holds : tie.Need-loop-holds Inv-loop μ-loop
 loop-holds c = (search needs, λ i h. absurd (omega arith))
@@ -32,9 +33,7 @@ origin-holds-requires : tie.Need-origin-holds-requires Inv-loop μ-loop
 origin-holds-requires c κs = search needs
 
 returns-2 : tie.Need-returns-2 Inv-loop μ-loop
-returns-2 c φ R g f k w =
-    let q : c .before .before .before .before .before .before .args .t % 64 ≡ c .before .before .before .before .before .before .args .t = omega arith in
-    decided-false (c .before .origin-holds .result) (c .before .origin-holds .ensures) (not-true _ (c .if2 .taken)) (rw q (fragment-origin (c .before .before .before .before .before .before .args .words .now) (c .before .before .before .before .before .before .args .t) (c .before .before .before .before .before .before .args .gaps) φ R g k w (c .before .before .before .loop .k) (c .before .before .loop-test .taken)))
+returns-2 c = λ φ R g k w. decided-false (c .before .origin-holds .result) (c .before .origin-holds .ensures) (not-true _ (c .if2 .taken)) (fragment-origin (c .before .before .before .before .before .before .before .args .graph .now) (c .before .before .before .before .before .before .before .args .t) (c .before .before .before .before .before .before .before .args .gaps) φ R g k w (c .before .before .before .loop .k) (c .before .before .loop-test .taken))
 
 add-k : tie.Need-add-k Inv-loop μ-loop
 add-k c = search needs
@@ -49,10 +48,7 @@ loop-again c = (
 )
 
 returns-3 : tie.Need-returns-3 Inv-loop μ-loop
-returns-3 c φ R g f k =
-    let q : c .before .before .before .before .args .t % 64 ≡ c .before .before .before .before .args .t = omega arith in
-    let root-bit = sym (c .before .before .before .is-set .ensures) ∙ not-false _ (c .before .before .if1 .left) in
-    fragment-all (c .before .before .before .before .args .words .now) (c .before .before .before .before .args .t) (c .before .before .before .before .args .gaps) φ R g k (rw q at root-bit) (λ i h. rw q at (c .before .loop .inv .1 i (omega arith)))
+returns-3 c = λ φ R g k. fragment-all (c .before .before .before .before .before .args .graph .now) (c .before .before .before .before .before .args .t) (c .before .before .before .before .before .args .gaps) φ R g k (sym (c .before .before .before .before .roots .ensures _) ∙ (sym (c .before .before .before .is-member .ensures) ∙ not-false _ (c .before .before .if1 .left))) (λ i h. c .before .loop .inv .1 i (omega arith))
 
 pub fragment-holds-spec : {M : Type 1} → statement M
 fragment-holds-spec =
@@ -60,7 +56,8 @@ fragment-holds-spec =
     (tie.spec
     Inv-loop
     μ-loop
-    is-set-requires
+    roots-requires
+    is-member-requires
     returns
     loop-holds
     origin-holds-requires

@@ -1,61 +1,49 @@
 -- Items that passed change nothing for those that are left.
-use Prim.Native.Nat.{_-_, _<_}
-use mathlib.Core.Path.{_≡_, sym, _∙_}
-use mathlib.Core.Bool.{true}
+use Prim.Native.Nat.{_-_}
 use native.Mathlib.Omega.{arith}
 use lib.ListN.{length}
-use borrow.Author.Needs.{needs}
 use Rattle.commands.specs.declared.Context.the-variants.{TemplateFacts}
-use Rattle.commands.specs.Commands.{byte, allowed}
 use Rattle.summaries.specs.Summaries.{Summary}
-use Rattle.entries.specs.Words.{Keeps}
-use Rattle.entries.proofs.Walks.{inside, no-item, Walked}
+use Rattle.summaries.proofs.Steps.{claims-first, claims-end}
+use Rattle.graphs.specs.Graphs.{Keeps}
+use Rattle.entries.proofs.Walks.{Walked, claim-moves}
 use Rattle.entries.proofs.Gathering.{SamePass, pass-begins, pass-goes, pass-fails, pass-ends}
+use borrow.Author.Needs.{needs}
 use Rattle.entries.proofs.items_hold.Statement.{statement}
 use Rattle.entries.proofs.items_hold.Tie as tie
 
 abbrev Inv-loop : tie.InvT-loop
-Inv-loop s from words how at₀ at = (R : Summary) → Keeps words R → Walked TemplateFacts s from at (SamePass how R)
+Inv-loop s graph how at₀ at = (R : Summary) → Keeps graph R → Walked TemplateFacts s (at₀ .at) (at .at) (SamePass how R)
 
 abbrev μ-loop : tie.MeasureT-loop
-μ-loop s from words how at₀ at = length s - at
-
--- What stands at the offset is an item.
-item : (c : tie.Then1 Inv-loop μ-loop) → allowed TemplateFacts (byte (c .before .before .before .before .args .s .now) (c .before .before .loop .at)) ≡ true
-item c = sym (c .before .is-item .ensures) ∙ c .if1 .taken
-
-stands : (c : tie.Then1 Inv-loop μ-loop) → c .before .before .loop .at < length (c .before .before .before .before .args .s .now)
-stands c = inside TemplateFacts (c .before .before .before .before .args .s .now) (c .before .before .loop .at) no-item (item c)
+μ-loop s graph how at₀ at = length s - at .at
 
 loop-holds : tie.Need-loop-holds Inv-loop μ-loop
-loop-holds c R k = pass-begins _ R _ _
+loop-holds c = λ R k. pass-begins _ R _ _
 
-is-item-requires : tie.Need-is-item-requires Inv-loop μ-loop
-is-item-requires c κs = search needs
+claim-here-requires : tie.Need-claim-here-requires Inv-loop μ-loop
+claim-here-requires c κs = search needs
+
+enum-known-step : tie.Need-enum-known-step Inv-loop μ-loop
+enum-known-step c = search needs
+
+enum-told : tie.Need-enum-told Inv-loop μ-loop
+enum-told c = search needs
+
+returns : tie.Need-returns Inv-loop μ-loop
+returns c = λ xs R l k. pass-ends _ R (c .before .before .before .before .before .args .s .now) _ _ (c .before .before .before .loop .inv R k) (λ ys m. claims-end (c .before .before .before .before .before .args .s .now) _ ys m _ (c .before .before .claim-here .ensures .0) (c .enum-told .given .1)) xs l
 
 item-holds-requires : tie.Need-item-holds-requires Inv-loop μ-loop
 item-holds-requires c κs = search needs
 
-returns : tie.Need-returns Inv-loop μ-loop
-returns c xs R l k =
-    pass-fails _ R (c .before .before .before .before .before .before .args .s .now) (c .before .before .before .before .before .before .args .from) (c .before .before .before .before .loop .at)
-    (c .before .before .before .before .loop .inv R k) (c .before .item-holds .result) (λ y i. c .before .item-holds .ensures y R i k) (item (c .before .before)) (c .if2 .taken) xs l
-
-over-requires : tie.Need-over-requires Inv-loop μ-loop
-over-requires c κs = stands (c .before .before)
+returns-2 : tie.Need-returns-2 Inv-loop μ-loop
+returns-2 c = λ xs R l k. pass-fails _ R (c .before .before .before .before .before .before .before .before .args .s .now) _ _ (c .before .before .before .before .before .before .loop .inv R k) _ _ (λ ys l. claims-first (c .before .before .before .before .before .before .before .before .args .s .now) _ ys l _ (c .before .before .before .before .before .claim-here .ensures .0) _ _ (c .before .before .before .step .given .1)) (c .before .item-holds .result) (c .before .item-holds .ensures (claim-moves (c .before .before .before .before .before .before .before .before .args .s .now) _ _ (c .before .before .before .before .before .claim-here .ensures .1) _ _ (c .before .before .before .step .given .1) .fits) R k) (c .if1 .taken) xs l
 
 loop-less : tie.Need-loop-less Inv-loop μ-loop
-loop-less c = omega (arith, stands (c .before .before .before), c .over .ensures)
+loop-less c = let m = claim-moves (c .before .before .before .before .before .before .before .before .args .s .now) _ _ (c .before .before .before .before .before .claim-here .ensures .1) _ _ (c .before .before .before .step .given .1) in omega arith
 
 loop-again : tie.Need-loop-again Inv-loop μ-loop
-loop-again c R k =
-    rw (c .over .ensures)
-    (pass-goes _ R (c .before .before .before .before .before .before .before .args .s .now) (c .before .before .before .before .before .before .before .args .from) (c .before .before .before .before .before .loop .at)
-    (c .before .before .before .before .before .loop .inv R k) (c .before .before .item-holds .result) (λ y i. c .before .before .item-holds .ensures y R i k) (item (c .before .before .before)) (c .before .if2 .left))
-
-returns-2 : tie.Need-returns-2 Inv-loop μ-loop
-returns-2 c xs R l k =
-    pass-ends _ R (c .before .before .before .before .args .s .now) (c .before .before .before .before .args .from) (c .before .before .loop .at) (c .before .before .loop .inv R k) (sym (c .before .is-item .ensures) ∙ c .if1 .left) xs l
+loop-again c = λ R k. pass-goes _ R (c .before .before .before .before .before .before .before .before .args .s .now) _ _ (c .before .before .before .before .before .before .loop .inv R k) _ _ (λ ys l. claims-first (c .before .before .before .before .before .before .before .before .args .s .now) _ ys l _ (c .before .before .before .before .before .claim-here .ensures .0) _ _ (c .before .before .before .step .given .1)) (c .before .item-holds .result) (c .before .item-holds .ensures (claim-moves (c .before .before .before .before .before .before .before .before .args .s .now) _ _ (c .before .before .before .before .before .claim-here .ensures .1) _ _ (c .before .before .before .step .given .1) .fits) R k) (c .if1 .left)
 
 pub items-hold-spec : {M : Type 1} → statement M
 items-hold-spec =
@@ -64,10 +52,11 @@ items-hold-spec =
     Inv-loop
     μ-loop
     loop-holds
-    is-item-requires
-    item-holds-requires
+    claim-here-requires
+    enum-known-step
+    enum-told
     returns
-    over-requires
+    item-holds-requires
+    returns-2
     loop-less
-    loop-again
-    returns-2)
+    loop-again)

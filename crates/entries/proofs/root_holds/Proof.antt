@@ -1,17 +1,20 @@
--- A root passes where its bit is set, unless roots stay out.
+-- By whether roots pass.
 use borrow.Author.Needs.{needs}
 use Rattle.entries.proofs.Held.{root-held, root-left-out}
 use Rattle.entries.proofs.root_holds.Statement.{statement}
 use Rattle.entries.proofs.root_holds.Tie as tie
 
 returns : tie.Need-returns
-returns c R k f = root-left-out (c .before .before .args .words .now) (c .before .before .args .how) R k (c .before .before .args .n) (c .if1 .taken)
+returns c = root-left-out (c .before .before .args .graph .now) (c .before .before .args .how) _ (c .if1 .taken)
 
-is-set-requires : tie.Need-is-set-requires
-is-set-requires c κs = search needs
+roots-requires : tie.Need-roots-requires
+roots-requires c κs = search needs
+
+is-member-requires : tie.Need-is-member-requires
+is-member-requires c κs = search needs
 
 returns-2 : tie.Need-returns-2
-returns-2 c R k f = root-held (c .before .before .before .args .words .now) (c .before .before .before .args .how) R k (c .before .before .before .args .n) (c .is-set .result) f (c .before .if1 .left) (c .is-set .ensures)
+returns-2 c = root-held (c .before .before .before .before .args .graph .now) (c .before .before .before .before .args .how) _ _ (c .is-member .result) (c .before .before .if1 .left) (c .before .roots .ensures) (c .is-member .ensures)
 
 pub root-holds-spec : {M : Type 1} → statement M
-root-holds-spec = tie.close (tie.spec returns is-set-requires returns-2)
+root-holds-spec = tie.close (tie.spec returns roots-requires is-member-requires returns-2)

@@ -1,32 +1,40 @@
 -- An element, the root, nothing after it; then the element's own judgement.
+use Rattle.judging.proofs.ItemLaws.{no-tag}
 use Rattle.judge.proofs.PageLaws.{no-element-first, other-root-first, root-judged}
-use Rattle.judging.proofs.Shapes.{nothing-lent}
 use borrow.Author.Needs.{needs}
 use Rattle.judge.proofs.judge_read.Statement.{statement}
 use Rattle.judge.proofs.judge_read.Tie as tie
 
-byte-at-requires : tie.Need-byte-at-requires
-byte-at-requires c κs = search needs
+new-requires : tie.Need-new-requires
+new-requires c κs = search needs
+
+item-here-requires : tie.Need-item-here-requires
+item-here-requires c κs = search needs
+
+enum-known-first : tie.Need-enum-known-first
+enum-known-first c = search needs
 
 not-root-requires : tie.Need-not-root-requires
 not-root-requires c κs = search needs
 
 returns : tie.Need-returns
-returns c = no-element-first _ (c .before .before .before .before .before .args .page .now) _ _ (c .not-root .ensures) _ (c .before .before .byte-at .ensures) (c .before .if1 .taken)
-
-byte-at-requires-2 : tie.Need-byte-at-requires-2
-byte-at-requires-2 c κs = search needs
+returns c =
+    let i = c .before .before .item-here in
+    no-element-first _ (c .before .before .before .before .before .before .args .page .now) _ _ (i .result) (rw (c .before .before .before .new .ensures) at (i .ensures .0)) (c .not-root .ensures) (λ e n q. no-tag (rw q at (c .before .match .keys2)))
 
 not-root-requires-2 : tie.Need-not-root-requires-2
 not-root-requires-2 c κs = search needs
 
 returns-2 : tie.Need-returns-2
 returns-2 c =
-    other-root-first _ (c .before .before .before .before .before .before .before .before .args .page .now) _ _ _ (c .before .before .before .before .before .byte-at .ensures) (c .before .before .before .before .if1 .left) _ (c .before .before .before .byte-at2 .ensures)
-    (c .not-root2 .ensures) (c .before .if2 .taken)
+    let i = c .before .before .before .before .before .before .item-here in
+    other-root-first _ (c .before .before .before .before .before .before .before .before .before .before .args .page .now) _ _ (i .result) (rw (c .before .before .before .before .before .before .before .new .ensures) at (i .ensures .0)) _ _ (c .before .before .before .before .first .given .1) (c .not-root2 .ensures) (c .before .if1 .taken)
+
+no-shapes-requires : tie.Need-no-shapes-requires
+no-shapes-requires c κs = search needs
 
 judge-item-requires : tie.Need-judge-item-requires
-judge-item-requires c κs = nothing-lent _
+judge-item-requires c κs = search needs
 
 page-end-requires : tie.Need-page-end-requires
 page-end-requires c κs = search needs
@@ -39,20 +47,24 @@ first-refusal-requires c κs = search needs
 
 returns-3 : tie.Need-returns-3
 returns-3 c =
-    root-judged _ _ _ _ _ (c .before .before .before .before .before .before .before .before .before .before .before .before .before .before .before .before .before .before .byte-at .ensures) (c .before .before .before .before .before .before .before .before .before .before .before .before .before .before .before .before .before .if1 .left) _ (c .before .before .before .before .before .before .before .before .before .before .before .before .before .before .before .before .byte-at2 .ensures)
-    (c .before .before .before .before .judge-item .result) (λ D H. c .before .before .before .before .judge-item .ensures .1 .1 .1 D (H .rule)) (c .before .before .before .before .before .before .before .before .before .before .before .before .before .before .if2 .left)
-    (rw (c .first-refusal .ensures, c .before .before .page-end .ensures, c .before .wrong-element .ensures))
+    let i = c .before .before .before .before .before .before .before .before .before .before .before .before .before .before .before .before .before .before .item-here in
+    let s = c .before .before .before .before .before .before .before .before .before .before .before .before .before .before .before .before .before .before .before .new .ensures in
+    let j = c .before .before .before .before .judge-item in
+    root-judged _ (c .before .before .before .before .before .before .before .before .before .before .before .before .before .before .before .before .before .before .before .before .before .before .args .page .now) _ _ (i .result) (rw s at (i .ensures .0)) _ _ (c .before .before .before .before .before .before .before .before .before .before .before .before .before .before .before .before .first .given .1) (j .result) (λ D H. rw s at (j .ensures .1 .1 D (H .rule)))
+    (c .before .before .before .before .before .before .before .before .before .before .before .before .before .if1 .left) (rw (c .first-refusal .ensures, c .before .before .page-end .ensures, c .before .wrong-element .ensures))
 
 pub judge-read-spec : {M : Type 1} → statement M
 judge-read-spec =
     tie.close
     (tie.spec
-    byte-at-requires
+    new-requires
+    item-here-requires
+    enum-known-first
     not-root-requires
     returns
-    byte-at-requires-2
     not-root-requires-2
     returns-2
+    no-shapes-requires
     judge-item-requires
     page-end-requires
     wrong-element-requires

@@ -1,154 +1,166 @@
 -- A formula's value from those of its parts, form by form. The measure is the unread bytes.
-use Prim.Native.Nat.{ℕ, _<_, _-_}
+use Prim.Native.Nat.{ℕ, _-_, _<_}
 use native.Mathlib.Omega.{arith}
 use lib.ListN.{length}
-use Rattle.judging.proofs.Formulas.{past-holds, no-first-conj, no-first-disj, no-second-disj, no-neg, conj-true, conj-false, disj-false, disj-true, neg-true, neg-false}
-use Rattle.judging.proofs.Shapes.{every, of-one, of-two}
+use borrow.Author.Needs.{needs}
 use borrow.Fn.Kinds.{In}
 use borrow.Fn.PlainCycle.{Measures, is, falls, and}
-use Rattle.judging.proofs.holds.Reads as holds
-use Rattle.judging.proofs.holds.Kinds as holds-kinds
-use Rattle.judging.proofs.+holds.Lts-holds as holds-lts
-use Rattle.judging.proofs.atom.Reads as atom-reads
+use Rattle.judging.proofs.Evaluation.{step-onward, step-none, conj-step, disj-step, neg-step, truth-step, attr-step, content-step, order-step, value-step}
+use Rattle.judging.proofs.holds.Reads as reads
+use Rattle.judging.proofs.holds.Kinds as kinds
+use Rattle.judging.proofs.+holds.Lts-holds as lts
+use Rattle.commands.proofs.Position.step.Reads as step-reads
+use Rattle.judging.proofs.Held.and.Reads as and-reads
+use Rattle.judging.proofs.Held.or.Reads as or-reads
+use Rattle.judging.proofs.Held.not.Reads as not-reads
+use Rattle.commands.proofs.Position.operand.Reads as operand-reads
+use Rattle.sets.proofs.is_member.Reads as is-member-reads
+use Rattle.judging.proofs.is_ordered.Reads as is-ordered-reads
+use Rattle.commands.proofs.set_at.Reads as set-at-reads
+use Rattle.judging.proofs.is_valued.Reads as is-valued-reads
 use Rattle.judging.proofs.+holds.{statement}
 use Rattle.judging.proofs.+holds.Tie.{close}
 
-abbrev μ-holds : Measures 4 holds-kinds.ps ℕ
-μ-holds κs a = length (a .0 .now) - a .1 .0
+abbrev μ : Measures 3 kinds.ps ℕ
+μ κs a = length (a .0 .now) - a .1 .0 .at
 
-abbrev holds-at : ℕ → In 4 holds-kinds.ps
-holds-at t = and 4 holds-kinds.ps (is 4 holds-kinds.ps μ-holds t) holds.Pre
+abbrev given : ℕ → In 3 kinds.ps
+given t = and 3 kinds.ps (is 3 kinds.ps μ t) reads.Pre
 
-abbrev holds-below : ℕ → In 4 holds-kinds.ps
-holds-below t = and 4 holds-kinds.ps (falls 4 holds-kinds.ps _<_ μ-holds t) holds.Pre
+abbrev claims : ℕ → lts.Claims
+claims t = (step-reads.Asked, step-reads.Learnt, and 3 kinds.ps (falls 3 kinds.ps _<_ μ t) reads.Pre, reads.Post, and-reads.Asked, and-reads.Learnt, or-reads.Asked, or-reads.Learnt, not-reads.Asked, not-reads.Learnt, operand-reads.Asked, operand-reads.Learnt, is-member-reads.Asked, is-member-reads.Learnt, is-ordered-reads.Asked, is-ordered-reads.Learnt, set-at-reads.Asked, set-at-reads.Learnt, is-valued-reads.Asked, is-valued-reads.Learnt)
 
-abbrev told : ℕ → holds-lts.Claims
-told t = (holds-below t, holds.Post, atom-reads.Asked, atom-reads.Learnt)
+module _ (t : ℕ) where
+  step-requires : lts.Need-step-requires (claims t) (given t) reads.Post
+  step-requires c κs = search needs
 
-holds-returns : (t : ℕ) → holds-lts.Need-returns (told t) (holds-at t) holds.Post
-holds-returns t c = (λ h. absurd (omega (arith, h)), every λ B. past-holds B _ _ _ (c .if1 .taken))
+  enum-known-d : lts.Need-enum-known-d (claims t) (given t) reads.Post
+  enum-known-d c = search needs
 
-holds-shared-slice-read-match : (t : ℕ) → holds-lts.Need-shared-slice-read-match (told t) (holds-at t) holds.Post
-holds-shared-slice-read-match t c = omega arith
+  enum-told : lts.Need-enum-told (claims t) (given t) reads.Post
+  enum-told c = search needs
 
-holds-add-holds : (t : ℕ) → holds-lts.Need-add-holds (told t) (holds-at t) holds.Post
-holds-add-holds t c = omega arith
+  returns : lts.Need-returns (claims t) (given t) reads.Post
+  returns c = (omega arith, step-none _ _ (c .before .before .step .ensures) (c .enum-told .given .1) _ _)
 
-holds-holds-requires : (t : ℕ) → holds-lts.Need-holds-requires (told t) (holds-at t) holds.Post
-holds-holds-requires t c κs = (omega arith, tt)
+  holds-requires : lts.Need-holds-requires (claims t) (given t) reads.Post
+  holds-requires c κs = (omega (arith, step-onward _ _ (c .before .before .before .before .step .ensures) (c .before .before .d .given .1) .0, step-onward _ _ (c .before .before .before .before .step .ensures) (c .before .before .d .given .1) .1), tt)
 
-holds-returns-2 : (t : ℕ) → holds-lts.Need-returns-2 (told t) (holds-at t) holds.Post
-holds-returns-2 t c = (λ h. absurd (omega (arith, h)), of-one (c .before .holds .ensures .1) λ B H. no-first-conj B _ _ _ _ (c .if2 .taken) (c .before .before .before .match .keys1) H)
+  holds-requires-2 : lts.Need-holds-requires-2 (claims t) (given t) reads.Post
+  holds-requires-2 c κs = (omega (arith, step-onward _ _ (c .before .before .before .before .before .step .ensures) (c .before .before .before .d .given .1) .0, step-onward _ _ (c .before .before .before .before .before .step .ensures) (c .before .before .before .d .given .1) .1, c .holds .ensures .0), tt)
 
-holds-holds-requires-2 : (t : ℕ) → holds-lts.Need-holds-requires-2 (told t) (holds-at t) holds.Post
-holds-holds-requires-2 t c κs = (omega (arith, c .before .before .holds .ensures .0 (omega (arith, c .before .if2 .left))), tt)
+  and-requires : lts.Need-and-requires (claims t) (given t) reads.Post
+  and-requires c κs = search needs
 
-holds-returns-3 : (t : ℕ) → holds-lts.Need-returns-3 (told t) (holds-at t) holds.Post
-holds-returns-3 t c =
-    let f = c .before .before .before .before .holds .ensures .0 (omega (arith, c .before .before .before .if2 .left)) in
-    (λ h. omega (arith, f, c .before .holds2 .ensures .0 h), of-two (c .before .before .before .before .holds .ensures .1) (c .before .holds2 .ensures .1) λ B H₁ H₂. conj-true B _ _ _ H₁ _ H₂ (c .before .before .before .before .before .before .match .keys1) (c .if3 .taken))
+  holds-requires-3 : lts.Need-holds-requires-3 (claims t) (given t) reads.Post
+  holds-requires-3 c κs = (omega (arith, step-onward _ _ (c .before .before .before .before .step .ensures) (c .before .before .d .given .1) .0, step-onward _ _ (c .before .before .before .before .step .ensures) (c .before .before .d .given .1) .1), tt)
 
-holds-mul-result : (t : ℕ) → holds-lts.Need-mul-result (told t) (holds-at t) holds.Post
-holds-mul-result t c = omega arith
+  holds-requires-4 : lts.Need-holds-requires-4 (claims t) (given t) reads.Post
+  holds-requires-4 c κs = (omega (arith, step-onward _ _ (c .before .before .before .before .before .step .ensures) (c .before .before .before .d .given .1) .0, step-onward _ _ (c .before .before .before .before .before .step .ensures) (c .before .before .before .d .given .1) .1, c .holds3 .ensures .0), tt)
 
-holds-add-holds-2 : (t : ℕ) → holds-lts.Need-add-holds-2 (told t) (holds-at t) holds.Post
-holds-add-holds-2 t c = omega arith
+  or-requires : lts.Need-or-requires (claims t) (given t) reads.Post
+  or-requires c κs = search needs
 
-holds-holds-requires-3 : (t : ℕ) → holds-lts.Need-holds-requires-3 (told t) (holds-at t) holds.Post
-holds-holds-requires-3 t c κs = (omega arith, tt)
+  holds-requires-5 : lts.Need-holds-requires-5 (claims t) (given t) reads.Post
+  holds-requires-5 c κs = (omega (arith, step-onward _ _ (c .before .before .before .before .step .ensures) (c .before .before .d .given .1) .0, step-onward _ _ (c .before .before .before .before .step .ensures) (c .before .before .d .given .1) .1), tt)
 
-holds-returns-4 : (t : ℕ) → holds-lts.Need-returns-4 (told t) (holds-at t) holds.Post
-holds-returns-4 t c = (λ h. absurd (omega (arith, h)), of-one (c .before .holds3 .ensures .1) λ B H. no-first-disj B _ _ _ _ (c .if4 .taken) (c .before .before .before .match .keys2) H)
+  not-requires : lts.Need-not-requires (claims t) (given t) reads.Post
+  not-requires c κs = search needs
 
-holds-holds-requires-4 : (t : ℕ) → holds-lts.Need-holds-requires-4 (told t) (holds-at t) holds.Post
-holds-holds-requires-4 t c κs = (omega (arith, c .before .before .holds3 .ensures .0 (omega (arith, c .before .if4 .left))), tt)
+  operand-requires : lts.Need-operand-requires (claims t) (given t) reads.Post
+  operand-requires c κs = search needs
 
-holds-returns-5 : (t : ℕ) → holds-lts.Need-returns-5 (told t) (holds-at t) holds.Post
-holds-returns-5 t c =
-    let f = c .before .before .before .before .holds3 .ensures .0 (omega (arith, c .before .before .before .if4 .left)) in
-    (λ h. omega (arith, f, c .before .holds4 .ensures .0 h), of-two (c .before .before .before .before .holds3 .ensures .1) (c .before .holds4 .ensures .1) λ B H₁ H₂. disj-false B _ _ _ H₁ _ H₂ (c .before .before .before .before .before .before .match .keys2) (c .if5 .taken))
+  is-member-requires : lts.Need-is-member-requires (claims t) (given t) reads.Post
+  is-member-requires c κs = search needs
 
-holds-returns-6 : (t : ℕ) → holds-lts.Need-returns-6 (told t) (holds-at t) holds.Post
-holds-returns-6 t c = (λ h. absurd (omega (arith, h)), of-two (c .before .before .before .before .before .holds3 .ensures .1) (c .before .before .holds4 .ensures .1) λ B H₁ H₂. no-second-disj B _ _ _ _ (c .if6 .taken) (c .before .before .before .before .before .before .before .match .keys2) _ H₁ H₂)
+  operand-requires-2 : lts.Need-operand-requires-2 (claims t) (given t) reads.Post
+  operand-requires-2 c κs = search needs
 
-holds-mul-result-2 : (t : ℕ) → holds-lts.Need-mul-result-2 (told t) (holds-at t) holds.Post
-holds-mul-result-2 t c = omega arith
+  is-member-requires-2 : lts.Need-is-member-requires-2 (claims t) (given t) reads.Post
+  is-member-requires-2 c κs = search needs
 
-holds-add-result : (t : ℕ) → holds-lts.Need-add-result (told t) (holds-at t) holds.Post
-holds-add-result t c = omega arith
+  operand-requires-3 : lts.Need-operand-requires-3 (claims t) (given t) reads.Post
+  operand-requires-3 c κs = search needs
 
-holds-add-holds-3 : (t : ℕ) → holds-lts.Need-add-holds-3 (told t) (holds-at t) holds.Post
-holds-add-holds-3 t c = omega arith
+  operand-requires-4 : lts.Need-operand-requires-4 (claims t) (given t) reads.Post
+  operand-requires-4 c κs = search needs
 
-holds-holds-requires-5 : (t : ℕ) → holds-lts.Need-holds-requires-5 (told t) (holds-at t) holds.Post
-holds-holds-requires-5 t c κs = (omega arith, tt)
+  is-ordered-requires : lts.Need-is-ordered-requires (claims t) (given t) reads.Post
+  is-ordered-requires c κs = search needs
 
-holds-returns-7 : (t : ℕ) → holds-lts.Need-returns-7 (told t) (holds-at t) holds.Post
-holds-returns-7 t c = (λ h. absurd (omega (arith, h)), of-one (c .before .holds5 .ensures .1) λ B H. no-neg B _ _ _ _ (c .if7 .taken) (c .before .before .before .match .keys3) H)
+  operand-requires-5 : lts.Need-operand-requires-5 (claims t) (given t) reads.Post
+  operand-requires-5 c κs = search needs
 
-holds-sub-result : (t : ℕ) → holds-lts.Need-sub-result (told t) (holds-at t) holds.Post
-holds-sub-result t c = omega arith
+  add-set-at : lts.Need-add-set-at (claims t) (given t) reads.Post
+  add-set-at c = omega (arith, step-onward _ _ (c .before .before .before .before .before .before .step .ensures) (c .before .before .before .before .d .given .1) .0)
 
-holds-returns-8 : (t : ℕ) → holds-lts.Need-returns-8 (told t) (holds-at t) holds.Post
-holds-returns-8 t c =
-    let f = c .before .before .holds5 .ensures .0 (omega (arith, c .before .if7 .left)) in
-    (λ h. omega (arith, f, c .if8 .taken), of-one (c .before .before .holds5 .ensures .1) λ B H. neg-true B _ _ _ H (c .before .before .before .before .match .keys3) (c .if8 .taken))
+  set-at-requires : lts.Need-set-at-requires (claims t) (given t) reads.Post
+  set-at-requires c κs = search needs
 
-holds-add-result-2 : (t : ℕ) → holds-lts.Need-add-result-2 (told t) (holds-at t) holds.Post
-holds-add-result-2 t c = omega arith
+  is-valued-requires : lts.Need-is-valued-requires (claims t) (given t) reads.Post
+  is-valued-requires c κs = search needs
 
-holds-atom-requires : (t : ℕ) → holds-lts.Need-atom-requires (told t) (holds-at t) holds.Post
-holds-atom-requires t c κs = (c .before .before .before .if1 .left, (c .before .match .rest .0 .0 .1, c .before .match .rest .0 .1, c .before .match .rest .1))
+  returns-2 : lts.Need-returns-2 (claims t) (given t) reads.Post
+  returns-2 c = rw (c .and .ensures) (
+    omega (arith, step-onward _ _ (c .before .before .before .before .before .before .before .step .ensures) (c .before .before .before .before .before .d .given .1) .1, c .before .before .holds .ensures .0, c .before .holds2 .ensures .0),
+    conj-step _ _ (c .before .before .before .before .before .before .before .step .ensures) (c .before .before .before .before .before .d .given .1) _ (c .before .before .holds .result) (c .before .holds2 .result) (c .before .before .holds .ensures .1) (c .before .holds2 .ensures .1) (c .before .before .before .match2 .keys1),
+  )
 
-holds-returns-9 : (t : ℕ) → holds-lts.Need-returns-9 (told t) (holds-at t) holds.Post
-holds-returns-9 t c =
-    let f = c .before .before .before .before .holds .ensures .0 (omega (arith, c .before .before .before .if2 .left)) in (
-      λ h. omega (arith, f, h, c .before .holds2 .ensures .0 (omega (arith, h))),
-      of-two (c .before .before .before .before .holds .ensures .1) (c .before .holds2 .ensures .1) λ B H₁ H₂. conj-false B _ _ _ H₁ _ H₂ (c .before .before .before .before .before .before .match .keys1) (c .if3 .left),
-    )
+  returns-3 : lts.Need-returns-3 (claims t) (given t) reads.Post
+  returns-3 c = rw (c .or .ensures) (
+    omega (arith, step-onward _ _ (c .before .before .before .before .before .before .before .step .ensures) (c .before .before .before .before .before .d .given .1) .1, c .before .before .holds3 .ensures .0, c .before .holds4 .ensures .0),
+    disj-step _ _ (c .before .before .before .before .before .before .before .step .ensures) (c .before .before .before .before .before .d .given .1) _ (c .before .before .holds3 .result) (c .before .holds4 .result) (c .before .before .holds3 .ensures .1) (c .before .holds4 .ensures .1) (c .before .before .before .match2 .keys2),
+  )
 
-holds-returns-10 : (t : ℕ) → holds-lts.Need-returns-10 (told t) (holds-at t) holds.Post
-holds-returns-10 t c =
-    let f = c .before .before .before .before .before .holds3 .ensures .0 (omega (arith, c .before .before .before .before .if4 .left)) in
-    let g = c .before .before .holds4 .ensures .0 (omega (arith, c .if6 .left)) in
-    (λ h. omega (arith, f, g), of-two (c .before .before .before .before .before .holds3 .ensures .1) (c .before .before .holds4 .ensures .1) λ B H₁ H₂. disj-true B _ _ _ H₁ _ H₂ (c .before .before .before .before .before .before .before .match .keys2) (c .before .if5 .left))
+  returns-4 : lts.Need-returns-4 (claims t) (given t) reads.Post
+  returns-4 c = rw (c .not .ensures) (omega (arith, step-onward _ _ (c .before .before .before .before .before .before .step .ensures) (c .before .before .before .before .d .given .1) .1, c .before .holds5 .ensures .0), neg-step _ _ (c .before .before .before .before .before .before .step .ensures) (c .before .before .before .before .d .given .1) _ (c .before .holds5 .result) (c .before .holds5 .ensures .1) (c .before .before .match2 .keys3))
 
-holds-returns-11 : (t : ℕ) → holds-lts.Need-returns-11 (told t) (holds-at t) holds.Post
-holds-returns-11 t c =
-    let f = c .before .before .holds5 .ensures .0 (omega (arith, c .before .if7 .left)) in
-    (λ h. omega (arith, f, c .if8 .left), of-one (c .before .before .holds5 .ensures .1) λ B H. neg-false B _ _ _ H (c .before .before .before .before .match .keys3) (c .if8 .left))
+  returns-5 : lts.Need-returns-5 (claims t) (given t) reads.Post
+  returns-5 c = (omega (arith, step-onward _ _ (c .before .before .before .before .step .ensures) (c .before .before .d .given .1) .1), truth-step _ _ (c .before .before .before .before .step .ensures) (c .before .before .d .given .1) _ (c .match2 .keys4))
 
-holds-returns-12 : (t : ℕ) → holds-lts.Need-returns-12 (told t) (holds-at t) holds.Post
-holds-returns-12 t c = c .atom .ensures
+  returns-6 : lts.Need-returns-6 (claims t) (given t) reads.Post
+  returns-6 c = (omega (arith, step-onward _ _ (c .before .before .before .before .before .before .step .ensures) (c .before .before .before .before .d .given .1) .1), attr-step _ _ (c .before .before .before .before .before .before .step .ensures) (c .before .before .before .before .d .given .1) _ (c .before .before .match2 .keys5) _ (rw (← c .before .operand .ensures) (c .is-member .ensures)))
+
+  returns-7 : lts.Need-returns-7 (claims t) (given t) reads.Post
+  returns-7 c = (omega (arith, step-onward _ _ (c .before .before .before .before .before .before .step .ensures) (c .before .before .before .before .d .given .1) .1), content-step _ _ (c .before .before .before .before .before .before .step .ensures) (c .before .before .before .before .d .given .1) _ (c .before .before .match2 .keys6) _ (rw (← c .before .operand2 .ensures) (c .is-member2 .ensures)))
+
+  returns-8 : lts.Need-returns-8 (claims t) (given t) reads.Post
+  returns-8 c = (omega (arith, step-onward _ _ (c .before .before .before .before .before .before .before .step .ensures) (c .before .before .before .before .before .d .given .1) .1), order-step _ _ (c .before .before .before .before .before .before .before .step .ensures) (c .before .before .before .before .before .d .given .1) _ (c .before .before .before .match2 .keys7) _ (rw (← c .before .before .operand3 .ensures, ← c .before .operand4 .ensures) (c .is-ordered .ensures)))
+
+  returns-9 : lts.Need-returns-9 (claims t) (given t) reads.Post
+  returns-9 c = let n = c .before .before .before .before .match2 .rest in
+      (omega (arith, step-onward _ _ (c .before .before .before .before .before .before .before .before .step .ensures) (c .before .before .before .before .before .before .d .given .1) .1), value-step _ _ (c .before .before .before .before .before .before .before .before .step .ensures) (c .before .before .before .before .before .before .d .given .1) _ (n .0 .0 .0 .0 .0 .0 .1) (n .0 .0 .0 .0 .0 .1) (n .0 .0 .0 .0 .1) (n .0 .0 .0 .1) (n .0 .0 .1) (n .0 .1) (n .1) _ (rw (← c .before .before .before .operand5 .ensures, ← c .before .set-at .ensures) (c .is-valued .ensures)))
 
 pub +holds-spec : {M : Type 1} → statement M
-+holds-spec = close μ-holds λ t. holds-lts.spec (told t)
-    (holds-at t)
-    holds.Post
-    (holds-returns t)
-    (holds-shared-slice-read-match t)
-    (holds-add-holds t)
-    (holds-holds-requires t)
-    (holds-returns-2 t)
-    (holds-holds-requires-2 t)
-    (holds-returns-3 t)
-    (holds-mul-result t)
-    (holds-add-holds-2 t)
-    (holds-holds-requires-3 t)
-    (holds-returns-4 t)
-    (holds-holds-requires-4 t)
-    (holds-returns-5 t)
-    (holds-returns-6 t)
-    (holds-mul-result-2 t)
-    (holds-add-result t)
-    (holds-add-holds-3 t)
-    (holds-holds-requires-5 t)
-    (holds-returns-7 t)
-    (holds-sub-result t)
-    (holds-returns-8 t)
-    (holds-add-result-2 t)
-    (holds-atom-requires t)
-    (holds-returns-9 t)
-    (holds-returns-10 t)
-    (holds-returns-11 t)
-    (holds-returns-12 t)
++holds-spec = close μ λ t. lts.spec (claims t) (given t) reads.Post
+    (step-requires t)
+    (enum-known-d t)
+    (enum-told t)
+    (returns t)
+    (holds-requires t)
+    (holds-requires-2 t)
+    (and-requires t)
+    (holds-requires-3 t)
+    (holds-requires-4 t)
+    (or-requires t)
+    (holds-requires-5 t)
+    (not-requires t)
+    (operand-requires t)
+    (is-member-requires t)
+    (operand-requires-2 t)
+    (is-member-requires-2 t)
+    (operand-requires-3 t)
+    (operand-requires-4 t)
+    (is-ordered-requires t)
+    (operand-requires-5 t)
+    (add-set-at t)
+    (set-at-requires t)
+    (is-valued-requires t)
+    (returns-2 t)
+    (returns-3 t)
+    (returns-4 t)
+    (returns-5 t)
+    (returns-6 t)
+    (returns-7 t)
+    (returns-8 t)
+    (returns-9 t)

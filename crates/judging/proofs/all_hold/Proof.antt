@@ -2,58 +2,85 @@
 use Prim.Native.Nat.{_-_}
 use native.Mathlib.Omega.{arith}
 use lib.ListN.{length}
+use borrow.Author.Needs.{needs}
+use borrow.Author.Tests.{not-true, not-false}
+use Rattle.commands.proofs.Laws.{past-over, past-other}
 use Rattle.judging.specs.Promises.{tableAtoms}
-use Rattle.judging.proofs.Formulas.{none-left}
-use Rattle.judging.proofs.Shapes.{table-shaped, Meeting, all-met, one-fails, one-more, end-settled}
+use Rattle.judging.proofs.Shapes.{table-shaped, Meeting, all-met, none-more, one-fails, one-more, one-settled, end-settled}
 use Rattle.judging.proofs.all_hold.Statement.{statement}
 use Rattle.judging.proofs.all_hold.Tie as tie
 
 abbrev Inv-loop : tie.InvT-loop
-Inv-loop v from to names strings inside preceding at₀ sure₀ at sure = Meeting (tableAtoms names strings inside preceding) names inside v from at sure
+Inv-loop v to shape strings order place₀ settled₀ place settled = Meeting (tableAtoms shape strings order) shape v (place₀ .at) (place .at) settled
 
 abbrev μ-loop : tie.MeasureT-loop
-μ-loop v from to names strings inside preceding at₀ sure₀ at sure = length v - at
+μ-loop v to shape strings order place₀ settled₀ place settled = length v - place .at
 
 loop-holds : tie.Need-loop-holds Inv-loop μ-loop
 loop-holds c = record { left = λ b h. h; settles = λ B S h. h }
 
+past-requires : tie.Need-past-requires Inv-loop μ-loop
+past-requires c κs = search needs
+
+enum-known-past : tie.Need-enum-known-past Inv-loop μ-loop
+enum-known-past c = search needs
+
+enum-told : tie.Need-enum-told Inv-loop μ-loop
+enum-told c = search needs
+
 returns : tie.Need-returns Inv-loop μ-loop
 returns c =
-    let a = c .before .before .before .before .args in
-    all-met (c .before .before .loop .inv) (table-shaped (a .names) (a .strings .now) (a .inside) (a .preceding .now)) (rw (c .if1 .taken) (c .before .before .before .before .pre))
+    let a = c .before .before .before .before .before .before .before .args in
+    none-more (c .before .before .before .before .before .loop .inv) (table-shaped (a .shape) (a .strings .now) (a .order .now)) (past-other _ _ _ _ (c .before .before .past .ensures) (c .enum-told .given .1) (λ q. omega (arith, q)))
 
-shared-slice-read-if2 : tie.Need-shared-slice-read-if2 Inv-loop μ-loop
-shared-slice-read-if2 c = omega arith
+holds-requires : tie.Need-holds-requires Inv-loop μ-loop
+holds-requires c κs = search needs
 
 returns-2 : tie.Need-returns-2 Inv-loop μ-loop
 returns-2 c =
-    let a = c .before .before .before .before .before .before .args in
-    all-met (c .before .before .before .before .loop .inv) (table-shaped (a .names) (a .strings .now) (a .inside) (a .preceding .now)) (record { met = λ B S. none-left B _ _ (c .if2 .taken) })
+    let a = c .before .before .before .before .before .before .before .before .before .before .before .args in
+    let l = c .before .before .before .before .before .before .before .before .before .loop in
+    let o = past-over _ _ _ _ _ (c .before .before .before .before .before .before .past .ensures) (c .before .before .before .before .past2 .given .1) in
+    let S = table-shaped (a .shape) (a .strings .now) (a .order .now) in
+    let h = c .before .before .holds in
+    (one-fails (l .inv) S (o .1) _ (o .2) (h .result) (h .ensures .1) (not-true _ (c .if2 .taken)), end-settled _ _ _ (omega arith))
 
-add-clause-holds : tie.Need-add-clause-holds Inv-loop μ-loop
-add-clause-holds c = omega arith
-
-clause-holds-requires : tie.Need-clause-holds-requires Inv-loop μ-loop
-clause-holds-requires c κs = tt
-
-returns-3 : tie.Need-returns-3 Inv-loop μ-loop
-returns-3 c = (one-fails (c .before .before .before .before .before .before .before .loop .inv) _ (c .before .before .before .if2 .left) (c .before .clause-holds .ensures .1) (c .if3 .taken), λ h. absurd (omega (arith, h)))
-
-kept-requires : tie.Need-kept-requires Inv-loop μ-loop
-kept-requires c κs = tt
+is-settled-requires : tie.Need-is-settled-requires Inv-loop μ-loop
+is-settled-requires c κs = search needs
 
 loop-less : tie.Need-loop-less Inv-loop μ-loop
-loop-less c = omega (arith, c .before .before .clause-holds .ensures .0 (omega (arith, c .before .if3 .left)), c .before .before .before .before .before .before .before .loop-test .taken)
+loop-less c =
+    let o = past-over _ _ _ _ _ (c .before .before .before .before .before .before .before .before .before .before .past .ensures) (c .before .before .before .before .before .before .before .before .past2 .given .1) in
+    omega (arith, o .0, o .2, c .before .before .before .before .before .before .holds .ensures .0)
 
 loop-again : tie.Need-loop-again Inv-loop μ-loop
 loop-again c =
-    one-more (c .before .before .before .before .before .before .before .before .loop .inv) _ (c .before .before .before .before .if2 .left) (c .before .before .clause-holds .ensures .1) (omega (arith, c .before .if3 .left)) _
-    (c .kept .ensures)
+    let a = c .before .before .before .before .before .before .before .before .before .before .before .before .before .before .before .args in
+    let l = c .before .before .before .before .before .before .before .before .before .before .before .before .before .loop in
+    let o = past-over _ _ _ _ _ (c .before .before .before .before .before .before .before .before .before .before .past .ensures) (c .before .before .before .before .before .before .before .before .past2 .given .1) in
+    let S = table-shaped (a .shape) (a .strings .now) (a .order .now) in
+    let h = c .before .before .before .before .before .before .holds in
+    one-more (l .inv) S (o .1) _ (o .2) (h .result) (h .ensures .1) (not-false _ (c .before .before .before .before .if2 .left))
 
-returns-4 : tie.Need-returns-4 Inv-loop μ-loop
-returns-4 c =
-    let a = c .before .before .before .args in
-    all-met (c .before .loop .inv) (table-shaped (a .names) (a .strings .now) (a .inside) (a .preceding .now)) (end-settled _ _ _ _ (c .loop-test .left))
+loop-less-2 : tie.Need-loop-less-2 Inv-loop μ-loop
+loop-less-2 c =
+    let o = past-over _ _ _ _ _ (c .before .before .before .before .before .before .before .before .before .before .past .ensures) (c .before .before .before .before .before .before .before .before .past2 .given .1) in
+    omega (arith, o .0, o .2, c .before .before .before .before .before .before .holds .ensures .0)
+
+loop-again-2 : tie.Need-loop-again-2 Inv-loop μ-loop
+loop-again-2 c =
+    let a = c .before .before .before .before .before .before .before .before .before .before .before .before .before .before .before .args in
+    let l = c .before .before .before .before .before .before .before .before .before .before .before .before .before .loop in
+    let o = past-over _ _ _ _ _ (c .before .before .before .before .before .before .before .before .before .before .past .ensures) (c .before .before .before .before .before .before .before .before .past2 .given .1) in
+    let S = table-shaped (a .shape) (a .strings .now) (a .order .now) in
+    let h = c .before .before .before .before .before .before .holds in
+    let i = c .before .before .before .is-settled in
+    one-settled (l .inv) S (o .1) _ (o .2) (h .result) (h .ensures .1) (not-false _ (c .before .before .before .before .if2 .left)) (i .result) (i .ensures .1) (not-false _ (c .if3 .left))
+
+returns-3 : tie.Need-returns-3 Inv-loop μ-loop
+returns-3 c =
+    let a = c .before .before .before .before .args in
+    all-met (c .before .before .loop .inv) (table-shaped (a .shape) (a .strings .now) (a .order .now)) (rw (c .if1 .left) (c .before .before .before .before .pre))
 
 pub all-hold-spec : {M : Type 1} → statement M
 all-hold-spec =
@@ -62,13 +89,15 @@ all-hold-spec =
     Inv-loop
     μ-loop
     loop-holds
+    past-requires
+    enum-known-past
+    enum-told
     returns
-    shared-slice-read-if2
+    holds-requires
     returns-2
-    add-clause-holds
-    clause-holds-requires
-    returns-3
-    kept-requires
+    is-settled-requires
     loop-less
     loop-again
-    returns-4)
+    loop-less-2
+    loop-again-2
+    returns-3)

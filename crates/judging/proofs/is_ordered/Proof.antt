@@ -1,10 +1,10 @@
--- Where one of the two does not stand, it stands before or after nothing; otherwise the word at c tells.
-use mathlib.Core.Path.{refl}
+-- Where one of the two does not stand, it stands before or after nothing; otherwise their places tell.
 use mathlib.Core.Bool.{and-false}
 use native.Mathlib.Omega.{arith}
-use Rattle.judging.proofs.WordLaws.{member-small}
-use borrow.Author.Needs.{needs}
+use Rattle.judging.specs.Promises.{firstPlace, lastPlace}
+use Rattle.judging.proofs.WordLaws.{member-small, at-most}
 use borrow.Author.Tests.{not-true, not-false}
+use borrow.Author.Needs.{needs}
 use Rattle.judging.proofs.is_ordered.Statement.{statement}
 use Rattle.judging.proofs.is_ordered.Tie as tie
 
@@ -12,39 +12,46 @@ is-member-requires : tie.Need-is-member-requires
 is-member-requires c κs = search needs
 
 returns : tie.Need-returns
-returns c =
-    let m = c .before .is-member in
-    let n = not-true (m .result) (c .if1 .taken) in
-    (rw (← m .ensures, n), λ z. rw (← m .ensures, n) (z, refl, refl))
+returns c = let m = c .before .is-member in
+    rw (← m .ensures, not-true (m .result) (c .if1 .taken))
 
 is-member-requires-2 : tie.Need-is-member-requires-2
 is-member-requires-2 c κs = search needs
 
 returns-2 : tie.Need-returns-2
-returns-2 c =
-    let m = c .before .is-member2 in
-    let n = not-true (m .result) (c .if2 .taken) in
-    (rw (← m .ensures, n, and-false _), λ z. rw (← m .ensures, n, and-false _) (z, refl, refl))
+returns-2 c = let m = c .before .is-member2 in
+    rw (← m .ensures, not-true (m .result) (c .if2 .taken), and-false _)
 
-mul-is-member : tie.Need-mul-is-member
-mul-is-member c = search needs
+mul-result : tie.Need-mul-result
+mul-result c = search needs
 
-element-copy-out-is-member : tie.Need-element-copy-out-is-member
-element-copy-out-is-member c =
-    let a = c .before .before .before .before .args in
+index-1-result : tie.Need-index-1-result
+index-1-result c =
+    let a = c .before .before .before .before in
     let m = c .before .before .before .is-member in
-    member-small (a .inside) (a .c) (c .before .before .before .before .fits .inside .fits) (rw (← m .ensures) (not-false (m .result) (c .before .before .if1 .left)))
+    member-small (a .args .contents) (a .args .c) (a .fits .contents .fits) (rw (← m .ensures) (not-false (m .result) (c .before .before .if1 .left)))
 
-is-member-requires-3 : tie.Need-is-member-requires-3
-is-member-requires-3 c κs = search needs
+index-2-result : tie.Need-index-2-result
+index-2-result c = search needs
+
+mul-result-2 : tie.Need-mul-result-2
+mul-result-2 c = search needs
+
+index-1-result-2 : tie.Need-index-1-result-2
+index-1-result-2 c =
+    let a = c .before .before .before .before .before in
+    let m = c .before .before .is-member2 in
+    member-small (a .args .contents) (a .args .d) (a .fits .contents .fits) (rw (← m .ensures) (not-false (m .result) (c .before .if2 .left)))
+
+index-2-result-2 : tie.Need-index-2-result-2
+index-2-result-2 c = search needs
 
 returns-3 : tie.Need-returns-3
 returns-3 c =
+    let a = c .before .before .before .before .before .before .args in
     let m = c .before .before .before .before .before .is-member in
-    let m′ = c .before .before .before .is-member2 in (
-      rw (← m .ensures, not-false (m .result) (c .before .before .before .before .if1 .left), ← m′ .ensures, not-false (m′ .result) (c .before .before .if2 .left), c .is-member3 .ensures),
-      λ z. absurd (omega (arith, z)),
-    )
+    let m′ = c .before .before .before .is-member2 in
+    rw (← m .ensures, not-false (m .result) (c .before .before .before .before .if1 .left), ← m′ .ensures, not-false (m′ .result) (c .before .before .if2 .left)) (at-most (lastPlace (a .order .now) (a .c)) (firstPlace (a .order .now) (a .d)))
 
 pub is-ordered-spec : {M : Type 1} → statement M
 is-ordered-spec =
@@ -54,7 +61,10 @@ is-ordered-spec =
     returns
     is-member-requires-2
     returns-2
-    mul-is-member
-    element-copy-out-is-member
-    is-member-requires-3
+    mul-result
+    index-1-result
+    index-2-result
+    mul-result-2
+    index-1-result-2
+    index-2-result-2
     returns-3)

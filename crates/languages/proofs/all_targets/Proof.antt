@@ -2,28 +2,23 @@
 use Prim.Native.Nat.{_-_}
 use mathlib.Core.Path.{refl}
 use mathlib.Core.Logic.{inl, inr}
-use Rattle.languages.proofs.RoundLaws.{TableTo, table-none, table-more, table-all}
+use Rattle.languages.specs.Promises.{Targets}
+use Rattle.languages.proofs.GapSets.{FilledTo, filled-none, filled-more, filled-up}
 use borrow.Author.Needs.{needs}
 use Rattle.languages.proofs.all_targets.Statement.{statement}
 use Rattle.languages.proofs.all_targets.Tie as tie
 
 abbrev Inv-loop : tie.InvT-loop
-Inv-loop words gaps count table₀ n₀ table n = TableTo words gaps table n
+Inv-loop graph count table₀ n₀ table n = FilledTo 32 0 (Targets graph) table n
 
 abbrev μ-loop : tie.MeasureT-loop
-μ-loop words gaps count table₀ n₀ table n = 32 - n
+μ-loop graph count table₀ n₀ table n = 32 - n
 
 loop-holds : tie.Need-loop-holds Inv-loop μ-loop
-loop-holds c = table-none _ _ _ refl
+loop-holds c = filled-none _ _ _ _ refl
 
 returns : tie.Need-returns Inv-loop μ-loop
-returns c = table-all _ _ _ _ _ (inl (c .if1 .taken)) (c .before .before .loop .inv)
-
-mul-targets : tie.Need-mul-targets Inv-loop μ-loop
-mul-targets c = search needs
-
-element-copy-out-targets : tie.Need-element-copy-out-targets Inv-loop μ-loop
-element-copy-out-targets c = search needs
+returns c = filled-up _ _ _ _ _ _ (inl (c .if1 .taken)) (c .before .before .loop .inv)
 
 targets-requires : tie.Need-targets-requires Inv-loop μ-loop
 targets-requires c κs = search needs
@@ -42,11 +37,11 @@ loop-less c = search needs
 
 loop-again : tie.Need-loop-again Inv-loop μ-loop
 loop-again c =
-    let l = c .before .before .before .before .loop in
-    table-more _ _ (l .table) (l .n) _ (c .before .before .before .loop-test .taken) (c .targets .ensures) (l .inv)
+    let l = c .before .before .before .loop in
+    filled-more _ _ _ (l .table) (l .n) _ (c .before .before .loop-test .taken) (c .targets .ensures) (l .inv)
 
 returns-2 : tie.Need-returns-2 Inv-loop μ-loop
-returns-2 c = table-all _ _ _ _ _ (inr (c .loop-test .left)) (c .before .loop .inv)
+returns-2 c = filled-up _ _ _ _ _ _ (inr (c .loop-test .left)) (c .before .loop .inv)
 
 pub all-targets-spec : {M : Type 1} → statement M
 all-targets-spec =
@@ -56,8 +51,6 @@ all-targets-spec =
     μ-loop
     loop-holds
     returns
-    mul-targets
-    element-copy-out-targets
     targets-requires
     mul-table
     array-write-table

@@ -1,17 +1,71 @@
--- Every gap is among them.
-use Rattle.languages.proofs.LineLaws.{all-gaps}
+-- The gaps before the loop's have their rows.
+use Prim.Native.Nat.{_-_}
+use mathlib.Core.Path.{refl}
+use mathlib.Core.List.{[]}
+use Rattle.languages.proofs.GapSets.{FilledTo, filled-none, filled-more, GapRow, gap-sets-are}
 use borrow.Author.Needs.{needs}
 use Rattle.languages.proofs.gaps_from.Statement.{statement}
 use Rattle.languages.proofs.gaps_from.Tie as tie
 
-slice-aggregate-own-gaps-from : tie.Need-slice-aggregate-own-gaps-from
-slice-aggregate-own-gaps-from c = search needs
+abbrev Inv-loop : tie.InvT-loop
+Inv-loop graph sets n takes₀ g₀ takes g = FilledTo 8 [] (GapRow graph n sets) takes g
 
-own-gaps-from-requires : tie.Need-own-gaps-from-requires
-own-gaps-from-requires c κs = search needs
+abbrev μ-loop : tie.MeasureT-loop
+μ-loop graph sets n takes₀ g₀ takes g = 8 - g
 
-returns : tie.Need-returns
-returns c φs G M X small bounded keeps are g low = c .before .own-gaps-from .ensures φs G M X small bounded keeps are .gap-set g low (all-gaps g low)
+loop-holds : tie.Need-loop-holds Inv-loop μ-loop
+loop-holds c = filled-none _ _ _ _ refl
+
+cast-edges : tie.Need-cast-edges Inv-loop μ-loop
+cast-edges c = search needs
+
+edges-requires : tie.Need-edges-requires Inv-loop μ-loop
+edges-requires c κs = search needs
+
+union-of-requires : tie.Need-union-of-requires Inv-loop μ-loop
+union-of-requires c κs = search needs
+
+cast-takes : tie.Need-cast-takes Inv-loop μ-loop
+cast-takes c = search needs
+
+mul-takes : tie.Need-mul-takes Inv-loop μ-loop
+mul-takes c = search needs
+
+array-set-from-takes : tie.Need-array-set-from-takes Inv-loop μ-loop
+array-set-from-takes c = search needs
+
+add-g : tie.Need-add-g Inv-loop μ-loop
+add-g c = search needs
+
+loop-less : tie.Need-loop-less Inv-loop μ-loop
+loop-less c = search needs
+
+loop-again : tie.Need-loop-again Inv-loop μ-loop
+loop-again c =
+    let l = c .before .before .before .loop in
+    let low = c .before .before .loop-test .taken in
+    filled-more _ _ _ (l .takes) (l .g) _ low
+    (record { templates = c .before .edges .result; edges = c .before .edges .ensures (c .before .before .before .before .pre) low; union = c .union-of .ensures }) (l .inv)
+
+returns : tie.Need-returns Inv-loop μ-loop
+returns c =
+    let l = c .before .loop in
+    gap-sets-are _ _ _ _ (c .before .before .pre) _ (l .inv) (c .loop-test .left)
 
 pub gaps-from-spec : {M : Type 1} → statement M
-gaps-from-spec = tie.close (tie.spec slice-aggregate-own-gaps-from own-gaps-from-requires returns)
+gaps-from-spec =
+    tie.close
+    (tie.spec
+    Inv-loop
+    μ-loop
+    loop-holds
+    cast-edges
+    edges-requires
+    union-of-requires
+    cast-takes
+    mul-takes
+    array-set-from-takes
+    add-g
+    loop-less
+    loop-again
+    returns)

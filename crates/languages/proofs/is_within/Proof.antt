@@ -1,5 +1,5 @@
 -- The difference is empty, or has a pattern.
-use Rattle.languages.proofs.RoundLaws.{tells-within}
+use Rattle.languages.proofs.Settling.{tells-within}
 use borrow.Author.Needs.{needs}
 use Rattle.languages.proofs.is_within.Statement.{statement}
 use Rattle.languages.proofs.is_within.Tie as tie

@@ -1,47 +1,46 @@
--- The rows before the loop's are copied.
-use Prim.Native.Nat.{_-_}
-use mathlib.Core.Path.{refl}
-use mathlib.Core.Logic.{inl, inr}
-use Rattle.languages.proofs.RoundLaws.{CopiedTo, copied-none, copied-more, copied-all}
+-- The sets are those of a round, which changed some of them; until a round changes nothing.
+use native.Mathlib.Omega.{arith}
+use Rattle.languages.proofs.Settling.{SettlingTo, settling-begins, settling-goes, settled-first, left, less-left, no-sets}
 use borrow.Author.Needs.{needs}
 use Rattle.languages.proofs.settle.Statement.{statement}
 use Rattle.languages.proofs.settle.Tie as tie
 
 abbrev Inv-loop : tie.InvT-loop
-Inv-loop s words gaps lone starts count rows sets₀ n₀ sets n = CopiedTo rows sets n
+Inv-loop s r graph starts count rounds targets sets₀ changed₀ made₀ sets changed made = SettlingTo r s graph starts count sets changed made
 
 abbrev μ-loop : tie.MeasureT-loop
-μ-loop s words gaps lone starts count rows sets₀ n₀ sets n = 32 - n
+μ-loop s r graph starts count rounds targets sets₀ changed₀ made₀ sets changed made = left count sets changed
 
-settled-rows-requires : tie.Need-settled-rows-requires Inv-loop μ-loop
-settled-rows-requires c κs = search needs
+all-targets-requires : tie.Need-all-targets-requires Inv-loop μ-loop
+all-targets-requires c κs = search needs
+
+with-requires : tie.Need-with-requires Inv-loop μ-loop
+with-requires c κs = search needs
 
 loop-holds : tie.Need-loop-holds Inv-loop μ-loop
-loop-holds c = copied-none _ _ refl
+loop-holds c = settling-begins _ _ _ _ _ _ _ (no-sets 32) (c .with .ensures 63)
 
-returns : tie.Need-returns Inv-loop μ-loop
-returns c φs G M X shown gaps-are lone-are counted ex = copied-all _ _ _ _ (inl (c .if1 .taken)) (c .before .before .loop .inv) φs M X (shown .few) counted (c .before .before .before .settled-rows .ensures φs G M X shown gaps-are lone-are counted ex)
+round-requires : tie.Need-round-requires Inv-loop μ-loop
+round-requires c κs = search needs
 
-row-at-requires : tie.Need-row-at-requires Inv-loop μ-loop
-row-at-requires c κs = search needs
+grown-requires : tie.Need-grown-requires Inv-loop μ-loop
+grown-requires c κs = search needs
 
-mul-sets : tie.Need-mul-sets Inv-loop μ-loop
-mul-sets c = search needs
-
-array-set-from-sets : tie.Need-array-set-from-sets Inv-loop μ-loop
-array-set-from-sets c = search needs
-
-add-n : tie.Need-add-n Inv-loop μ-loop
-add-n c = search needs
+add-made : tie.Need-add-made Inv-loop μ-loop
+add-made c = omega (arith, c .before .before .before .before .before .before .before .loop .inv .bound)
 
 loop-less : tie.Need-loop-less Inv-loop μ-loop
-loop-less c = search needs
+loop-less c = less-left _ _ _ _ _ (c .before .before .before .before .before .before .loop-test .taken) (c .grown .ensures)
 
 loop-again : tie.Need-loop-again Inv-loop μ-loop
-loop-again c = copied-more _ _ _ _ (c .before .before .before .loop-test .taken) (c .row-at .ensures) (c .before .before .before .before .loop .inv)
+loop-again c =
+    let l = c .before .before .before .before .before .before .before .loop in
+    let g = c .before .before .before .before .before .before .before .before .before .all-targets in
+    let n = c .before .before .before .round in
+    settling-goes _ _ _ _ _ (g .result) (g .ensures) (l .sets) (l .changed) (l .made) (c .before .before .before .before .before .before .loop-test .taken) (l .inv) (n .result) (n .ensures) _ (c .grown .ensures)
 
-returns-2 : tie.Need-returns-2 Inv-loop μ-loop
-returns-2 c φs G M X shown gaps-are lone-are counted ex = copied-all _ _ _ _ (inr (c .loop-test .left)) (c .before .loop .inv) φs M X (shown .few) counted (c .before .before .settled-rows .ensures φs G M X shown gaps-are lone-are counted ex)
+returns : tie.Need-returns Inv-loop μ-loop
+returns c = settled-first _ _ _ _ _ _ _ _ (c .loop-test .left) (c .before .loop .inv)
 
 pub settle-spec : {M : Type 1} → statement M
 settle-spec =
@@ -49,13 +48,12 @@ settle-spec =
     (tie.spec
     Inv-loop
     μ-loop
-    settled-rows-requires
+    all-targets-requires
+    with-requires
     loop-holds
-    returns
-    row-at-requires
-    mul-sets
-    array-set-from-sets
-    add-n
+    round-requires
+    grown-requires
+    add-made
     loop-less
     loop-again
-    returns-2)
+    returns)

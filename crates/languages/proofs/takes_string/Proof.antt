@@ -1,5 +1,5 @@
--- Any string, or one of the named ones.
-use Rattle.languages.proofs.AttributeLaws.{any-taken, named-taken}
+-- What the gap can take is not empty.
+use Rattle.languages.proofs.AttributeGaps.{some-taken}
 use borrow.Author.Needs.{needs}
 use Rattle.languages.proofs.takes_string.Statement.{statement}
 use Rattle.languages.proofs.takes_string.Tie as tie
@@ -10,11 +10,11 @@ cast-strings-at c = search needs
 strings-at-requires : tie.Need-strings-at-requires
 strings-at-requires c κs = search needs
 
-returns : tie.Need-returns
-returns c G keeps low = any-taken _ _ _ _ (c .before .strings-at .ensures (search needs) low) (search needs) G keeps low (c .if1 .taken)
+is-empty-requires : tie.Need-is-empty-requires
+is-empty-requires c κs = search needs
 
-returns-2 : tie.Need-returns-2
-returns-2 c G keeps low = named-taken _ _ _ _ (c .before .before .strings-at .ensures (search needs) low) (search needs) G keeps low (c .before .if1 .left) (search needs)
+returns : tie.Need-returns
+returns c G keeps low = some-taken _ _ _ (c .before .strings-at .result) (c .before .strings-at .ensures (search needs) low) (search needs) (c .is-empty .result) (c .is-empty .ensures) G keeps low
 
 pub takes-string-spec : {M : Type 1} → statement M
-takes-string-spec = tie.close (tie.spec cast-strings-at strings-at-requires returns returns-2)
+takes-string-spec = tie.close (tie.spec cast-strings-at strings-at-requires is-empty-requires returns)

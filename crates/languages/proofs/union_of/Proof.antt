@@ -7,10 +7,10 @@ use Rattle.languages.proofs.union_of.Statement.{statement}
 use Rattle.languages.proofs.union_of.Tie as tie
 
 abbrev Inv-loop : tie.InvT-loop
-Inv-loop templates rows set₀ m₀ set m = UnionTo templates rows m set
+Inv-loop templates sets set₀ m₀ set m = UnionTo templates sets m set
 
 abbrev μ-loop : tie.MeasureT-loop
-μ-loop templates rows set₀ m₀ set m = 64 - m
+μ-loop templates sets set₀ m₀ set m = 64 - m
 
 empty-requires : tie.Need-empty-requires Inv-loop μ-loop
 empty-requires c κs = search needs
@@ -21,11 +21,14 @@ first-member-requires c κs = search needs
 loop-holds : tie.Need-loop-holds Inv-loop μ-loop
 loop-holds c = union-none _ _ _ _ (c .first-member .ensures) (c .before .empty .ensures)
 
-cast-row-at : tie.Need-cast-row-at Inv-loop μ-loop
-cast-row-at c = search needs
+cast-row : tie.Need-cast-row Inv-loop μ-loop
+cast-row c = search needs
 
-row-at-requires : tie.Need-row-at-requires Inv-loop μ-loop
-row-at-requires c κs = search needs
+mul-row : tie.Need-mul-row Inv-loop μ-loop
+mul-row c = search needs
+
+element-copy-out-row : tie.Need-element-copy-out-row Inv-loop μ-loop
+element-copy-out-row c = search needs
 
 union-requires : tie.Need-union-requires Inv-loop μ-loop
 union-requires c κs = search needs
@@ -42,7 +45,7 @@ loop-less c = omega (arith, c .first-member2 .ensures .after)
 loop-again : tie.Need-loop-again Inv-loop μ-loop
 loop-again c =
     let l = c .before .before .before .before .loop in
-    union-more _ _ (l .m) _ (l .set) _ (c .before .before .before .loop-test .taken) (c .first-member2 .ensures) (rw (c .before .before .row-at .ensures) at (c .before .union .ensures)) (l .inv)
+    union-more _ _ (l .m) _ (l .set) _ (c .before .before .before .loop-test .taken) (c .first-member2 .ensures) (c .before .union .ensures) (l .inv)
 
 returns : tie.Need-returns Inv-loop μ-loop
 returns c = union-all _ _ _ _ (c .loop-test .left) (c .before .loop .inv)
@@ -56,8 +59,9 @@ union-of-spec =
     empty-requires
     first-member-requires
     loop-holds
-    cast-row-at
-    row-at-requires
+    cast-row
+    mul-row
+    element-copy-out-row
     union-requires
     add-first-member
     first-member-requires-2

@@ -15,7 +15,7 @@ use Rattle.commands.proofs.Laws.{moved}
 use Rattle.vocabularies.specs.Vocabulary.{isIn}
 use Rattle.pages.specs.declared.Kind.{Kind}
 use Rattle.pages.specs.ItemReading.{attributeContext}
-use Rattle.vocabularies.specs.Promises.{partOf}
+use Rattle.commands.specs.Parts.{partOf}
 use Rattle.pages.specs.Promises.{AttributesRead}
 use Rattle.pages.proofs.Laws.{attribute-range}
 use Rattle.pages.proofs.Agreement.{attributes-end, attributes-refused, attributes-twice, attributes-next, string-permitted}
@@ -49,15 +49,15 @@ reads-on : (c : tie.After-known-told Inv-loop μ-loop)
     → (c .before .before .before .before .before .before .before .loop .p .at < c .before .d .given .0 .1 .0 .at) × (c .before .d .given .0 .1 .0 .at ≤ length (c .before .before .before .before .before .before .before .before .before .before .args .s .now))
 reads-on c = let m = moved _ _ _ _ _ (stands c) in (m .forward, m .inside)
 
-in-range : (c : tie.After-byte-at2 Inv-loop μ-loop) → c .byte-at2 .result < 64
+in-range : (c : tie.After-operand Inv-loop μ-loop) → c .operand .result < 64
 in-range c =
-    let most = attribute-range (c .before .before .before .before .before .before .before .before .before .before .before .before .args .kind) _ _ _ _ (rw (c .before .before .before .before .before .before .before .before .before .before .attribute-context .ensures) at (stands (c .before .before))) in
-    omega (arith, c .byte-at2 .ensures)
+    let most = attribute-range (c .before .before .before .before .before .before .before .before .before .before .before .args .kind) _ _ _ _ (rw (c .before .before .before .before .before .before .before .before .before .attribute-context .ensures) at (stands (c .before))) in
+    omega (arith, c .operand .ensures)
 
 -- The name was seen, or it was not.
 found : (c : tie.After-has Inv-loop μ-loop)
-    → isIn (byte (c .before .before .before .before .before .before .before .before .before .before .before .before .before .args .s .now) (c .before .before .before .before .before .before .before .before .before .before .loop .p .at + 1)) (c .before .before .before .before .before .before .before .before .before .before .loop .inv .0) ≡ c .has .result
-found c = rw (← c .before .byte-at2 .ensures) (sym (c .before .before .before .before .before .before .before .before .before .before .loop .inv .1 (c .before .byte-at2 .result)) ∙ sym (c .has .ensures))
+    → isIn (byte (c .before .before .before .before .before .before .before .before .before .before .before .before .args .s .now) (c .before .before .before .before .before .before .before .before .before .loop .p .at + 1)) (c .before .before .before .before .before .before .before .before .before .loop .inv .0) ≡ c .has .result
+found c = rw (← c .before .operand .ensures) (sym (c .before .before .before .before .before .before .before .before .before .loop .inv .1 (c .before .operand .result)) ∙ sym (c .has .ensures))
 
 attribute-context-requires : tie.Need-attribute-context-requires Inv-loop μ-loop
 attribute-context-requires c κs = search needs
@@ -81,46 +81,43 @@ enum-known-d c = search needs
 enum-told : tie.Need-enum-told Inv-loop μ-loop
 enum-told c = search needs
 
-part-of-requires : tie.Need-part-of-requires Inv-loop μ-loop
-part-of-requires c κs = search needs
+part-requires : tie.Need-part-requires Inv-loop μ-loop
+part-requires c κs = search needs
 
 returns : tie.Need-returns Inv-loop μ-loop
 returns c =
     let told = c .before .enum-told .given in
     let context = c .before .before .before .before .before .before .before .before .attribute-context in
     c .before .before .before .before .before .before .before .loop .inv .2 _ (context .ensures) _
-    (attributes-refused _ (context .result) (context .ensures) _ _ _ (permitted (c .before .before .before .before)) (told .0 .0) (told .0 .1 .0) _ (sym (c .before .before .before .attribute-command .ensures) ∙ told .1) (c .part-of .ensures ∙ ap partOf (told .1)))
+    (attributes-refused _ (context .result) (context .ensures) _ _ _ (permitted (c .before .before .before .before)) (told .0 .0) (told .0 .1 .0) _ (sym (c .before .before .before .attribute-command .ensures) ∙ told .1) (c .part .ensures ∙ ap partOf (told .1)))
 
-add-byte-at : tie.Need-add-byte-at Inv-loop μ-loop
-add-byte-at c = omega (arith, reads-on (c .before))
-
-byte-at-requires-2 : tie.Need-byte-at-requires-2 Inv-loop μ-loop
-byte-at-requires-2 c κs = search needs
+operand-requires : tie.Need-operand-requires Inv-loop μ-loop
+operand-requires c κs = search needs
 
 has-requires : tie.Need-has-requires Inv-loop μ-loop
 has-requires c κs = in-range c
 
 returns-2 : tie.Need-returns-2 Inv-loop μ-loop
 returns-2 c =
-    let context = c .before .before .before .before .before .before .before .before .before .before .before .before .attribute-context in
-    c .before .before .before .before .before .before .before .before .before .before .before .loop .inv .2 _ (context .ensures) _
-    (attributes-twice _ (context .result) (context .ensures) _ _ _ (permitted (c .before .before .before .before .before .before .before .before)) _ _ (stands (c .before .before .before .before)) (found (c .before) ∙ c .if2 .taken))
+    let context = c .before .before .before .before .before .before .before .before .before .before .before .attribute-context in
+    c .before .before .before .before .before .before .before .before .before .before .loop .inv .2 _ (context .ensures) _
+    (attributes-twice _ (context .result) (context .ensures) _ _ _ (permitted (c .before .before .before .before .before .before .before)) _ _ (stands (c .before .before .before)) (found (c .before) ∙ c .if2 .taken))
 
 with-requires : tie.Need-with-requires Inv-loop μ-loop
 with-requires c κs = in-range (c .before .before)
 
 loop-less : tie.Need-loop-less Inv-loop μ-loop
-loop-less c = omega (arith, reads-on (c .before .before .before .before .before))
+loop-less c = omega (arith, reads-on (c .before .before .before .before))
 
 loop-again : tie.Need-loop-again Inv-loop μ-loop
 unfolding isIn
 loop-again c =
-    let name = c .before .before .before .byte-at2 in
-    let inv = c .before .before .before .before .before .before .before .before .before .before .before .before .loop .inv in (
-      byte (c .before .before .before .before .before .before .before .before .before .before .before .before .before .before .before .args .s .now) (c .before .before .before .before .before .before .before .before .before .before .before .before .loop .p .at + 1) ∷ inv .0,
+    let name = c .before .before .before .operand in
+    let inv = c .before .before .before .before .before .before .before .before .before .before .before .loop .inv in (
+      byte (c .before .before .before .before .before .before .before .before .before .before .before .before .before .before .args .s .now) (c .before .before .before .before .before .before .before .before .before .before .before .loop .p .at + 1) ∷ inv .0,
       λ a. c .with .ensures a ∙ rw (name .ensures, inv .1 a),
       λ k is r h. inv .2 k is r
-          (attributes-next k (c .before .before .before .before .before .before .before .before .before .before .before .before .before .attribute-context .result) is _ _ _ (permitted (c .before .before .before .before .before .before .before .before .before)) _ _ (stands (c .before .before .before .before .before)) r (found (c .before .before) ∙ c .before .if2 .left) h),
+          (attributes-next k (c .before .before .before .before .before .before .before .before .before .before .before .before .attribute-context .result) is _ _ _ (permitted (c .before .before .before .before .before .before .before .before)) _ _ (stands (c .before .before .before .before)) r (found (c .before .before) ∙ c .before .if2 .left) h),
     )
 
 returns-3 : tie.Need-returns-3 Inv-loop μ-loop
@@ -141,10 +138,9 @@ read-attributes-spec =
     attribute-command-requires
     enum-known-d
     enum-told
-    part-of-requires
+    part-requires
     returns
-    add-byte-at
-    byte-at-requires-2
+    operand-requires
     has-requires
     returns-2
     with-requires

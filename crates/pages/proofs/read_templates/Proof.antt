@@ -10,7 +10,7 @@ use Rattle.commands.specs.declared.Decoded.the-variants.{Moved}
 use Rattle.commands.specs.Commands.{command}
 use Rattle.commands.proofs.Laws.{moved}
 use Rattle.pages.specs.declared.Kind.the-variants.{Template}
-use Rattle.vocabularies.specs.Promises.{partOf}
+use Rattle.commands.specs.Parts.{partOf}
 use Rattle.pages.proofs.Trees.{TreeRead, tree-read}
 use Rattle.pages.proofs.TemplateAgreement.{templates-refused, templates-end, templates-many, template-refused, TemplatesDone, done-none, done-more}
 use Rattle.pages.proofs.read_templates.Statement.{statement}
@@ -49,8 +49,8 @@ enum-known-d c = search needs
 enum-told : tie.Need-enum-told Inv-loop μ-loop
 enum-told c = search needs
 
-part-of-requires : tie.Need-part-of-requires Inv-loop μ-loop
-part-of-requires c κs = search needs
+part-requires : tie.Need-part-requires Inv-loop μ-loop
+part-requires c κs = search needs
 
 new-requires : tie.Need-new-requires Inv-loop μ-loop
 new-requires c κs = search needs
@@ -60,7 +60,7 @@ returns c =
     let told = c .before .before .enum-told .given in
     let inv = c .before .before .before .before .before .loop .inv in
     inv .goes _ (templates-refused _ _ (inv .done) _ _ (c .new .result) (told .0 .0) (told .0 .1 .0) (sym (c .before .before .before .before .command .ensures) ∙ told .1)
-    (c .new .ensures .0 ∙ c .before .part-of .ensures ∙ ap partOf (told .1)))
+    (c .new .ensures .0 ∙ c .before .part .ensures ∙ ap partOf (told .1)))
 
 new-requires-2 : tie.Need-new-requires-2 Inv-loop μ-loop
 new-requires-2 c κs = search needs
@@ -121,7 +121,7 @@ read-templates-spec =
     command-requires
     enum-known-d
     enum-told
-    part-of-requires
+    part-requires
     new-requires
     returns
     new-requires-2

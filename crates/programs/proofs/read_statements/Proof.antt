@@ -33,8 +33,8 @@ enum-known-d c = search needs
 enum-told : tie.Need-enum-told Inv-loop μ-loop
 enum-told c = search needs
 
-part-of-requires : tie.Need-part-of-requires Inv-loop μ-loop
-part-of-requires c κs = search needs
+part-requires : tie.Need-part-requires Inv-loop μ-loop
+part-requires c κs = search needs
 
 returns : tie.Need-returns Inv-loop μ-loop
 returns c = c .before .before .before .before .loop .inv .2 _ (record { same = λ i l. refl }) (search refused-here)
@@ -53,8 +53,11 @@ mul-places c = let l = stands c .few in omega arith
 array-write-places : tie.Need-array-write-places Inv-loop μ-loop
 array-write-places c = stands c .few
 
+statement-at-requires : tie.Need-statement-at-requires Inv-loop μ-loop
+statement-at-requires c κs = search needs
+
 named-by-requires : tie.Need-named-by-requires Inv-loop μ-loop
-named-by-requires c κs = in-range _ _ _ _ _ _ (stands c)
+named-by-requires c κs = in-range _ _ _ _ _ _ (stands (c .before)) (c .statement-at .result) (c .statement-at .ensures)
 
 union-requires : tie.Need-union-requires Inv-loop μ-loop
 union-requires c κs = search needs
@@ -63,15 +66,15 @@ add-count : tie.Need-add-count Inv-loop μ-loop
 add-count c = search needs
 
 loop-less : tie.Need-loop-less Inv-loop μ-loop
-loop-less c = fewer-left _ _ _ _ _ (stands (c .before .before) .read)
+loop-less c = fewer-left _ _ _ _ _ (stands (c .before .before .before) .read)
 
 loop-again : tie.Need-loop-again Inv-loop μ-loop
 loop-again c = (
-  let l = stands (c .before .before) .few in omega arith,
-  simp length-set (c .before .before .before .before .before .before .before .loop .inv .1),
-  λ r k h. c .before .before .before .before .before .before .before .loop .inv .2 r (stay-below _ _ _ (c .before .before .before .before .before .before .before .loop .places) _ (omega arith) k)
-      (goes-on _ _ _ _ _ _ (stands (c .before .before)) _ _ _ _ (c .before .before .before .before .before .before .before .loop .places) (c .before .before .before .before .before .before .statement-here .ensures) (c .before .before .before .before .d .given .1) (c .before .before .if1 .left)
-      (c .before .named-by .ensures) (c .union .ensures) (c .before .before .before .before .before .before .before .loop .inv .1) r k h),
+  let l = stands (c .before .before .before) .few in omega arith,
+  simp length-set (c .before .before .before .before .before .before .before .before .loop .inv .1),
+  λ r k h. c .before .before .before .before .before .before .before .before .loop .inv .2 r (stay-below _ _ _ (c .before .before .before .before .before .before .before .before .loop .places) _ (omega arith) k)
+      (goes-on _ _ _ _ _ _ (stands (c .before .before .before)) _ _ _ _ (c .before .before .before .before .before .before .before .before .loop .places) (c .before .before .before .before .before .before .before .statement-here .ensures) (c .before .before .before .before .before .d .given .1) (c .before .before .before .if1 .left)
+      (c .before .before .statement-at .result) (c .before .before .statement-at .ensures) (c .before .named-by .ensures) (c .union .ensures) (c .before .before .before .before .before .before .before .before .loop .inv .1) r k h),
 )
 
 pub read-statements-spec : {M : Type 1} → statement M
@@ -84,11 +87,12 @@ read-statements-spec =
     statement-here-requires
     enum-known-d
     enum-told
-    part-of-requires
+    part-requires
     returns
     returns-2
     mul-places
     array-write-places
+    statement-at-requires
     named-by-requires
     union-requires
     add-count

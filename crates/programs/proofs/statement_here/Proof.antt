@@ -22,8 +22,11 @@ returns c = search here-refused
 returns-2 : tie.Need-returns-2
 returns-2 c = search here-ends
 
-templates-there-requires : tie.Need-templates-there-requires
-templates-there-requires c κs = search needs
+statement-at-requires : tie.Need-statement-at-requires
+statement-at-requires c κs = search needs
+
+template-there-requires : tie.Need-template-there-requires
+template-there-requires c κs = search needs
 
 returns-3 : tie.Need-returns-3
 returns-3 c = search here-missing
@@ -44,7 +47,8 @@ statement-here-spec =
     enum-told
     returns
     returns-2
-    templates-there-requires
+    statement-at-requires
+    template-there-requires
     returns-3
     returns-4
     returns-5)

@@ -25,11 +25,17 @@ mul-at c = search needs
 array-read-at : tie.Need-array-read-at Inv-loop μ-loop
 array-read-at c = search needs
 
+new-requires : tie.Need-new-requires Inv-loop μ-loop
+new-requires c κs = search needs
+
+statement-at-requires : tie.Need-statement-at-requires Inv-loop μ-loop
+statement-at-requires c κs = search needs
+
 points-there-requires : tie.Need-points-there-requires Inv-loop μ-loop
 points-there-requires c κs = search needs
 
 returns : tie.Need-returns Inv-loop μ-loop
-returns c = strays-here (c .before .before .before .before .before .args .s .now) _ _ _ _ (c .before .before .before .loop .inv .1) (c .before .before .loop-test .taken) (omega arith) _ (c .before .points-there .ensures) (c .if1 .taken)
+returns c = strays-here (c .before .before .before .before .before .before .before .args .s .now) _ _ _ _ (c .before .before .before .before .before .loop .inv .1) (c .before .before .before .before .loop-test .taken) (omega arith) (c .before .before .statement-at .result) (rw (c .before .before .before .new .ensures) at (c .before .before .statement-at .ensures)) _ (c .before .points-there .ensures) (c .if1 .taken)
 
 add-i : tie.Need-add-i Inv-loop μ-loop
 add-i c = search needs
@@ -38,7 +44,7 @@ loop-less : tie.Need-loop-less Inv-loop μ-loop
 loop-less c = search needs
 
 loop-again : tie.Need-loop-again Inv-loop μ-loop
-loop-again c = (omega arith, strays-on (c .before .before .before .before .before .args .s .now) _ _ _ _ (c .before .before .before .loop .inv .1) (c .before .before .loop-test .taken) (omega arith) _ (c .before .points-there .ensures) (c .if1 .left))
+loop-again c = (omega arith, strays-on (c .before .before .before .before .before .before .before .args .s .now) _ _ _ _ (c .before .before .before .before .before .loop .inv .1) (c .before .before .before .before .loop-test .taken) (omega arith) (c .before .before .statement-at .result) (rw (c .before .before .before .new .ensures) at (c .before .before .statement-at .ensures)) _ (c .before .points-there .ensures) (c .if1 .left))
 
 returns-2 : tie.Need-returns-2 Inv-loop μ-loop
 returns-2 c = strays-nowhere (c .before .before .before .args .s .now) _ (c .before .before .before .args .count) (c .before .loop .i) _ (c .before .loop .inv .1) (omega arith)
@@ -52,6 +58,8 @@ strayed-spec =
     loop-holds
     mul-at
     array-read-at
+    new-requires
+    statement-at-requires
     points-there-requires
     returns
     add-i

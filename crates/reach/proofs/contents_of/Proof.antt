@@ -9,10 +9,10 @@ use Rattle.reach.proofs.contents_of.Statement.{statement}
 use Rattle.reach.proofs.contents_of.Tie as tie
 
 abbrev Inv-loop : tie.InvT-loop
-Inv-loop words contents gaps count yields targets table₀ n₀ table n = (n ≤ 32) × Filled (λ i w. LedContents i targets contents yields w) 32 n table
+Inv-loop graph contents gaps count yields targets table₀ n₀ table n = (n ≤ 32) × Filled (λ i w. LedContents i targets contents yields w) 32 n table
 
 abbrev μ-loop : tie.MeasureT-loop
-μ-loop words contents gaps count yields targets table₀ n₀ table n = 32 - n
+μ-loop graph contents gaps count yields targets table₀ n₀ table n = 32 - n
 
 edge-table-requires : tie.Need-edge-table-requires Inv-loop μ-loop
 edge-table-requires c κs = search needs
@@ -23,7 +23,7 @@ loop-holds c = (omega arith, filled-zeros _ 32 0 (λ i h. absurd (omega arith)))
 returns : tie.Need-returns Inv-loop μ-loop
 returns c = λ φs G kept outlines exact C is n k h.
     let a = c .before .before .before .before .args in
-    contents-same φs G (a .words .now) (a .contents .now) (a .gaps .now) (a .count) (a .yields) kept outlines exact (c .before .before .before .edge-table .result)
+    contents-same φs G (a .graph .now) (a .contents .now) (a .gaps .now) (a .count) (a .yields) kept outlines exact (c .before .before .before .edge-table .result)
     (c .before .before .before .edge-table .ensures G (kept .keeps)) (c .before .before .loop .table) (λ i l. c .before .before .loop .inv .1 .below i (omega arith)) C is n k h
 
 cast-contents-at : tie.Need-cast-contents-at Inv-loop μ-loop
@@ -56,7 +56,7 @@ returns-2 : tie.Need-returns-2 Inv-loop μ-loop
 returns-2 c = λ φs G kept outlines exact C is n k h.
     let a = c .before .before .before .args in
     let few = kept .few in
-    contents-same φs G (a .words .now) (a .contents .now) (a .gaps .now) (a .count) (a .yields) kept outlines exact (c .before .before .edge-table .result)
+    contents-same φs G (a .graph .now) (a .contents .now) (a .gaps .now) (a .count) (a .yields) kept outlines exact (c .before .before .edge-table .result)
     (c .before .before .edge-table .ensures G (kept .keeps)) (c .before .loop .table) (λ i l. c .before .loop .inv .1 .below i (omega arith)) C is n k h
 
 pub contents-of-spec : {M : Type 1} → statement M

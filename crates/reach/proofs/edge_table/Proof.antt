@@ -5,18 +5,18 @@ use mathlib.Core.Logic.{inl, inr}
 use native.Mathlib.Omega.{arith}
 use borrow.Author.Needs.{needs}
 use Rattle.summaries.specs.Summaries.{Summary}
-use Rattle.entries.specs.Words.{Keeps}
+use Rattle.graphs.specs.Graphs.{Keeps}
 use Rattle.reach.proofs.Filling.{Filled, filled-zeros, filled-more}
 use Rattle.reach.proofs.Edges.{EdgesAt, edges-all}
 use Rattle.reach.proofs.edge_table.Statement.{statement}
 use Rattle.reach.proofs.edge_table.Tie as tie
 
 abbrev Inv-loop : tie.InvT-loop
-Inv-loop words gaps count yields table₀ n₀ table n =
-    (n ≤ 32) × (n ≤ count + 1) × ((G : Summary) → Keeps words G → Filled (EdgesAt G gaps yields) 32 n table)
+Inv-loop graph gaps count yields table₀ n₀ table n =
+    (n ≤ 32) × (n ≤ count + 1) × ((G : Summary) → Keeps graph G → Filled (EdgesAt G gaps yields) 32 n table)
 
 abbrev μ-loop : tie.MeasureT-loop
-μ-loop words gaps count yields table₀ n₀ table n = 32 - n
+μ-loop graph gaps count yields table₀ n₀ table n = 32 - n
 
 loop-holds : tie.Need-loop-holds Inv-loop μ-loop
 loop-holds c = (omega arith, omega arith, λ G keeps. filled-zeros _ 32 0 (λ i h. absurd (omega arith)))
@@ -50,7 +50,7 @@ loop-less c = search needs
 
 loop-again : tie.Need-loop-again Inv-loop μ-loop
 loop-again c =
-    let l = c .before .before .before .before .before .before .loop in (
+    let l = c .before .before .before .before .before .loop in (
       omega arith,
       omega arith,
       λ G keeps. filled-more _ 32 (l .n) (l .table) (l .inv .2 G keeps) (c .common .result) (omega arith)

@@ -8,26 +8,20 @@ use Rattle.reach.proofs.outside_at.Tie as tie
 is-within-requires : tie.Need-is-within-requires
 is-within-requires c κs = search needs
 
-add-result : tie.Need-add-result
-add-result c = search needs
-
 returns : tie.Need-returns
-returns c = names-outside _ _ _ _ _ (c .before .is-within .result) (c .before .is-within .ensures) (not-true _ (c .if1 .taken))
+returns c = names-outside _ _ _ _ _ _ (c .before .is-within .result) (c .before .is-within .ensures) (not-true _ (c .if1 .taken))
 
 is-within-requires-2 : tie.Need-is-within-requires-2
 is-within-requires-2 c κs = search needs
 
-add-result-2 : tie.Need-add-result-2
-add-result-2 c = search needs
-
 returns-2 : tie.Need-returns-2
 returns-2 c =
-    content-outside _ _ _ _ _ (c .before .before .before .is-within .result) (c .before .is-within2 .result) (c .before .before .before .is-within .ensures)
+    content-outside _ _ _ _ _ _ (c .before .before .before .is-within .result) (c .before .is-within2 .result) (c .before .before .before .is-within .ensures)
     (not-false _ (c .before .before .if1 .left)) (c .before .is-within2 .ensures) (not-true _ (c .if2 .taken))
 
 returns-3 : tie.Need-returns-3
 returns-3 c =
-    none-outside _ _ _ _ _ (c .before .before .before .is-within .result) (c .before .is-within2 .result) (c .before .before .before .is-within .ensures)
+    none-outside _ _ _ _ _ _ (c .before .before .before .is-within .result) (c .before .is-within2 .result) (c .before .before .before .is-within .ensures)
     (not-false _ (c .before .before .if1 .left)) (c .before .is-within2 .ensures) (not-false _ (c .if2 .left))
 
 pub outside-at-spec : {M : Type 1} → statement M
@@ -35,9 +29,7 @@ outside-at-spec =
     tie.close
     (tie.spec
     is-within-requires
-    add-result
     returns
     is-within-requires-2
-    add-result-2
     returns-2
     returns-3)

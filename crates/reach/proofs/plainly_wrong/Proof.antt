@@ -1,31 +1,31 @@
--- The templates passed have their lowest element in the table.
-use Prim.Native.Nat.{_-_, _≤_}
+-- The templates passed have been looked at.
+use Prim.Native.Nat.{_-_}
+use mathlib.Core.Logic.{inl, inr}
 use native.Mathlib.Omega.{arith}
-use mathlib.Core.Logic.{inl, inr, ⊎-elim}
 use borrow.Author.Needs.{needs}
-use Rattle.reach.proofs.Filling.{Filled, filled-zeros, filled-more, filled-same}
-use Rattle.reach.proofs.Templates.{WrongAt, wrong-none, wrong-skipped, wrong-more, wrong-all}
+use Rattle.reach.proofs.Templates.{Looked, looked-begin, looked-next, looked-end}
 use Rattle.reach.proofs.plainly_wrong.Statement.{statement}
 use Rattle.reach.proofs.plainly_wrong.Tie as tie
 
 abbrev Inv-loop : tie.InvT-loop
-Inv-loop s attributes contents starts count words within reached table₀ n₀ table n =
-    (1 ≤ n) × (n ≤ 32) × Filled (WrongAt s attributes contents starts count words within reached) 32 n table
+Inv-loop s attributes contents starts count graph within reached lowest₀ t₀ lowest t = Looked s attributes contents starts count graph within reached t lowest
 
 abbrev μ-loop : tie.MeasureT-loop
-μ-loop s attributes contents starts count words within reached table₀ n₀ table n = 32 - n
+μ-loop s attributes contents starts count graph within reached lowest₀ t₀ lowest t = 64 - t
+
+first-member-requires : tie.Need-first-member-requires Inv-loop μ-loop
+first-member-requires c κs = search needs
 
 loop-holds : tie.Need-loop-holds Inv-loop μ-loop
-loop-holds c = (omega arith, omega arith, filled-zeros _ 32 1 (wrong-none _ _ _ _ _ _ (c .before .args .within .now) _))
+loop-holds c =
+    let args = c .before .before .args in
+    looked-begin (args .s .now) (args .attributes .now) (args .contents .now) (args .starts .now) (args .count) (args .graph .now) (args .within .now) (args .reached) _ (c .first-member .ensures)
+
+cast-n : tie.Need-cast-n Inv-loop μ-loop
+cast-n c = omega arith
 
 returns : tie.Need-returns Inv-loop μ-loop
-returns c = wrong-all _ _ _ _ _ _ (c .before .before .before .before .args .within .now) _ _ _ (inl (c .if1 .taken)) (c .before .before .loop .inv .2)
-
-cast-has : tie.Need-cast-has Inv-loop μ-loop
-cast-has c = search needs
-
-has-requires : tie.Need-has-requires Inv-loop μ-loop
-has-requires c κs = search needs
+returns c = looked-end _ _ _ _ _ _ _ _ _ _ (c .before .before .loop .inv) (inl (c .if1 .taken))
 
 mul-wrong-in : tie.Need-mul-wrong-in Inv-loop μ-loop
 mul-wrong-in c = search needs
@@ -36,33 +36,27 @@ element-copy-out-wrong-in c = search needs
 wrong-in-requires : tie.Need-wrong-in-requires Inv-loop μ-loop
 wrong-in-requires c κs = search needs
 
-mul-table : tie.Need-mul-table Inv-loop μ-loop
-mul-table c = search needs
+lower-requires : tie.Need-lower-requires Inv-loop μ-loop
+lower-requires c κs = search needs
 
-array-write-table : tie.Need-array-write-table Inv-loop μ-loop
-array-write-table c = search needs
+add-first-member : tie.Need-add-first-member Inv-loop μ-loop
+add-first-member c = search needs
 
-add-n : tie.Need-add-n Inv-loop μ-loop
-add-n c = search needs
+first-member-requires-2 : tie.Need-first-member-requires-2 Inv-loop μ-loop
+first-member-requires-2 c κs = search needs
 
 loop-less : tie.Need-loop-less Inv-loop μ-loop
-loop-less c = search needs
+loop-less c = omega (arith, c .first-member2 .ensures .after, c .before .before .before .before .before .before .loop .inv .most)
 
 loop-again : tie.Need-loop-again Inv-loop μ-loop
 loop-again c =
-    let l = c .before .before .before .before .loop in
-    let within = c .before .before .before .before .before .before .args .within .now in
-    let told = c .before .has .ensures in (
-      omega arith,
-      omega arith,
-      ⊎-elim
-          (λ w. rw (w .3) (filled-more _ 32 (l .n) (l .table) (l .inv .2) (w .2 .result) (omega arith) (wrong-more _ _ _ _ _ _ within _ _ (w .2 .result) _ told (w .0 .taken) (l .inv .0) (w .2 .ensures))))
-          (λ w. rw (w .1) (filled-same _ 32 (l .n) (l .table) (l .inv .2) (wrong-skipped _ _ _ _ _ _ within _ _ _ told (w .0 .left))))
-          (c .if2 .came),
-    )
+    let l = c .before .before .before .before .before .before .loop in
+    let found = c .before .before .wrong-in in
+    looked-next _ _ _ _ _ _ _ _ _ _ (l .inv) (c .before .before .before .before .before .loop-test .taken) (c .before .before .before .before .if1 .left)
+    (found .result) (found .ensures) (c .before .lower .result) (c .before .lower .ensures) _ (c .first-member2 .ensures)
 
 returns-2 : tie.Need-returns-2 Inv-loop μ-loop
-returns-2 c = wrong-all _ _ _ _ _ _ (c .before .before .before .args .within .now) _ _ _ (inr (c .loop-test .left)) (c .before .loop .inv .2)
+returns-2 c = looked-end _ _ _ _ _ _ _ _ _ _ (c .before .loop .inv) (inr (c .loop-test .left))
 
 pub plainly-wrong-spec : {M : Type 1} → statement M
 plainly-wrong-spec =
@@ -70,16 +64,16 @@ plainly-wrong-spec =
     (tie.spec
     Inv-loop
     μ-loop
+    first-member-requires
     loop-holds
+    cast-n
     returns
-    cast-has
-    has-requires
     mul-wrong-in
     element-copy-out-wrong-in
     wrong-in-requires
-    mul-table
-    array-write-table
-    add-n
+    lower-requires
+    add-first-member
+    first-member-requires-2
     loop-less
     loop-again
     returns-2)

@@ -1,4 +1,5 @@
 -- What the closure has is what is reached.
+use mathlib.Core.Path.{_∙_}
 use borrow.Author.Needs.{needs}
 use Rattle.reach.proofs.Reaching.{reached-same}
 use Rattle.reach.proofs.reached.Statement.{statement}
@@ -7,8 +8,8 @@ use Rattle.reach.proofs.reached.Tie as tie
 edge-table-requires : tie.Need-edge-table-requires
 edge-table-requires c κs = search needs
 
-element-copy-out-common : tie.Need-element-copy-out-common
-element-copy-out-common c = search needs
+roots-requires : tie.Need-roots-requires
+roots-requires c κs = search needs
 
 common-requires : tie.Need-common-requires
 common-requires c κs = search needs
@@ -22,8 +23,8 @@ closure-requires c κs = search needs
 returns : tie.Need-returns
 returns c = λ φs G kept gaps-are exact.
     let a = c .before .before .before .before .before .args in
-    reached-same φs G (a .words .now) (a .gaps .now) (a .count) (a .yields) kept gaps-are exact (c .before .before .before .before .edge-table .result)
-    (c .before .before .before .before .edge-table .ensures G (kept .keeps)) (c .before .before .common .result) (c .closure .result) (c .before .before .common .ensures)
+    reached-same φs G (a .graph .now) (a .gaps .now) (a .count) (a .yields) kept gaps-are exact (c .before .before .before .before .edge-table .result)
+    (c .before .before .before .before .edge-table .ensures G (kept .keeps)) (c .before .before .common .result) (c .closure .result) (λ k. c .before .before .common .ensures k ∙ rw (c .before .before .before .roots .ensures k))
     (c .closure .ensures)
 
 pub reached-spec : {M : Type 1} → statement M
@@ -31,7 +32,7 @@ reached-spec =
     tie.close
     (tie.spec
     edge-table-requires
-    element-copy-out-common
+    roots-requires
     common-requires
     slice-aggregate-closure
     closure-requires

@@ -5,12 +5,12 @@ use mathlib.Core.Bool.{true}
 use native.Mathlib.Omega.{arith}
 use borrow.Author.Needs.{needs}
 use Rattle.sets.specs.Sets.{member}
-use Rattle.reach.proofs.Unions.{UnitedTo, united-none, united-more, united-past, united-whole}
+use Rattle.reach.proofs.Unions.{UnitedTo, inTable, united-none, united-more, united-past, united-whole}
 use Rattle.reach.proofs.union_of.Statement.{statement}
 use Rattle.reach.proofs.union_of.Tie as tie
 
 abbrev Inv-loop : tie.InvT-loop
-Inv-loop first set table all₀ i₀ all i = (i ≤ 64) × (i < 64 → member set i ≡ true) × UnitedTo first set table i all
+Inv-loop first set table all₀ i₀ all i = (i ≤ 64) × (i < 64 → member set i ≡ true) × UnitedTo first set (inTable table) i all
 
 abbrev μ-loop : tie.MeasureT-loop
 μ-loop first set table all₀ i₀ all i = 64 - i

@@ -1,39 +1,47 @@
 -- Only a pair has contents at places.
 use native.Mathlib.Omega.{arith}
-use Rattle.readings.proofs.Placing.{after-past, after-pair, after-single}
 use borrow.Author.Needs.{needs}
+use Rattle.readings.proofs.Placing.{after-past, after-content, after-value, after-pair}
 use Rattle.readings.proofs.after_of.Statement.{statement}
 use Rattle.readings.proofs.after_of.Tie as tie
 
 returns : tie.Need-returns
-returns c = after-past (c .before .args .t1) (c .before .args .i) (c .if1 .taken)
+returns c = after-past _ _ (c .if1 .taken)
 
-element-copy-out-if2 : tie.Need-element-copy-out-if2
-element-copy-out-if2 c = search needs
+fact-at-requires : tie.Need-fact-at-requires
+fact-at-requires c κs = search needs
 
-element-copy-out-wide : tie.Need-element-copy-out-wide
-element-copy-out-wide c = search needs
+enum-told : tie.Need-enum-told
+enum-told c = search needs
 
-wide-requires : tie.Need-wide-requires
-wide-requires c κs = search needs
+enum-known-fact : tie.Need-enum-known-fact
+enum-known-fact c = search needs
 
 place-of-requires : tie.Need-place-of-requires
 place-of-requires c κs = search needs
 
+enum-told-2 : tie.Need-enum-told-2
+enum-told-2 c = search needs
+
 returns-2 : tie.Need-returns-2
-returns-2 c = after-pair (c .before .before .before .before .before .before .args .t1) (c .before .before .before .before .before .before .args .i) (omega arith) (omega arith) (c .before .before .before .if2 .taken) (c .place-of .result) (c .before .wide .result) (c .before .wide .ensures .0) (c .place-of .ensures)
+returns-2 c = after-content _ _ (omega arith) (c .before .before .before .if1 .left) _ (c .before .before .fact-at .ensures) _ (c .enum-told .given .1)
 
 returns-3 : tie.Need-returns-3
-returns-3 c = after-single (c .before .before .before .args .t1) (c .before .before .before .args .i) (omega arith) (omega arith) (c .if2 .left)
+returns-3 c = after-pair _ _ (omega arith) (c .before .before .before .before .before .if1 .left) _ (c .before .before .before .before .fact-at .ensures) _ _ _ (c .before .before .fact .given .1) (c .place-of .ensures)
+
+returns-4 : tie.Need-returns-4
+returns-4 c = after-value _ _ (omega arith) (c .before .before .before .if1 .left) _ (c .before .before .fact-at .ensures) _ _ (c .enum-told2 .given .1)
 
 pub after-of-spec : {M : Type 1} → statement M
 after-of-spec =
     tie.close
     (tie.spec
     returns
-    element-copy-out-if2
-    element-copy-out-wide
-    wide-requires
+    fact-at-requires
+    enum-told
+    enum-known-fact
     place-of-requires
+    enum-told-2
     returns-2
-    returns-3)
+    returns-3
+    returns-4)

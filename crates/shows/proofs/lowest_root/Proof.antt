@@ -1,8 +1,8 @@
 -- No template passed is such a root.
 use Prim.Native.Nat.{_+_, _-_, _≤_}
 use native.Mathlib.Omega.{arith}
-use borrow.Author.Needs.{needs}
 use Rattle.shows.proofs.Lowest.{NoneBelow, none-more, root-found, no-root-found}
+use borrow.Author.Needs.{needs}
 use Rattle.shows.proofs.lowest_root.Statement.{statement}
 use Rattle.shows.proofs.lowest_root.Tie as tie
 
@@ -23,9 +23,6 @@ array-copy-out-is-other c = search needs
 
 is-other-requires : tie.Need-is-other-requires Inv-loop μ-loop
 is-other-requires c κs = search needs
-
-add-result : tie.Need-add-result Inv-loop μ-loop
-add-result c = search needs
 
 returns : tie.Need-returns Inv-loop μ-loop
 returns c = root-found _ (c .before .before .before .before .before .args .t2) _ _ _ (c .before .is-other .ensures) (c .if1 .taken) (c .before .before .before .loop-test .taken) (c .before .before .before .before .loop .inv .1)
@@ -52,7 +49,6 @@ lowest-root-spec =
     mul-is-other
     array-copy-out-is-other
     is-other-requires
-    add-result
     returns
     add-t
     loop-less

@@ -7,9 +7,14 @@ of-templates-requires : tie.Need-of-templates-requires
 of-templates-requires c κs = search needs
 
 returns : tie.Need-returns
-returns c φs table stand counts few =
-    let told = c .before .before .before .of-templates .ensures φs stand counts few in
-    record { gaps = table; lone = told .lone; outlines = told .outlines; occurrences = told .occurrences }
+returns c =
+    λ φs table stand counts few.
+    let told = c .before .before .of-templates .ensures φs stand counts few in
+    record { gaps = table; outlines = told .outlines; occurrences = told .occurrences }
 
 pub tables-of-spec : {M : Type 1} → statement M
-tables-of-spec = tie.close (tie.spec of-templates-requires returns)
+tables-of-spec =
+    tie.close
+    (tie.spec
+    of-templates-requires
+    returns)

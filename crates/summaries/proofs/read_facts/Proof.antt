@@ -4,11 +4,9 @@ use native.Mathlib.Omega.{arith}
 use lib.ListN.{length}
 use borrow.Author.Needs.{needs}
 use Rattle.commands.specs.declared.Part.{Part}
+use Rattle.vocabularies.proofs.Laws.{command-turns}
 use Rattle.summaries.specs.Promises.{FactsRead}
-use Rattle.programs.proofs.Laws.{fewer-left}
-use Rattle.summaries.proofs.Here.{FactStands, fact-stands}
-use Rattle.summaries.proofs.Reading.{facts-end, facts-refused, facts-go-on}
-use Rattle.summaries.proofs.ShortItems.{not-zero, short-refused, short-goes-on, short-falls}
+use Rattle.summaries.proofs.Reading.{facts-end, facts-refused, facts-missing, facts-fall, facts-go-on}
 use Rattle.summaries.proofs.read_facts.Statement.{statement}
 use Rattle.summaries.proofs.read_facts.Tie as tie
 
@@ -22,46 +20,17 @@ abbrev μ-loop : tie.MeasureT-loop
 loop-holds : tie.Need-loop-holds Inv-loop μ-loop
 loop-holds c = λ r h. h
 
-after-fact-requires : tie.Need-after-fact-requires Inv-loop μ-loop
-after-fact-requires c κs = search needs
-
-rank-up-to-requires : tie.Need-rank-up-to-requires Inv-loop μ-loop
-rank-up-to-requires c κs =
-    let S = c .before .after-fact .ensures (not-zero _ (c .if1 .taken)) in
-    (S .inside, S .forward)
-
-returns : tie.Need-returns Inv-loop μ-loop
-returns c =
-    let S = c .before .before .before .after-fact .ensures (not-zero _ (c .before .before .if1 .taken)) .steps in
-    c .before .before .before .before .loop .inv _ (short-refused _ _ _ _ _ _ S _ (c .before .rank-up-to .ensures _ _ S) (c .if2 .taken))
-
-add-least : tie.Need-add-least Inv-loop μ-loop
-add-least c =
-    let S = c .before .before .before .after-fact .ensures (not-zero _ (c .before .before .if1 .taken)) .steps in
-    let l = c .before .rank-up-to .ensures _ _ S .low in
-    omega arith
-
-loop-less : tie.Need-loop-less Inv-loop μ-loop
-loop-less c =
-    let S = c .before .before .before .after-fact .ensures (not-zero _ (c .before .before .if1 .taken)) .steps in
-    short-falls _ _ _ (c .before .before .before .before .loop .least) _ _ S _ (c .before .rank-up-to .ensures _ _ S)
-
-loop-again : tie.Need-loop-again Inv-loop μ-loop
-loop-again c = λ r h.
-    let S = c .before .before .before .after-fact .ensures (not-zero _ (c .before .before .if1 .taken)) .steps in
-    c .before .before .before .before .loop .inv r (short-goes-on _ _ _ _ _ _ S _ (c .before .rank-up-to .ensures _ _ S) (c .if2 .left) r h)
-
 byte-at-requires : tie.Need-byte-at-requires Inv-loop μ-loop
 byte-at-requires c κs = search needs
 
 is-allowed-requires : tie.Need-is-allowed-requires Inv-loop μ-loop
 is-allowed-requires c κs = search needs
 
-returns-2 : tie.Need-returns-2 Inv-loop μ-loop
-returns-2 c = c .before .before .before .before .before .loop .inv _ (search facts-end)
+returns : tie.Need-returns Inv-loop μ-loop
+returns c = c .before .before .before .loop .inv _ (search facts-end)
 
-fact-here-requires : tie.Need-fact-here-requires Inv-loop μ-loop
-fact-here-requires c κs = search needs
+command-requires : tie.Need-command-requires Inv-loop μ-loop
+command-requires c κs = search needs
 
 enum-known-d : tie.Need-enum-known-d Inv-loop μ-loop
 enum-known-d c = search needs
@@ -69,30 +38,32 @@ enum-known-d c = search needs
 enum-told : tie.Need-enum-told Inv-loop μ-loop
 enum-told c = search needs
 
-part-of-requires : tie.Need-part-of-requires Inv-loop μ-loop
-part-of-requires c κs = search needs
+part-requires : tie.Need-part-requires Inv-loop μ-loop
+part-requires c κs = search needs
+
+returns-2 : tie.Need-returns-2 Inv-loop μ-loop
+returns-2 c = c .before .before .before .before .before .before .before .loop .inv _ (search facts-refused)
+
+fact-there-requires : tie.Need-fact-there-requires Inv-loop μ-loop
+fact-there-requires c κs = search needs
 
 returns-3 : tie.Need-returns-3 Inv-loop μ-loop
-returns-3 c = c .before .before .before .before .before .before .before .before .before .loop .inv _ (search facts-refused)
+returns-3 c = c .before .before .before .before .before .before .before .before .before .loop .inv _ (search facts-missing)
 
 rank-requires : tie.Need-rank-requires Inv-loop μ-loop
 rank-requires c κs = search needs
 
-add-least-2 : tie.Need-add-least-2 Inv-loop μ-loop
-add-least-2 c = let l = c .rank .ensures .low in omega arith
+returns-4 : tie.Need-returns-4 Inv-loop μ-loop
+returns-4 c = c .before .before .before .before .before .before .before .before .before .before .before .loop .inv _ (search facts-fall)
 
--- An item that is read may stand there.
-stands : (c : tie.After-rank Inv-loop μ-loop)
-    → FactStands (c .before .before .before .before .before .before .before .before .before .before .before .before .args .context) (c .before .before .before .before .before .before .before .before .before .before .before .before .args .templates) (c .before .before .before .before .before .before .before .before .before .before .before .before .args .s .now) (c .before .before .before .before .before .before .before .before .before .before .loop .least) (c .before .before .before .before .before .before .before .before .before .before .loop .at .at) (c .before .before .d .given .0 .0) (c .before .before .d .given .0 .1 .0)
-stands c = fact-stands _ _ _ _ _ _ _ _ (c .before .before .before .before .fact-here .ensures) (c .before .before .d .given .1)
+add-least : tie.Need-add-least Inv-loop μ-loop
+add-least c = let l = c .before .rank .ensures .low in omega arith
 
-loop-less-2 : tie.Need-loop-less-2 Inv-loop μ-loop
-loop-less-2 c = fewer-left _ _ _ _ _ (stands c .read)
+loop-less : tie.Need-loop-less Inv-loop μ-loop
+loop-less c = search command-turns
 
-loop-again-2 : tie.Need-loop-again-2 Inv-loop μ-loop
-loop-again-2 c = λ r h. c .before .before .before .before .before .before .before .before .before .before .loop .inv r
-    (facts-go-on _ _ _ _ _ _ _ (c .before .before .before .before .before .before .before .byte-at .ensures) (c .before .before .before .before .before .before .is-allowed .ensures) (c .before .before .before .before .before .if3 .left) _
-    (c .before .before .before .before .fact-here .ensures) _ _ r _ (c .before .before .d .given .1) (stands c) (c .rank .ensures) h)
+loop-again : tie.Need-loop-again Inv-loop μ-loop
+loop-again c = λ r h. c .before .before .before .before .before .before .before .before .before .before .before .loop .inv r (search facts-go-on)
 
 pub read-facts-spec : {M : Type 1} → statement M
 read-facts-spec =
@@ -101,21 +72,18 @@ read-facts-spec =
     Inv-loop
     μ-loop
     loop-holds
-    after-fact-requires
-    rank-up-to-requires
-    returns
-    add-least
-    loop-less
-    loop-again
     byte-at-requires
     is-allowed-requires
-    returns-2
-    fact-here-requires
+    returns
+    command-requires
     enum-known-d
     enum-told
-    part-of-requires
+    part-requires
+    returns-2
+    fact-there-requires
     returns-3
     rank-requires
-    add-least-2
-    loop-less-2
-    loop-again-2)
+    returns-4
+    add-least
+    loop-less
+    loop-again)

@@ -34,8 +34,8 @@ enum-known-d c = search needs
 enum-told : tie.Need-enum-told Inv-loop μ-loop
 enum-told c = search needs
 
-part-of-requires : tie.Need-part-of-requires Inv-loop μ-loop
-part-of-requires c κs = search needs
+part-requires : tie.Need-part-requires Inv-loop μ-loop
+part-requires c κs = search needs
 
 returns : tie.Need-returns Inv-loop μ-loop
 returns c = c .before .before .before .before .loop .inv .2 _ _ (record { same = λ i l. refl }) (search heads-refused)
@@ -107,7 +107,7 @@ read-proposal-spec =
     head-here-requires
     enum-known-d
     enum-told
-    part-of-requires
+    part-requires
     returns
     returns-2
     head-number-requires

@@ -1,21 +1,25 @@
 -- Every fact that is kept is compared.
 use Prim.Native.Nat.{_≤_, _-_}
 use native.Mathlib.Omega.{arith}
-use Rattle.vocabularies.proofs.FactLists.{NoneBelow, none-yet, found, none-here, none-found}
+use borrow.Author.Needs.{needs}
+use Rattle.vocabularies.proofs.FactLists.{NoneBelow, found, none-here, none-found}
 use Rattle.vocabularies.proofs.is_among.Statement.{statement}
 use Rattle.vocabularies.proofs.is_among.Tie as tie
 
 abbrev Inv-loop : tie.InvT-loop
-Inv-loop facts kind first second count i₀ i = (i ≤ count) × NoneBelow facts kind first second i
+Inv-loop facts fact count i₀ i = (i ≤ count) × NoneBelow facts fact i
 
 abbrev μ-loop : tie.MeasureT-loop
-μ-loop facts kind first second count i₀ i = count - i
+μ-loop facts fact count i₀ i = count - i
 
 loop-holds : tie.Need-loop-holds Inv-loop μ-loop
-loop-holds c = (omega arith, none-yet _ _ _ _)
+loop-holds c = (omega arith, λ xs h k l m. absurd (omega arith))
 
-stands-at-requires : tie.Need-stands-at-requires Inv-loop μ-loop
-stands-at-requires c κs = omega arith
+fact-at-requires : tie.Need-fact-at-requires Inv-loop μ-loop
+fact-at-requires c κs = omega arith
+
+same-fact-requires : tie.Need-same-fact-requires Inv-loop μ-loop
+same-fact-requires c κs = search needs
 
 returns : tie.Need-returns Inv-loop μ-loop
 returns c = search found
@@ -39,7 +43,8 @@ is-among-spec =
     Inv-loop
     μ-loop
     loop-holds
-    stands-at-requires
+    fact-at-requires
+    same-fact-requires
     returns
     add-i
     loop-less

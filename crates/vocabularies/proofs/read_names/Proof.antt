@@ -2,7 +2,7 @@
 use Prim.Native.Nat.{_-_}
 use lib.ListN.{length}
 use borrow.Author.Needs.{needs}
-use Rattle.vocabularies.proofs.Parts.{command-turns, command-fits}
+use Rattle.vocabularies.proofs.Parts.{command-turns}
 use Rattle.vocabularies.proofs.NameLists.{NamesContinue, names-start, names-end, names-refused, names-fall, names-more, name-low, next-name-fits}
 use Rattle.vocabularies.proofs.read_names.Statement.{statement}
 use Rattle.vocabularies.proofs.read_names.Tie as tie
@@ -34,17 +34,14 @@ enum-known-d c = search needs
 enum-told : tie.Need-enum-told Inv-loop μ-loop
 enum-told c = search needs
 
-part-of-requires : tie.Need-part-of-requires Inv-loop μ-loop
-part-of-requires c κs = search needs
+part-requires : tie.Need-part-requires Inv-loop μ-loop
+part-requires c κs = search needs
 
 returns-2 : tie.Need-returns-2 Inv-loop μ-loop
 returns-2 c = search names-refused
 
-add-byte-at : tie.Need-add-byte-at Inv-loop μ-loop
-add-byte-at c = record { fits = search command-fits }
-
-byte-at-requires-2 : tie.Need-byte-at-requires-2 Inv-loop μ-loop
-byte-at-requires-2 c κs = search needs
+operand-requires : tie.Need-operand-requires Inv-loop μ-loop
+operand-requires c κs = search needs
 
 returns-3 : tie.Need-returns-3 Inv-loop μ-loop
 returns-3 c = search names-fall
@@ -74,10 +71,9 @@ read-names-spec =
     name-command-requires
     enum-known-d
     enum-told
-    part-of-requires
+    part-requires
     returns-2
-    add-byte-at
-    byte-at-requires-2
+    operand-requires
     returns-3
     with-requires
     add-least

@@ -4,7 +4,6 @@ use Prim.Native.Nat.{_-_, _<_}
 use native.Mathlib.Omega.{arith}
 use lib.ListN.{length, length-set}
 use Rattle.vocabularies.specs.Promises.{Long}
-use Rattle.vocabularies.proofs.Parts.{command-fits}
 use Rattle.vocabularies.proofs.Rules.{adds-rule}
 use Rattle.vocabularies.proofs.Vocabularies.{RulesContinue, rules-start, rules-refused, element-fits, rules-unrooted, rules-rooted, rules-twice, rules-broken, rules-more, rules-fall}
 use Rattle.vocabularies.proofs.read_vocabulary.Statement.{statement}
@@ -15,6 +14,9 @@ Inv-loop s place₀ tables₀ place tables = Long tables × RulesContinue s (pla
 
 abbrev μ-loop : tie.MeasureT-loop
 μ-loop s place₀ tables₀ place tables = length s - place .at
+
+new-requires : tie.Need-new-requires Inv-loop μ-loop
+new-requires c κs = search needs
 
 no-tables-requires : tie.Need-no-tables-requires Inv-loop μ-loop
 no-tables-requires c κs = search needs
@@ -31,17 +33,14 @@ enum-known-d c = search needs
 enum-told : tie.Need-enum-told Inv-loop μ-loop
 enum-told c = search needs
 
-part-of-requires : tie.Need-part-of-requires Inv-loop μ-loop
-part-of-requires c κs = search needs
+part-requires : tie.Need-part-requires Inv-loop μ-loop
+part-requires c κs = search needs
 
 returns : tie.Need-returns Inv-loop μ-loop
 returns c = search rules-refused
 
-add-byte-at : tie.Need-add-byte-at Inv-loop μ-loop
-add-byte-at c = record { fits = search command-fits }
-
-byte-at-requires : tie.Need-byte-at-requires Inv-loop μ-loop
-byte-at-requires c κs = search needs
+operand-requires : tie.Need-operand-requires Inv-loop μ-loop
+operand-requires c κs = search needs
 
 has-requires : tie.Need-has-requires Inv-loop μ-loop
 has-requires c κs = search element-fits
@@ -100,7 +99,7 @@ loop-less c = search rules-fall
 loop-again : tie.Need-loop-again Inv-loop μ-loop
 loop-again c =
     let l = c .before .before .before .before .before .before .before .before .before .before .before .before .before .loop in
-    let e = c .before .before .before .before .before .before .before .before .byte-at in
+    let e = c .before .before .before .before .before .before .before .before .operand in
     let low : e .result < 64 = search element-fits in
     let adds = adds-rule (l .tables) (e .result) (c .before .before .before .before .read-rule .result) (c .with .result) (c .with .ensures)
     (omega (arith, low, l .inv .0 .attributes-long)) (omega (arith, low, l .inv .0 .contents-long)) (omega (arith, low, l .inv .0 .clauses-long)) in (
@@ -118,15 +117,15 @@ read-vocabulary-spec =
     (tie.spec
     Inv-loop
     μ-loop
+    new-requires
     no-tables-requires
     loop-holds
     command-requires
     enum-known-d
     enum-told
-    part-of-requires
+    part-requires
     returns
-    add-byte-at
-    byte-at-requires
+    operand-requires
     has-requires
     returns-2
     returns-3

@@ -16,20 +16,14 @@ returns-2 c = search adds-present
 add-more : tie.Need-add-more
 add-more c = search needs
 
-element-write-more : tie.Need-element-write-more
-element-write-more c = search needs
+mul-t9 : tie.Need-mul-t9
+mul-t9 c = search needs
 
-element-write-more-2 : tie.Need-element-write-more-2
-element-write-more-2 c = search needs
-
-mul-more : tie.Need-mul-more
-mul-more c = search needs
-
-element-write-more-3 : tie.Need-element-write-more-3
-element-write-more-3 c = search needs
+element-set-from-more : tie.Need-element-set-from-more
+element-set-from-more c = search needs
 
 returns-3 : tie.Need-returns-3
-returns-3 c = search (adds-new, needs)
+returns-3 c = search adds-new
 
 returns-4 : tie.Need-returns-4
 returns-4 c = search adds-ninth
@@ -42,9 +36,7 @@ with-fact-spec =
     is-among-requires
     returns-2
     add-more
-    element-write-more
-    element-write-more-2
-    mul-more
-    element-write-more-3
+    mul-t9
+    element-set-from-more
     returns-3
     returns-4)

@@ -1,6 +1,6 @@
 -- The three facts are added in the order of the definition.
-use borrow.Author.Needs.{needs}
 use Rattle.vocabularies.proofs.Gathering.{order-adds}
+use borrow.Author.Needs.{needs}
 use Rattle.vocabularies.proofs.with_order.Statement.{statement}
 use Rattle.vocabularies.proofs.with_order.Tie as tie
 

@@ -1,0 +1,6 @@
+pub mod Tests
+pub mod Claims
+pub mod Slots
+pub mod Adding
+pub mod ClosedGraphs
+pub mod SameGraphs

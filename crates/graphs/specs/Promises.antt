@@ -1,0 +1,30 @@
+-- The steps on the way: where an item stands among the words, and closing gap by gap.
+use Prim.Native.Nat.{ℕ, _<_}
+use mathlib.Core.Path.{_≡_}
+use mathlib.Core.Bool.{Bool, false, cond, _&&_, _||_}
+use lib.Dec.{eqb}
+use Rattle.summaries.specs.Proposal.{Claim, root, edge, string, gapFrom, attributeGapFrom}
+use Rattle.summaries.specs.Summaries.{Summary}
+use Rattle.summaries.specs.declared.Claim as Declared
+use Rattle.summaries.specs.Listed.{FactFits, meaningOf}
+use Rattle.graphs.specs.declared.Slot.{Slot}
+use Rattle.graphs.specs.Graphs.{factWord, factBit}
+
+-- The word and the bit of an item; in range in any case.
+pub record SlotOf (c : Declared.Claim) (slot : Slot) : Type 0 where
+  pub word-fits : slot .word < 544
+  pub bit-fits : slot .bit < 64
+  pub word-is : FactFits (meaningOf c) → slot .word ≡ factWord (meaningOf c)
+  pub bit-is : FactFits (meaningOf c) → slot .bit ≡ factBit (meaningOf c)
+
+-- What closing adds at template n: an edge of gap g to template 0, or string 0 at attribute gap g.
+abbrev pub closing : Bool → ℕ → ℕ → Claim
+closing attribute n g = cond attribute (string n g 0) (edge n g 0)
+
+-- A summary with that added at the templates of a set.
+abbrev pub closedAt : Bool → ℕ → (ℕ → Bool) → Summary → Summary
+closedAt attribute g isIn R (root n) = R (root n)
+closedAt attribute g isIn R (edge n k m) = R (edge n k m) || cond attribute false (eqb k g && (eqb m 0 && isIn n))
+closedAt attribute g isIn R (string n k s) = R (string n k s) || cond attribute (eqb k g && (eqb s 0 && isIn n)) false
+closedAt attribute g isIn R (gapFrom k n) = R (gapFrom k n)
+closedAt attribute g isIn R (attributeGapFrom k n) = R (attributeGapFrom k n)
