@@ -13,7 +13,7 @@ use Rattle.commands.specs.Reading.{Read, unfinished, enough}
 use Rattle.vocabularies.specs.Vocabulary.{declared}
 use Rattle.programs.specs.Program.{Statement}
 use Rattle.programs.specs.ProgramReading.{statementRead, templatesThere, mostPoints, statementContext, statements, strayed, unlessStrayed, program}
-use Rattle.summaries.specs.ProposalReading.{factAt, factThere, rank, facts, variableOf, factContext, proposal}
+use Rattle.summaries.specs.ProposalReading.{holdingAt, holdingThere, rank, holdings, variableOf, holdingContext, proposal}
 use Rattle.jobs.specs.Job.{script, job}
 use Rattle.agreement.proofs.Readings.{gives, refuses, gives-command, gives-when, gives-then, gives-alone, runs}
 use Rattle.agreement.proofs.Ends.{EndsPast, EndsFrom, vocabulary-ends, templates-end}
@@ -39,13 +39,13 @@ module _ (count : ℕ) (s : List ℕ) where
   program-ends f at h =
       gives-then (statements-end f 0 at h) λ ts end m. unless-strayed-ends (strayed (length ts) ts) (gives m)
 
-  pub facts-end : (f : ℕ) (x : Context) (least at : ℕ) → length s - at < f → EndsFrom at (facts f x count s least at)
-  unfolding facts
-  facts-end zero x least at h = absurd (omega arith)
-  facts-end (suc f) x least at h = gives-when (allowed x (byte s at))
-      (λ _ _. gives-command x s at λ code next t. gives-when (factThere count (factAt s at code))
+  pub holdings-end : (f : ℕ) (x : Context) (least at : ℕ) → length s - at < f → EndsFrom at (holdings f x count s least at)
+  unfolding holdings
+  holdings-end zero x least at h = absurd (omega arith)
+  holdings-end (suc f) x least at h = gives-when (allowed x (byte s at))
+      (λ _ _. gives-command x s at λ code next t. gives-when (holdingThere count (holdingAt s at code))
       (λ _ _. gives-when (leb least (rank s at code))
-      (λ _ _. gives-then (facts-end f x (rank s at code + 1) next (omega arith)) λ φs end m. gives (omega arith))
+      (λ _ _. gives-then (holdings-end f x (rank s at code + 1) next (omega arith)) λ φs end m. gives (omega arith))
       (λ _ _. refuses))
       (λ _ _. refuses))
       (λ _ _. gives (omega arith))
@@ -58,7 +58,7 @@ module _ (count points : ℕ) (s : List ℕ) where
       (λ _ _. gives (omega arith))
       (λ _ _. gives-when (ltb (byte s (at + 1)) points)
       (λ _ _. gives-when (leb least (byte s (at + 1) * 8 + byte s (at + 2)))
-      (λ _ _. gives-then (facts-end count s f (factContext (variableOf (byte s (at + 2)))) 0 next (omega arith)) λ φs after m.
+      (λ _ _. gives-then (holdings-end count s f (holdingContext (variableOf (byte s (at + 2)))) 0 next (omega arith)) λ φs after m.
       gives-then (proposal-ends f (byte s (at + 1) * 8 + byte s (at + 2) + 1) after (omega arith)) λ heads end n. gives (omega arith))
       (λ _ _. refuses))
       (λ _ _. refuses))

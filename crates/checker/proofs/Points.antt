@@ -13,65 +13,89 @@ use Rattle.verdicts.specs.declared.Verdict.the-variants.{Accepted}
 use Rattle.verdicts.specs.Acceptance.{accepts}
 use Rattle.vocabularies.specs.declared.Tables as Vocabularies
 use Rattle.summaries.specs.Summaries.{Summary, Environment, entries}
-use Rattle.summaries.specs.Languages.{graphShown}
+use Rattle.summaries.specs.Languages.{closedSummary, graphShown}
 use Rattle.graphs.specs.Graphs.{Keeps, SameGraph, nothing}
 use Rattle.jobs.specs.Job.{Script, Job}
 use Rattle.jobs.specs.JobVerdict.{ShowHolds, AllCovered, ScriptVerdict, not-root, wrong-element, accepted}
 use Rattle.covering.proofs.Whole.{past-stops}
 use Rattle.patterns.proofs.JobShows.{nothing-shown}
 use Rattle.shows.specs.declared.TemplateTables.{TemplateTables}
+use Rattle.shows.specs.declared.Showing.{Showing}
+use Rattle.shows.specs.declared.Showing.the-variants.{Nothing, Variable}
 use Rattle.shows.specs.declared.Shown.{Shown}
 use Rattle.shows.specs.declared.Shown.the-variants.{Right, NotRoot, Wrong}
-use Rattle.shows.specs.Promises.{ShowFound, PointStands, shownAt, ShowsGraph, ShowAt, DecidesShow}
-use Rattle.checker.specs.Promises.{faultAt, ReadAt, RightGraph, PassedBy}
+use Rattle.shows.specs.Promises.{ShowFound, PointStands, shownAt, ShowsAt, HoldsShown, ShowAt, DecidesShow}
+use Rattle.checker.specs.Promises.{faultAt, ReadAt, RightGraph, PassesBy, PassedBy}
+
+-- What a show of a variable at a point shows.
+abbrev closed : Job → ℕ → ℕ → Summary
+closed j p x = closedSummary (entries (j .proposal) p .template x)
+
+-- A point whose statement stands at an offset.
+module _ (s heads : List ℕ) (place p : ℕ) (j : Job) (stands : PointStands s heads place p j) (what : Showing) (tells : ShowsAt s place what) where
+  pub shows-nothing : what ≡ Nothing → ShowHolds (j .script) (entries (j .proposal)) p
+  shows-nothing e = nothing-shown (j .script) (entries (j .proposal)) p (subst (ShowsAt s place) e tells heads p j stands)
+
+  module _ (x : ℕ) (e : what ≡ Variable x) (empty : List ℕ) (holds-none : Keeps empty nothing) (graph : List ℕ) (loads : HoldsShown s heads p x empty graph) where
+    shown : (x < 4) × (shownAt j p ≡ some (closed j p x))
+    shown = subst (ShowsAt s place) e tells heads p j stands
+
+    keeps : Keeps graph (closed j p x)
+    keeps = loads j (stands .low) (shown .0) (stands .entry) holds-none
+
+    -- It shows a graph that was found right.
+    pub same-graph : (last : List ℕ) → RightGraph j last → SameGraph last graph → ShowHolds (j .script) (entries (j .proposal)) p
+    same-graph last right same = right p (closed j p x) (shown .1) (λ c w. keeps .same c w ∙ sym (same c w))
+
+-- A show that is the graph, or none.
+module _ (s heads : List ℕ) (place p : ℕ) (graph : List ℕ) (what : Showing) (tells : ShowsAt s place what) where
+  pub nothing-passes : what ≡ Nothing → PassesBy s heads place p graph true
+  nothing-passes e j stands right = shows-nothing s heads place p j stands what tells e
+
+  pub same-passes : (x : ℕ) → what ≡ Variable x → (empty : List ℕ) → Keeps empty nothing → (other : List ℕ) → HoldsShown s heads p x empty other
+      → (b : Bool) → (b ≡ true → SameGraph graph other) → PassesBy s heads place p graph b
+  same-passes x e empty blank other loads false same = tt
+  same-passes x e empty blank other loads true same = λ j stands right. same-graph s heads place p j stands what tells x e empty blank other loads graph right (same refl)
+
+-- The place of a point, as code looks it up.
+place-is : (points p : ℕ) (places : List ℕ) → points ≤ 32 → p < points → getD places (p % 32) 0 ≡ getD places p 0
+place-is points p places few l = ap (λ (i : ℕ). getD places i 0) (omega arith)
 
 module _ (s : List ℕ) (rules : Vocabularies.Tables) (templates : TemplateTables) (count : ℕ) (starts : List ℕ) (points : ℕ) (places heads : List ℕ) (j : Job)
-    (R : ReadAt s rules templates count starts points places heads j) where
-  -- A point whose statement stands at an offset.
-  module _ (p place : ℕ) (l : p < points) (is : place ≡ getD places p 0) where
-    stands : PointStands s heads place p j
-    stands =
-        let few = R .parts .few-points in
-        let low : p < 32 = omega arith in
-        record { count = count; stands = rw is (R .parts .statement p l); low = low; entry = R .parts .entry p low }
+    (R : ReadAt s rules templates count starts points places heads j) (p : ℕ) (l : p < points) where
+  pub point-stands : PointStands s heads (getD places (p % 32) 0) p j
+  point-stands =
+      let few = R .parts .few-points in
+      let low : p < 32 = omega arith in
+      record { count = count; stands = rw (place-is points p places few l) (R .parts .statement p l); low = low; entry = R .parts .entry p low }
 
-    module _ (empty : List ℕ) (holds-none : Keeps empty nothing) (graph : List ℕ) (b : Bool) (tells : ShowsGraph s heads place p empty graph b) where
-      pub shows-nothing : b ≡ false → ShowHolds (j .script) (entries (j .proposal)) p
-      shows-nothing e = nothing-shown (j .script) (entries (j .proposal)) p (subst (ShowsGraph s heads place p empty graph) e tells j stands)
+  -- What is decided for the graph of a show.
+  module _ (what : Showing) (tells : ShowsAt s (getD places (p % 32) 0) what) (x : ℕ) (e : what ≡ Variable x) (empty : List ℕ) (holds-none : Keeps empty nothing)
+      (graph : List ℕ) (loads : HoldsShown s heads p x empty graph) (r : Shown) (decides : DecidesShow s rules templates count starts graph r) where
+    show-at : (q : ℕ) (G : Summary) → shownAt j q ≡ some G → Keeps graph G → ShowAt s rules templates count starts graph j q
+    show-at q G is K = record {
+      end = R .end;
+      reads = R .reads;
+      vocabulary = R .vocabulary;
+      located = R .located;
+      stand = R .parts .start;
+      few = R .parts .few-templates;
+      tabled = R .tabled;
+      shown = G;
+      shows = is;
+      keeps = K;
+    }
 
-      module _ (e : b ≡ true) where
-        shown : (G : Summary) × (shownAt j p ≡ some G) × (Keeps empty nothing → Keeps graph G)
-        shown = subst (ShowsGraph s heads place p empty graph) e tells j stands
+    kept : Keeps graph (closed j p x)
+    kept = keeps s heads (getD places (p % 32) 0) p j point-stands what tells x e empty holds-none graph loads
 
-        keeps : Keeps graph (shown .0)
-        keeps = shown .2 holds-none
+    -- It is found at the point.
+    pub shows-graph : ShowFound (j .script) (entries (j .proposal)) p r
+    shows-graph = decides j p (show-at p (closed j p x) (shown s heads (getD places (p % 32) 0) p j point-stands what tells x e empty holds-none graph loads .1) kept)
 
-        show-at : (q : ℕ) (G : Summary) → shownAt j q ≡ some G → Keeps graph G → ShowAt s rules templates count starts graph j q
-        show-at q G is K = record {
-          end = R .end;
-          reads = R .reads;
-          vocabulary = R .vocabulary;
-          located = R .located;
-          stand = R .parts .start;
-          few = R .parts .few-templates;
-          tabled = R .tabled;
-          shown = G;
-          shows = is;
-          keeps = K;
-        }
-
-        -- It is what was decided for its graph.
-        pub shows-graph : (r : Shown) → DecidesShow s rules templates count starts graph r → ShowFound (j .script) (entries (j .proposal)) p r
-        shows-graph r decides = decides j p (show-at p (shown .0) (shown .1) keeps)
-
-        -- What was decided holds of every point that shows this graph.
-        pub right-graph : (r : Shown) → DecidesShow s rules templates count starts graph r → r ≡ Right → RightGraph j graph
-        right-graph r decides is q G shows same =
-            subst (ShowFound (j .script) (entries (j .proposal)) q) is (decides j q (show-at q G shows (record { room = keeps .room; same = same; narrow = keeps .narrow })))
-
-        -- It shows a graph that was found right.
-        pub same-graph : (last : List ℕ) → RightGraph j last → SameGraph last graph → ShowHolds (j .script) (entries (j .proposal)) p
-        same-graph last right same = right p (shown .0) (shown .1) (λ c w. keeps .same c w ∙ sym (same c w))
+    -- It holds of every point that shows this graph.
+    pub right-graph : r ≡ Right → RightGraph j graph
+    right-graph is q G shows same = subst (ShowFound (j .script) (entries (j .proposal)) q) is (decides j q (show-at q G shows (record { room = kept .room; same = same; narrow = kept .narrow })))
 
 -- No statement stands past the last point, so nothing is shown there.
 past-nothing : (π : Script) (E : ℕ → Environment) (q : ℕ) → length (π .program) ≤ q → graphShown (π .templates) (π .program) E q ≡ none
@@ -86,16 +110,12 @@ accepts-right p x v is e = go x (sym (ap accepts is) ∙ e)
     go (NotRoot t) a = absurd (false≢true a)
     go (Wrong t at) a = absurd (false≢true a)
 
--- The place of a point, as code looks it up.
-pub place-is : (points p : ℕ) (places : List ℕ) → points ≤ 32 → p < points → getD places (p % 32) 0 ≡ getD places p 0
-place-is points p places few l = ap (λ (i : ℕ). getD places i 0) (omega arith)
-
 -- The points passed by.
 module _ (s heads places : List ℕ) (points : ℕ) (graph : List ℕ) (from : ℕ) where
   pub passed-none : PassedBy s heads places points graph from from
   passed-none = record { forward = omega arith; hold = λ rules templates count starts j R right q l h. absurd (omega (arith, l, h)) }
 
-  pub passed-more : (p : ℕ) → PassedBy s heads places points graph from p
+  passed-more : (p : ℕ) → PassedBy s heads places points graph from p
       → ((rules : Vocabularies.Tables) (templates : TemplateTables) (count : ℕ) (starts : List ℕ) (j : Job) → ReadAt s rules templates count starts points places heads j → RightGraph j graph → ShowHolds (j .script) (entries (j .proposal)) p)
       → PassedBy s heads places points graph from (p + 1)
   passed-more p past here = record {
@@ -107,6 +127,11 @@ module _ (s heads places : List ℕ) (points : ℕ) (graph : List ℕ) (from : �
           → (q : ℕ) → from ≤ q → q < p + 1 → (t : Bool) → eqb q p ≡ t → ShowHolds (j .script) (entries (j .proposal)) q
       go rules templates count starts j R right q l h true e = rw (eqb-true q p e) (here rules templates count starts j R right)
       go rules templates count starts j R right q l h false e = let n = eqb-false q p e in past .hold rules templates count starts j R right q l (omega (arith, h, n))
+
+  pub passes-more : (p : ℕ) → p < points → PassedBy s heads places points graph from p → (b : Bool) → b ≡ true → PassesBy s heads (getD places (p % 32) 0) p graph b
+      → PassedBy s heads places points graph from (p + 1)
+  passes-more p l past b e passes = passed-more p past λ rules templates count starts j R right.
+      subst (PassesBy s heads (getD places (p % 32) 0) p graph) e passes j (point-stands s rules templates count starts points places heads j R p l) right
 
 -- The shows of the points below p hold.
 module _ (π : Script) (E : ℕ → Environment) where

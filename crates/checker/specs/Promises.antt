@@ -2,6 +2,7 @@
 use Prim.Native.Nat.{ℕ, _≤_, _<_}
 use mathlib.Core.Path.{_≡_}
 use mathlib.Core.List.{List}
+use mathlib.Core.Bool.{Bool, true, false}
 use mathlib.Core.Option.{some}
 use Rattle.verdicts.specs.declared.Fault.the-variants.{WrongElement}
 use Rattle.verdicts.specs.declared.Fault.the-variants as Faults
@@ -22,7 +23,7 @@ use Rattle.covering.specs.Tables.{Tables}
 use Rattle.shows.specs.declared.TemplateTables.{TemplateTables}
 use Rattle.shows.specs.declared.Shown.{Shown}
 use Rattle.shows.specs.declared.Shown.the-variants.{Right, NotRoot, Wrong}
-use Rattle.shows.specs.Promises.{shownAt, TablesOf}
+use Rattle.shows.specs.Promises.{PointStands, shownAt, TablesOf}
 
 -- 11 or 12 at a point, or no refusal.
 abbrev pub faultAt : ℕ → Shown → Verdict
@@ -43,6 +44,11 @@ pub record ReadAt (s : List ℕ) (rules : Vocabularies.Tables) (templates : Temp
 -- Every show of what this graph holds is right.
 abbrev pub RightGraph : Job → List ℕ → Type 0
 RightGraph j graph = (q : ℕ) (G : Summary) → shownAt j q ≡ some G → ((c : Claim) → InWords c → G c ≡ holds graph c) → ShowHolds (j .script) (entries (j .proposal)) q
+
+-- By the answer, the show of a point whose statement stands at an offset is right where every show of a graph is.
+abbrev pub PassesBy : List ℕ → List ℕ → ℕ → ℕ → List ℕ → Bool → Type 0
+PassesBy s heads place p graph false = Unit {0}
+PassesBy s heads place p graph true = (j : Job) → PointStands s heads place p j → RightGraph j graph → ShowHolds (j .script) (entries (j .proposal)) p
 
 -- Where every show of a graph is right, those of the points from one up to another are.
 pub record PassedBy (s heads places : List ℕ) (points : ℕ) (graph : List ℕ) (from next : ℕ) : Type 0 where

@@ -8,11 +8,12 @@ ghost use Rattle.jobs.specs.Promises.{JobKept};
 ghost use Rattle.jobs.specs.JobVerdict.{AllCovered, ScriptVerdict};
 ghost use Rattle.jobs.specs.Guarantee.{Guarantee};
 ghost use Rattle.checker.specs.Verdicts.{TheVerdict};
-ghost use Rattle.checker.specs.Promises.{faultAt, ReadAt, PassedBy};
+ghost use Rattle.checker.specs.Promises.{faultAt, ReadAt, PassesBy, PassedBy};
 use commands::Part;
 use covering::Covering;
 use graphs::Graph;
 use jobs::JobRead;
+use shows::Showing;
 use shows::Shown;
 use shows::TemplateTables;
 use verdicts::Fault;
@@ -49,6 +50,20 @@ fn fault_at(p: usize, found: Shown) -> Verdict
     }
 }
 
+// Whether a point, whose statement stands at an offset, shows nothing or this graph.
+fn is_passed_by(s: &[u8], heads: &[usize; 256], place: usize, p: usize, graph: &Graph) -> bool
+    ensures { λ r. ⌜ PassesBy (now (s .entry)) (now (heads .entry)) place p (now (graph .entry)) r ⌝ }
+{
+    match shows::showing_at(s, place) {
+        Showing::Nothing => true,
+        Showing::Variable(x) => {
+            let mut other = graphs::none();
+            shows::shown_graph(s, heads, p, x, &mut other);
+            graphs::same(graph, &other)
+        }
+    }
+}
+
 // The lowest point from one on that shows another graph than this one, or the number of points.
 fn other_show(
     s: &[u8],
@@ -62,11 +77,8 @@ fn other_show(
 {
     let mut q = from;
     while q < points {
-        let mut other = graphs::none();
-        if shows::shown_graph(s, heads, places[q % 32], q, &mut other) {
-            if !graphs::same(graph, &other) {
-                return q;
-            }
+        if !is_passed_by(s, heads, places[q % 32], q, graph) {
+            return q;
         }
         q += 1;
     }
@@ -89,17 +101,19 @@ fn first_fault(
     let mut p: usize = 0;
     while p < points {
         let place = places[p % 32];
-        let mut graph = graphs::none();
-        if shows::shown_graph(s, heads, place, p, &mut graph) {
-            let found = shows::decide(s, rules, templates, count, starts, &graph);
-            let verdict = fault_at(p, found);
-            if !verdicts::is_accepted(verdict) {
-                return verdict;
-            }
-            p = other_show(s, heads, places, points, &graph, p + 1);
-        } else {
+        let showing = shows::showing_at(s, place);
+        let Showing::Variable(x) = showing else {
             p += 1;
+            continue;
+        };
+        let mut graph = graphs::none();
+        shows::shown_graph(s, heads, p, x, &mut graph);
+        let found = shows::decide(s, rules, templates, count, starts, &graph);
+        let verdict = fault_at(p, found);
+        if !verdicts::is_accepted(verdict) {
+            return verdict;
         }
+        p = other_show(s, heads, places, points, &graph, p + 1);
     }
     Verdict::Accepted
 }

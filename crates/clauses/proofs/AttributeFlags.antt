@@ -1,13 +1,17 @@
 -- The flags that one attribute gives: only to the facts about its name.
 use Prim.Native.Nat.{ℕ, suc, _+_, _-_, _*_, _^_, _<_, _≤_}
-use mathlib.Core.Path.{_≡_, sym, ap, _∙_}
+use mathlib.Core.Path.{_≡_, refl, sym, ap, _∙_}
 use mathlib.Core.List.{List, [], _∷_}
-use mathlib.Core.Bool.{Bool, true, false, cond, or-false}
+use mathlib.Core.Bool.{Bool, true, false, cond, _||_, or-false, false≢true}
+use mathlib.Core.Logic.{_⊎_, ⊎-elim}
+use native.Mathlib.Decide.{ℕ-discrete}
 use native.Mathlib.Omega.{arith}
 use lib.ListN.{length, getD, drop}
 use lib.Seq.{drop-cons, drop-length}
+use lib.Dec.{eqb}
 use lib.Pow.{pow-pos, pow-mono}
 use borrow.Author.Tests.{eq-eqb, ne-eqb}
+use Rattle.sets.specs.Sets.{member}
 use Rattle.strings.specs.declared.StringSet.{StringSet}
 use Rattle.strings.specs.Strings.{hasString}
 use Rattle.vocabularies.specs.Vocabulary.{isIn}
@@ -18,9 +22,17 @@ use Rattle.vocabularies.specs.Facts.{Fact, present}
 use Rattle.vocabularies.specs.Promises.{meaningOf, keptAt, Stored}
 use Rattle.judging.specs.Judgement.{precedes, holdsValue}
 use Rattle.patterns.specs.Patterns.{flagged, numbered, patternOf}
-use Rattle.readings.specs.Promises.{OfFacts}
-use Rattle.readings.proofs.Placing.{few-count}
-use Rattle.clauses.specs.Promises.{alone, IsPattern}
+use Rattle.patterns.proofs.Tests.{or-left, or-right, failed}
+use Rattle.schemes.specs.Promises.{OfFacts}
+use Rattle.schemes.proofs.Placing.{few-count}
+use Rattle.clauses.specs.Promises.{alone, IsPattern, WithValued, ValuedNames}
+
+-- A number doubled, and the next one, as the definition writes them.
+pub odd : (n : ℕ) → n * 2 + 1 ≡ 1 + 2 * n
+odd n = omega arith
+
+pub even : (n : ℕ) → n * 2 ≡ 0 + 2 * n
+even n = omega arith
 
 -- The strings with which attribute a alone has the flag of a fact.
 abbrev pub Tells : Kept.Fact → ℕ → StringSet → Type 0
@@ -115,3 +127,50 @@ module _ (t : Facts) (a s : ℕ) where
             let here : b ≡ flagged (alone a s) [] (getD fs (i - 1) (present 0)) =
             is ∙ tells (getD fs (i - 1) (present 0)) (h .stores (i - 1) (omega (arith, n .within, n .few)) inside) s in
             rw (split, ← here, ← (n .number fs h few))
+
+-- ---- attributes that no fact is about
+
+numbered-none : (fs : List Fact) (flag : Fact → Bool) → ((j : ℕ) → j < length fs → flag (getD fs j (present 0)) ≡ false) → numbered fs flag ≡ 0
+unfolding numbered
+numbered-none [] flag none = refl
+numbered-none (f ∷ fs) flag none = rw (none 0 (omega arith), numbered-none fs flag (λ j l. none (suc j) (omega arith)))
+
+module _ (names : ℕ) (y : Kept.Fact) where
+  pub valued-content : (c : ℕ) → y ≡ Present c → WithValued names (meaningOf y) names
+  unfolding isIn
+  valued-content c e = record { keeps = λ a h. h; others = λ a s l h. rw e }
+
+  pub valued-pair : (c d : ℕ) → y ≡ Ordered c d → WithValued names (meaningOf y) names
+  unfolding precedes
+  valued-pair c d e = record { keeps = λ a h. h; others = λ a s l h. rw e }
+
+  pub valued-high : (b : ℕ) (set : StringSet) → y ≡ Valued b set → 64 ≤ b → WithValued names (meaningOf y) names
+  unfolding holdsValue
+  valued-high b set e h = record { keeps = λ a n. n; others = λ a s l n. rw (e, ne-eqb a b (λ q. omega arith)) }
+
+  pub valued-name : (b : ℕ) (set : StringSet) (r : ℕ) → y ≡ Valued b set → ((k : ℕ) → member r k ≡ (eqb k b || member names k)) → WithValued names (meaningOf y) r
+  unfolding holdsValue
+  valued-name b set r e is = record {
+    keeps = λ a h. failed (member names a) (λ p. false≢true (sym h ∙ is a ∙ or-right (eqb a b) (member names a) p));
+    others = λ a s l h. rw (e, failed (eqb a b) (λ p. false≢true (sym h ∙ is a ∙ or-left (eqb a b) (member names a) p)));
+  }
+
+module _ (t : Facts) where
+  -- An attribute that is not among the names has no flag of a fact before a place.
+  abbrev pub NamedTo : ℕ → ℕ → Type 0
+  NamedTo i names = OfFacts t (λ fs. (a s j : ℕ) → a < 64 → member names a ≡ false → j < i → flagged (alone a s) [] (getD fs j (present 0)) ≡ false)
+
+  pub named-more : (i names : ℕ) (y : Kept.Fact) (r : ℕ) → i < 8 → i < t .count → y ≡ keptAt t i → WithValued names (meaningOf y) r → NamedTo i names → NamedTo (i + 1) r
+  named-more i names y r b here at W before fs h few a s j l n k = go (ℕ-discrete j i)
+    where
+      go : Dec (j ≡ i) → flagged (alone a s) [] (getD fs j (present 0)) ≡ false
+      go (yes e) =
+          let c : t .count ≡ length fs = few-count t fs h few in
+          let is : meaningOf y ≡ getD fs i (present 0) = ap meaningOf at ∙ h .stores i b (omega arith) in
+          rw (e, ← is) (W .others a s l n)
+      go (no m) = before fs h few a s j l (W .keeps a n) (omega arith)
+
+  pub named-all : (i names : ℕ) → (t .count ≤ i) ⊎ (8 ≤ i) → NamedTo i names → ValuedNames t names
+  unfolding patternOf
+  named-all i names end before fs h few a s l n = numbered-none fs (flagged (alone a s) [])
+      (λ j k. before fs h few a s j l n (let c : t .count ≡ length fs = few-count t fs h few in ⊎-elim (λ p. omega arith) (λ p. omega arith) end))

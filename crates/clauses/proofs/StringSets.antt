@@ -22,9 +22,9 @@ use Rattle.patterns.specs.Elements.{attributePattern}
 use Rattle.patterns.proofs.Tests.{or-left, or-right, or-cases, and-both, and-left, and-right, same-test, failed, any-below, below-any}
 use Rattle.patterns.proofs.Clauses.{pattern-below}
 use Rattle.pattern_sets.specs.PatternSets.{holds}
-use Rattle.readings.specs.Readings.{Is}
-use Rattle.readings.specs.Promises.{OfFacts}
-use Rattle.readings.proofs.Placing.{few-count}
+use Rattle.schemes.specs.Schemes.{Is}
+use Rattle.schemes.specs.Promises.{OfFacts}
+use Rattle.schemes.proofs.Placing.{few-count}
 use Rattle.clauses.specs.Promises.{alone, agree, Alike, WithPatterns}
 use Rattle.clauses.proofs.AttributeFlags.{TellsAt}
 

@@ -27,8 +27,8 @@ use Rattle.patterns.proofs.Tests.{and-left, failed, any-below, below-any}
 use Rattle.pattern_sets.specs.PatternSets.{holds, IsEmpty}
 use Rattle.pattern_sets.specs.Images.{AllFlagged}
 use Rattle.pattern_sets.proofs.Tables.{below, passed}
-use Rattle.readings.specs.Promises.{Places}
-use Rattle.readings.proofs.FactPlaces.{flag-placed}
+use Rattle.schemes.specs.Promises.{Places}
+use Rattle.schemes.proofs.FactPlaces.{flag-placed}
 use Rattle.clauses.specs.declared.Truths.{Truths}
 use Rattle.clauses.specs.Promises.{FlaggedBy, IsUnbroken, IsValued, heldAt, TruePatterns, ClauseFails}
 

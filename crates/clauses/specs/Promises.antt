@@ -5,7 +5,7 @@ use mathlib.Core.List.{List, [], _∷_}
 use mathlib.Core.Bool.{Bool, true, false, not, _&&_, _||_}
 use mathlib.Core.Logic.{_⊎_}
 use lib.ListN.{length}
-use Rattle.sets.specs.Sets.{member}
+use Rattle.sets.specs.Sets.{wordSize, member}
 use Rattle.strings.specs.declared.StringSet.{StringSet}
 use Rattle.strings.specs.declared.Values.{Values}
 use Rattle.strings.specs.Strings.{strings, hasString, holdsValue}
@@ -18,13 +18,13 @@ use Rattle.pages.specs.Items.{string, Attribute}
 use Rattle.judging.specs.declared.Held.{Held}
 use Rattle.judging.specs.Judgement.{truthOf}
 use Rattle.judging.specs.Promises.{Holds}
-use Rattle.patterns.specs.Patterns.{flagIn, atomsBy}
+use Rattle.patterns.specs.Patterns.{flagged, flagIn, atomsBy}
 use Rattle.patterns.specs.Morphisms.{factMorphism}
 use Rattle.patterns.specs.Rounds.{Set, only, anyBelow, anyNamed}
 use Rattle.patterns.specs.Elements.{attributePattern}
 use Rattle.pattern_sets.specs.PatternSets.{holds}
-use Rattle.readings.specs.Readings.{Is}
-use Rattle.readings.specs.Promises.{OfFacts}
+use Rattle.schemes.specs.Schemes.{Is}
+use Rattle.schemes.specs.Promises.{OfFacts}
 use Rattle.clauses.specs.declared.Truths.{Truths}
 use Rattle.clauses.specs.declared.Tested.{Tested}
 
@@ -34,6 +34,15 @@ alone a s = record { name = a; value = string s } ∷ []
 
 abbrev pub IsPattern : Facts → ℕ → ℕ → ℕ → Type 0
 IsPattern t a s p = OfFacts t (λ fs. p ≡ attributePattern fs a s)
+
+-- Names with that of the attribute that a fact is about: any other attribute has no flag of the fact.
+pub record WithValued (names : ℕ) (x : Fact) (r : ℕ) : Type 0 where
+  pub keeps : (a : ℕ) → member r a ≡ false → member names a ≡ false
+  pub others : (a s : ℕ) → a < wordSize → member r a ≡ false → flagged (alone a s) [] x ≡ false
+
+-- An attribute that is not among the names has no flag with any string.
+abbrev pub ValuedNames : Facts → ℕ → Type 0
+ValuedNames t r = OfFacts t (λ fs. (a s : ℕ) → a < wordSize → member r a ≡ false → attributePattern fs a s ≡ 0)
 
 -- Whether a flag is the given one.
 abbrev pub agree : Bool → Bool → Bool

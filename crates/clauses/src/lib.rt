@@ -7,7 +7,7 @@ ghost use Rattle.strings.specs.Strings.{setNumber, hasString};
 ghost use Rattle.vocabularies.specs.Promises.{meaningOf};
 ghost use Rattle.patterns.specs.Patterns.{flagged};
 ghost use Rattle.pattern_sets.specs.PatternSets.{holds};
-ghost use Rattle.clauses.specs.Promises.{alone, agree, IsPattern, Alike, AddsPatterns, ValuePatterns, FlaggedBy, IsUnbroken, IsValued, TruePatterns, ClauseFails};
+ghost use Rattle.clauses.specs.Promises.{alone, agree, IsPattern, WithValued, ValuedNames, Alike, AddsPatterns, ValuePatterns, FlaggedBy, IsUnbroken, IsValued, TruePatterns, ClauseFails};
 use commands::Decoded;
 use commands::Position;
 use strings::OUTSIDE;
@@ -44,7 +44,9 @@ pub fn attribute_pattern(facts: Facts, a: u8, s: u8) -> u8
     let mut pattern: u8 = 0;
     while 0 < i {
         i -= 1;
-        let told = flagged_strings(vocabularies::fact_at(facts, i), a);
+        let kept = facts.kept[i];
+        let fact = kept.fact;
+        let told = flagged_strings(fact, a);
         if strings::has(told, s) {
             pattern = pattern * 2 + 1;
         } else {
@@ -52,6 +54,41 @@ pub fn attribute_pattern(facts: Facts, a: u8, s: u8) -> u8
         }
     }
     pattern
+}
+
+// Names with that of the attribute that a fact is about.
+fn with_valued(names: u64, fact: Fact) -> u64
+    ensures { λ r. ⌜ WithValued names (meaningOf fact) r ⌝ }
+{
+    match fact {
+        Fact::Present(_) => names,
+        Fact::Ordered(_, _) => names,
+        Fact::Valued(a, _) => {
+            if 64 <= a {
+                return names;
+            }
+            sets::with(names, a)
+        }
+    }
+}
+
+// The names of the attributes that some fact is about. Every other attribute has no flag.
+pub fn valued_names(facts: Facts) -> u64
+    ensures { λ r. ⌜ ValuedNames facts r ⌝ }
+{
+    let count = facts.count;
+    let mut names: u64 = 0;
+    let mut i = 0;
+    while i < 8 {
+        if count <= i {
+            return names;
+        }
+        let kept = facts.kept[i];
+        let fact = kept.fact;
+        names = with_valued(names, fact);
+        i += 1;
+    }
+    names
 }
 
 // Of a set of strings those that stand with s inside the told ones, or outside of them.
@@ -75,7 +112,9 @@ fn alike(facts: Facts, a: u8, s: u8) -> StringSet
         if count <= i {
             return set;
         }
-        let told = flagged_strings(vocabularies::fact_at(facts, i), a);
+        let kept = facts.kept[i];
+        let fact = kept.fact;
+        let told = flagged_strings(fact, a);
         set = with_same_flag(set, told, s);
         i += 1;
     }
@@ -123,7 +162,7 @@ fn all_if(is_true: bool) -> [u64; 4]
 fn flagged_by(facts: Facts, fact: Fact) -> [u64; 4]
     ensures { λ r. ⌜ FlaggedBy facts (meaningOf fact) r ⌝ }
 {
-    pattern_sets::flagged(readings::place_of(facts, fact))
+    pattern_sets::flagged(schemes::place_of(facts, fact))
 }
 
 // The patterns that are not in a set.
@@ -189,7 +228,7 @@ impl Truths {
 }
 
 // The formula here, for an element whose attributes have these names; the forms stand in the order of source 000's grammar.
-pub fn true_patterns(s: &[u8], here: Position, facts: Facts, names: u64) -> Truths
+fn true_patterns(s: &[u8], here: Position, facts: Facts, names: u64) -> Truths
     ensures forward { λ r. ⌜ here .at ≤ r .next .at ⌝ }
     ensures truths { λ r. ⌜ TruePatterns facts names (now (s .entry)) (here .at) r ⌝ }
 {

@@ -1,6 +1,6 @@
 -- What holds of the command at an offset, and of readings that go on from it.
 use Prim.Native.Nat.{ℕ, _+_, _≤_, _<_}
-use mathlib.Core.Path.{_≡_, refl, sym, _∙_}
+use mathlib.Core.Path.{_≡_, refl, sym, ap, _∙_}
 use mathlib.Core.List.{List, [], _∷_}
 use mathlib.Core.Bool.{Bool, true, false, cond, _&&_}
 use native.Mathlib.Omega.{arith}
@@ -10,6 +10,7 @@ use borrow.Author.Tests.{leb-true, ltb-true, ltb-false, lt-ltb, le-ltb, le-leb, 
 use Rattle.verdicts.specs.declared.Form.{Form}
 use Rattle.verdicts.specs.declared.Form.the-variants.{Ended, NotAllowed, OutOfRange}
 use Rattle.commands.specs.declared.Context.{Context}
+use Rattle.commands.specs.declared.Context.the-variants.{Formulas}
 use Rattle.commands.specs.declared.Position.{Position}
 use Rattle.commands.specs.declared.Decoded.{Decoded}
 use Rattle.commands.specs.declared.Decoded.the-variants.{Moved, Refused}
@@ -91,8 +92,18 @@ moves-as x s at k os here code may has fits ranges =
     let m = moves x s at here (rw code may) (rw o fits) (rw o ranges) in
     rw (← code) (rw o at m)
 
--- `23 e` and `24 a s`.
+-- A command with no operand, `23 e` and `24 a s`.
 module _ (x : Context) (s : List ℕ) (at : ℕ) (here : at < length s) where
+  bare-moves : (k : ℕ) → byte s at ≡ k → allowed x k ≡ true → operandsOf k ≡ [] → Moved k (record { at = at + 1 }) ≡ command x s at
+  unfolding allInRange
+  bare-moves k code may none =
+      let e : at + 1 ≡ at + 1 + 0 = omega arith in
+      rw e (moves-as x s at k [] here code may none (omega arith) refl)
+
+  pub text-moves : byte s at ≡ 0x21 → allowed x 0x21 ≡ true → Moved 0x21 (record { at = at + 1 }) ≡ command x s at
+  unfolding operandsOf
+  text-moves code may = bare-moves 0x21 code may refl
+
   pub element-moves : byte s at ≡ 0x23 → allowed x 0x23 ≡ true → at + 2 ≤ length s → between 1 63 (byte s (at + 1)) ≡ true
       → Moved 0x23 (record { at = at + 2 }) ≡ command x s at
   unfolding operandsOf allInRange inRange
@@ -107,6 +118,27 @@ module _ (x : Context) (s : List ℕ) (at : ℕ) (here : at < length s) where
       let e : at + 3 ≡ at + 1 + 2 = omega arith in
       let z : at + 1 + 1 ≡ at + 2 = omega arith in
       rw e (moves-as x s at 0x24 (attribute ∷ string ∷ []) here code may refl (omega arith) (rw (le-leb _ _ a, z, lt-ltb (byte s (at + 2)) 64 (omega arith))))
+
+-- `10` to `13`.
+no-operand : (k : ℕ) → 0x10 ≤ k → k ≤ 0x13 → operandsOf k ≡ []
+unfolding operandsOf
+no-operand k low high = go (eqb k 0x10) (eqb k 0x11) (eqb k 0x12) refl refl refl
+  where
+    go : (a b c : Bool) → eqb k 0x10 ≡ a → eqb k 0x11 ≡ b → eqb k 0x12 ≡ c → operandsOf k ≡ []
+    go true b c p q r = ap operandsOf (eqb-true k 0x10 p)
+    go false true c p q r = ap operandsOf (eqb-true k 0x11 q)
+    go false false true p q r = ap operandsOf (eqb-true k 0x12 r)
+    go false false false p q r =
+        let n₀ = eqb-false k 0x10 p in
+        let n₁ = eqb-false k 0x11 q in
+        let n₂ = eqb-false k 0x12 r in
+        let e : k ≡ 0x13 = omega arith in
+        ap operandsOf e
+
+pub connective-moves : (s : List ℕ) (at k : ℕ) → at < length s → byte s at ≡ k → 0x10 ≤ k → k ≤ 0x13 → Moved k (record { at = at + 1 }) ≡ command Formulas s at
+unfolding allowed
+connective-moves s at k here code low high =
+    bare-moves Formulas s at here k code (rw (le-leb 0x10 k low, le-leb k 0x17 (omega arith))) (no-operand k low high)
 
 pub single-moves : (x : Context) (s : List ℕ) (at k most : ℕ) → Single x k most → at < length s → byte s at ≡ k → at + 2 ≤ length s → byte s (at + 1) ≤ most
     → Moved k (record { at = at + 2 }) ≡ command x s at

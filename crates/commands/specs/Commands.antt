@@ -11,7 +11,7 @@ pub use Rattle.strings.specs.Strings.{strings, emptyString}
 use Rattle.verdicts.specs.declared.Form.{Form}
 use Rattle.verdicts.specs.declared.Form.the-variants.{Ended, NotAllowed, OutOfRange}
 use Rattle.commands.specs.declared.Context.{Context}
-use Rattle.commands.specs.declared.Context.the-variants.{Rules, Attributes, Contents, Formulas, Templates, TemplateItems, TemplateAttributes, PageItems, PageAttributes, FirstStatement, Statements, Heads, TemplateFacts, StringFacts}
+use Rattle.commands.specs.declared.Context.the-variants.{Rules, Attributes, Contents, Formulas, Templates, TemplateItems, TemplateAttributes, PageItems, PageAttributes, FirstStatement, Statements, Heads, TemplateHoldings, StringHoldings}
 use Rattle.commands.specs.declared.Decoded.{Decoded}
 use Rattle.commands.specs.declared.Decoded.the-variants.{Moved, Refused}
 
@@ -144,8 +144,8 @@ allowed PageAttributes c = either 0x24 0x28 c
 allowed FirstStatement c = between 0x30 0x38 c
 allowed Statements c = between 0x30 0x38 c || eqb c 0x3F
 allowed Heads c = either 0x40 0x4F c
-allowed TemplateFacts c = between 0x41 0x46 c
-allowed StringFacts c = either 0x47 0x48 c
+allowed TemplateHoldings c = between 0x41 0x46 c
+allowed StringHoldings c = either 0x47 0x48 c
 
 -- A command of one operand, a byte of at most `most`, that may stand at a place.
 pub record Single (x : Context) (c most : ℕ) : Type 0 where

@@ -31,8 +31,8 @@ pub enum Context {
     FirstStatement,
     Statements,
     Heads,
-    TemplateFacts,
-    StringFacts,
+    TemplateHoldings,
+    StringHoldings,
 }
 
 // A command that was read, by its first byte, with the position after it; or the refusal and its offset.
@@ -117,8 +117,8 @@ pub fn is_allowed(context: Context, code: u8) -> bool
         Context::FirstStatement => is_between(0x30, 0x38, code),
         Context::Statements => is_between(0x30, 0x38, code) || code == 0x3F,
         Context::Heads => is_either(0x40, 0x4F, code),
-        Context::TemplateFacts => is_between(0x41, 0x46, code),
-        Context::StringFacts => is_either(0x47, 0x48, code),
+        Context::TemplateHoldings => is_between(0x41, 0x46, code),
+        Context::StringHoldings => is_either(0x47, 0x48, code),
     }
 }
 
@@ -276,16 +276,20 @@ impl Position {
         Decoded::Moved(code, Position { at: at + 1 + more })
     }
 
-    // The same where an element may stand: `23 e` is seen at once.
+    // The same where text and elements may stand: `21` and `23 e` are seen at once.
     pub fn item_command(self, s: &[u8], context: Context) -> Decoded
-        requires { ⌜ allowed context 0x23 ≡ true ⌝ }
+        requires { ⌜ (allowed context 0x21 ≡ true) × (allowed context 0x23 ≡ true) ⌝ }
         ensures { λ r. ⌜ r ≡ command context (now (s .entry)) (self .at) ⌝ }
     {
         let at = self.at;
         if s.len() <= at {
             return self.command(s, context);
         }
-        if s[at] != 0x23 {
+        let code = s[at];
+        if code == 0x21 {
+            return Decoded::Moved(0x21, Position { at: at + 1 });
+        }
+        if code != 0x23 {
             return self.command(s, context);
         }
         if s.len() - at < 2 {
@@ -295,6 +299,24 @@ impl Position {
             return self.command(s, context);
         }
         Decoded::Moved(0x23, Position { at: at + 2 })
+    }
+
+    // The same where a formula may stand: `10` to `13`, which have no operand, are seen at once.
+    pub fn formula_command(self, s: &[u8]) -> Decoded
+        ensures { λ r. ⌜ r ≡ command Context.Formulas (now (s .entry)) (self .at) ⌝ }
+    {
+        let at = self.at;
+        if s.len() <= at {
+            return self.command(s, Context::Formulas);
+        }
+        let code = s[at];
+        if code < 0x10 {
+            return self.command(s, Context::Formulas);
+        }
+        if 0x13 < code {
+            return self.command(s, Context::Formulas);
+        }
+        Decoded::Moved(code, Position { at: at + 1 })
     }
 
     // The same where a command of one operand may stand: with an operand of at most `most` it is seen at once.

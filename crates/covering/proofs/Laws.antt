@@ -10,7 +10,7 @@ use lib.Dec.{eqb, leb, ltb}
 use borrow.Author.Tests.{eqb-true, eqb-false, lt-ltb, le-ltb, ltb-true, ltb-false}
 use Rattle.verdicts.specs.declared.Form.the-variants.{TooLong, NotAllowed}
 use Rattle.sets.specs.Sets.{member}
-use Rattle.commands.specs.declared.Context.the-variants.{Rules, TemplateFacts, StringFacts}
+use Rattle.commands.specs.declared.Context.the-variants.{Rules, TemplateHoldings, StringHoldings}
 use Rattle.commands.specs.Commands.{byte, allowed}
 use Rattle.commands.specs.Reading.{Read, whole, refused, andThen, when, enough}
 use Rattle.commands.proofs.Laws.{moved, andThen-whole, onCommand-whole, when-whole}
@@ -20,12 +20,12 @@ use Rattle.pages.specs.Items.{Items, none}
 use Rattle.pages.specs.ItemReading.{mostTemplates, templates}
 use Rattle.pages.specs.Promises.{Located}
 use Rattle.pages.proofs.Whole.{never-unfinished, templates-whole}
-use Rattle.programs.specs.Program.{Statement, strings, templateAt, named}
+use Rattle.programs.specs.Program.{Statement, stringVariable, templateAt, named}
 use Rattle.programs.specs.Program as Program
 use Rattle.programs.specs.ProgramReading.{program}
 use Rattle.programs.specs.Promises.{Names}
 use Rattle.summaries.specs.Proposal.{Head}
-use Rattle.summaries.specs.ProposalReading.{variableOf, factContext, proposal}
+use Rattle.summaries.specs.ProposalReading.{variableOf, holdingContext, proposal}
 use Rattle.summaries.specs.Summaries.{under}
 use Rattle.summaries.specs.Promises.{Stand, Kept}
 use Rattle.jobs.specs.declared.JobRead.{JobRead}
@@ -34,7 +34,7 @@ use Rattle.jobs.specs.Promises.{JobKept}
 use Rattle.summaries.specs.Listed.{Listed}
 use Rattle.pages.specs.Gaps.{StartsAt}
 use Rattle.entries.proofs.Tests.{or-cases}
-use Rattle.entries.proofs.Reading.{facts-listed}
+use Rattle.entries.proofs.Reading.{holdings-listed}
 use Rattle.covering.specs.Tables.{EntriesAt, NamesAre, Tables}
 
 -- A job has few templates.
@@ -62,7 +62,7 @@ begins (suc f) s D end e =
     ]
 
 abbrev NoneFirst : List ℕ → Type 0
-NoneFirst s = (allowed TemplateFacts (byte s 0) ≡ false) × (allowed StringFacts (byte s 0) ≡ false)
+NoneFirst s = (allowed TemplateHoldings (byte s 0) ≡ false) × (allowed StringHoldings (byte s 0) ≡ false)
 
 none-first : (s : List ℕ) → (byte s 0 ≡ 0x01) ⊎ (byte s 0 ≡ 0x05) → NoneFirst s
 unfolding allowed
@@ -142,16 +142,16 @@ starts-at ruled s φs count starts L t l m =
     record { ruled = ruled; fuel = fuel; end = r .0; reads = r .1 ∙ ap (λ (φ : Items). whole φ (r .0)) (sym (template-at φs t l)) }
 
 -- The items under a head.
-listed : (count : ℕ) (s : List ℕ) (hs : List Head) (p v offset : ℕ) → count ≤ 31 → allowed (factContext (variableOf v)) (byte s 0) ≡ false
-    → Stand count s hs p v offset → Listed (factContext (variableOf v)) s offset (under hs p (variableOf v))
+listed : (count : ℕ) (s : List ℕ) (hs : List Head) (p v offset : ℕ) → count ≤ 31 → allowed (holdingContext (variableOf v)) (byte s 0) ≡ false
+    → Stand count s hs p v offset → Listed (holdingContext (variableOf v)) s offset (under hs p (variableOf v))
 unfolding Listed
 listed count s hs p v offset few first S = go (eqb offset 0) refl
   where
-    go : (t : Bool) → eqb offset 0 ≡ t → Listed (factContext (variableOf v)) s offset (under hs p (variableOf v))
+    go : (t : Bool) → eqb offset 0 ≡ t → Listed (holdingContext (variableOf v)) s offset (under hs p (variableOf v))
     go true e = let q = eqb-true offset 0 e in rw (S .none q, q) first
     go false e =
         let r = S .some (eqb-false offset 0 e) ((length s - offset) + (length s - offset) + 2) (omega arith) in
-        facts-listed ((length s - offset) + (length s - offset) + 2) (factContext (variableOf v)) count s 0 offset (under hs p (variableOf v)) (r .0) few (r .1)
+        holdings-listed ((length s - offset) + (length s - offset) + 2) (holdingContext (variableOf v)) count s 0 offset (under hs p (variableOf v)) (r .0) few (r .1)
 
 entries-at : (count : ℕ) (s heads : List ℕ) (hs : List Head) → count ≤ 31 → NoneFirst s → Kept count s 0 heads hs → (p : ℕ) → p < 32 → EntriesAt s heads hs p
 entries-at count s heads hs few first K p l = record {
@@ -165,12 +165,12 @@ entries-at count s heads hs few first K p l = record {
 names-are : (j : Job) (names : ℕ) → Names (named (j .script .program)) names → NamesAre j names
 names-are j names N v l = go (ltb v 4) refl
   where
-    go : (t : Bool) → ltb v 4 ≡ t → member names v ≡ named (j .script .program) (cond t (Program.templates v) (strings (v - 4)))
-    go true e = N .holds (Program.templates v) (ltb-true v 4 e)
+    go : (t : Bool) → ltb v 4 ≡ t → member names v ≡ named (j .script .program) (cond t (Program.templateVariable v) (stringVariable (v - 4)))
+    go true e = N .holds (Program.templateVariable v) (ltb-true v 4 e)
     go false e =
         let m = ltb-false v 4 e in
         let q : 4 + (v - 4) ≡ v = omega arith in
-        rw q at (N .holds (strings (v - 4)) (omega arith))
+        rw q at (N .holds (stringVariable (v - 4)) (omega arith))
 
 -- What `first_uncovered` asks for, of a job that was read.
 pub tables-of : (s heads : List ℕ) (j : Job) (end : ℕ) (r : JobRead) → job s ≡ whole j end → JobKept s heads j r

@@ -7,13 +7,13 @@ use native.Mathlib.Omega.{arith}
 use lib.ListN.{length, getD}
 use lib.Dec.{eqb}
 use borrow.Author.Tests.{leb-true, lt-ltb, le-ltb, not-true, not-false}
-use Rattle.commands.specs.declared.Context.the-variants.{TemplateFacts, StringFacts}
+use Rattle.commands.specs.declared.Context.the-variants.{TemplateHoldings, StringHoldings}
 use Rattle.pages.specs.Items.{Items}
 use Rattle.programs.specs.declared.Act as Declared
 use Rattle.programs.specs.declared.Act.the-variants.{CopyTemplate, SetTemplate, CopyString, SetString, AnyString, Plug, PlugString}
-use Rattle.programs.specs.Program.{Act, copyTemplate, setTemplate, copyString, setString, anyString, plug, plugString, show, templates, strings, templateAt}
+use Rattle.programs.specs.Program.{Act, copyTemplate, setTemplate, copyString, setString, anyString, plug, plugString, show, templateVariable, stringVariable, templateAt}
 use Rattle.programs.specs.Promises.{asAct}
-use Rattle.summaries.specs.Proposal.{Head, Fact}
+use Rattle.summaries.specs.Proposal.{Head, Holding}
 use Rattle.summaries.specs.ProposalReading.{variableOf}
 use Rattle.summaries.specs.Summaries.{Summary, Strings, Environment, Within, fragment, plugSummary, plugStringSummary, transfer, transferTemplate, transferString, saysClaim, saysString, held, under, entries}
 use Rattle.summaries.specs.Listed.{Listed}
@@ -29,10 +29,10 @@ use Rattle.covering.specs.Promises.{setsTemplate, setsString}
 
 -- The entry of a variable at a point, by the offset that the code takes from the table.
 module _ (s heads : List ℕ) (hs : List Head) (p : ℕ) (low : p < 32) (entry : EntriesAt s heads hs p) where
-  pub template-listed : (x from : ℕ) → x < 4 → (p < 32 → x < 4 → from ≡ getD heads (p * 8 + x) 0) → Listed TemplateFacts s from (under hs p (templates x))
+  pub template-listed : (x from : ℕ) → x < 4 → (p < 32 → x < 4 → from ≡ getD heads (p * 8 + x) 0) → Listed TemplateHoldings s from (under hs p (templateVariable x))
   template-listed x from f is = rw (is low f) (entry .template x f)
 
-  pub string-listed : (y from : ℕ) → y < 4 → (p < 32 → y < 4 → from ≡ getD heads (p * 8 + (4 + y)) 0) → Listed StringFacts s from (under hs p (strings y))
+  pub string-listed : (y from : ℕ) → y < 4 → (p < 32 → y < 4 → from ≡ getD heads (p * 8 + (4 + y)) 0) → Listed StringHoldings s from (under hs p (stringVariable y))
   string-listed y from f is = rw (is low f) (entry .string y f)
 
 -- An act leaves a variable that it does not set.
@@ -66,20 +66,20 @@ module _ (j : Job) (s gaps heads : List ℕ) (p : ℕ) (act : Declared.Act) (P :
   -- A template variable.
   module _ (x : ℕ) (R : Summary) (r : Bool) where
     pub template-stays : setsTemplate (asAct act) x ≡ false → (from : ℕ) → x < 4 → (p < 32 → x < 4 → from ≡ getD heads (p * 8 + x) 0)
-        → ((xs : List Fact) → Listed TemplateFacts s from xs → Decides r (Within (held saysClaim xs) R)) → Decides r (Within (transferTemplate (j .script .templates) (asAct act) E x) R)
+        → ((xs : List Holding) → Listed TemplateHoldings s from xs → Decides r (Within (held saysClaim xs) R)) → Decides r (Within (transferTemplate (j .script .templates) (asAct act) E x) R)
     unfolding entries
     template-stays n from f from-is h =
         rw (template-left (j .script .templates) (asAct act) E x n)
-        (h (under (j .proposal) p (templates x)) (template-listed s heads (j .proposal) p (P .low) (P .entry) x from f from-is))
+        (h (under (j .proposal) p (templateVariable x)) (template-listed s heads (j .proposal) p (P .low) (P .entry) x from f from-is))
 
     module _ (set : setsTemplate (asAct act) x ≡ true) where
       pub copied-decides : (y z : ℕ) → act ≡ CopyTemplate y z → (from : ℕ) → (p < 32 → z < 4 → from ≡ getD heads (p * 8 + z) 0)
-          → ((xs : List Fact) → Listed TemplateFacts s from xs → Decides r (Within (held saysClaim xs) R)) → Decides r (Within (transferTemplate (j .script .templates) (asAct act) E x) R)
+          → ((xs : List Holding) → Listed TemplateHoldings s from xs → Decides r (Within (held saysClaim xs) R)) → Decides r (Within (transferTemplate (j .script .templates) (asAct act) E x) R)
       unfolding entries
       copied-decides y z e from from-is h =
           let K = known (copyTemplate y z) (rw e) in
           let q : eqb x y ≡ true = rw e at set in
-          rw (e, q) (h (under (j .proposal) p (templates z)) (template-listed s heads (j .proposal) p (K .low) (K .entry) z from (K .fits .1) from-is))
+          rw (e, q) (h (under (j .proposal) p (templateVariable z)) (template-listed s heads (j .proposal) p (K .low) (K .entry) z from (K .fits .1) from-is))
 
       pub fragment-decides : (y t : ℕ) → act ≡ SetTemplate y t → ((φ : Items) → GapsAre (getD gaps (t % 32) 0) φ → Decides r (Within (fragment t φ) R))
           → Decides r (Within (transferTemplate (j .script .templates) (asAct act) E x) R)
@@ -93,28 +93,28 @@ module _ (j : Job) (s gaps heads : List ℕ) (p : ℕ) (act : Declared.Act) (P :
 
       pub plugged-decides : (y b g d : ℕ) → act ≡ Plug y b g d → (from other : ℕ)
           → (p < 32 → b < 4 → from ≡ getD heads (p * 8 + b) 0) → (p < 32 → d < 4 → other ≡ getD heads (p * 8 + d) 0)
-          → ((xs ys : List Fact) → Listed TemplateFacts s from xs → Listed TemplateFacts s other ys → Decides r (Within (plugSummary g (held saysClaim xs) (held saysClaim ys)) R))
+          → ((xs ys : List Holding) → Listed TemplateHoldings s from xs → Listed TemplateHoldings s other ys → Decides r (Within (plugSummary g (held saysClaim xs) (held saysClaim ys)) R))
           → Decides r (Within (transferTemplate (j .script .templates) (asAct act) E x) R)
       unfolding entries
       plugged-decides y b g d e from other from-is other-is h =
           let K = known (plug y b g d) (rw e) in
           let q : eqb x y ≡ true = rw e at set in
-          rw (e, q) (h (under (j .proposal) p (templates b)) (under (j .proposal) p (templates d))
+          rw (e, q) (h (under (j .proposal) p (templateVariable b)) (under (j .proposal) p (templateVariable d))
           (template-listed s heads (j .proposal) p (K .low) (K .entry) b from (K .fits .1) from-is)
           (template-listed s heads (j .proposal) p (K .low) (K .entry) d other (K .fits .3) other-is))
 
       pub filled-decides : (y b g d : ℕ) → act ≡ PlugString y b g d → (from other : ℕ)
           → (p < 32 → b < 4 → from ≡ getD heads (p * 8 + b) 0) → (p < 32 → d < 4 → other ≡ getD heads (p * 8 + (4 + d)) 0)
-          → (values : Values) → ((ys : List Fact) → Listed StringFacts s other ys → (t : ℕ) → held saysString ys t ≡ holdsValue values t)
-          → ((xs : List Fact) (Y : Strings) → Listed TemplateFacts s from xs → ((t : ℕ) → Y t ≡ holdsValue values t) → Decides r (Within (plugStringSummary g (held saysClaim xs) Y) R))
+          → (values : Values) → ((ys : List Holding) → Listed StringHoldings s other ys → (t : ℕ) → held saysString ys t ≡ holdsValue values t)
+          → ((xs : List Holding) (Y : Strings) → Listed TemplateHoldings s from xs → ((t : ℕ) → Y t ≡ holdsValue values t) → Decides r (Within (plugStringSummary g (held saysClaim xs) Y) R))
           → Decides r (Within (transferTemplate (j .script .templates) (asAct act) E x) R)
       unfolding entries
       filled-decides y b g d e from other from-is other-is values is h =
           let K = known (plugString y b g d) (rw e) in
           let q : eqb x y ≡ true = rw e at set in
-          rw (e, q) (h (under (j .proposal) p (templates b)) (held saysString (under (j .proposal) p (strings d)))
+          rw (e, q) (h (under (j .proposal) p (templateVariable b)) (held saysString (under (j .proposal) p (stringVariable d)))
           (template-listed s heads (j .proposal) p (K .low) (K .entry) b from (K .fits .1) from-is)
-          (is (under (j .proposal) p (strings d)) (string-listed s heads (j .proposal) p (K .low) (K .entry) d other (K .fits .3) other-is)))
+          (is (under (j .proposal) p (stringVariable d)) (string-listed s heads (j .proposal) p (K .low) (K .entry) d other (K .fits .3) other-is)))
 
       -- No other act sets a template variable.
       pub no-template : (a : Declared.Act) → act ≡ a → ((y : ℕ) → setsTemplate (asAct a) y ≡ false) → Decides r (Within (transferTemplate (j .script .templates) (asAct act) E x) R)
@@ -123,20 +123,20 @@ module _ (j : Job) (s gaps heads : List ℕ) (p : ℕ) (act : Declared.Act) (P :
   -- A string variable.
   module _ (y : ℕ) where
     pub string-stays : setsString (asAct act) y ≡ false → (from : ℕ) → y < 4 → (p < 32 → y < 4 → from ≡ getD heads (p * 8 + (4 + y)) 0) → (R : Strings) (r : Bool)
-        → ((xs : List Fact) → Listed StringFacts s from xs → Decides r (Within (held saysString xs) R)) → Decides r (Within (transferString (asAct act) E y) R)
+        → ((xs : List Holding) → Listed StringHoldings s from xs → Decides r (Within (held saysString xs) R)) → Decides r (Within (transferString (asAct act) E y) R)
     unfolding entries
     string-stays n from f from-is R r h =
         rw (string-left (asAct act) E y n)
-        (h (under (j .proposal) p (strings y)) (string-listed s heads (j .proposal) p (P .low) (P .entry) y from f from-is))
+        (h (under (j .proposal) p (stringVariable y)) (string-listed s heads (j .proposal) p (P .low) (P .entry) y from f from-is))
 
     module _ (set : setsString (asAct act) y ≡ true) where
       pub string-copied-decides : (x z : ℕ) → act ≡ CopyString x z → (from : ℕ) → (p < 32 → z < 4 → from ≡ getD heads (p * 8 + (4 + z)) 0) → (R : Strings) (r : Bool)
-          → ((xs : List Fact) → Listed StringFacts s from xs → Decides r (Within (held saysString xs) R)) → Decides r (Within (transferString (asAct act) E y) R)
+          → ((xs : List Holding) → Listed StringHoldings s from xs → Decides r (Within (held saysString xs) R)) → Decides r (Within (transferString (asAct act) E y) R)
       unfolding entries
       string-copied-decides x z e from from-is R r h =
           let K = known (copyString x z) (rw e) in
           let q : eqb y x ≡ true = rw e at set in
-          rw (e, q) (h (under (j .proposal) p (strings z)) (string-listed s heads (j .proposal) p (K .low) (K .entry) z from (K .fits .1) from-is))
+          rw (e, q) (h (under (j .proposal) p (stringVariable z)) (string-listed s heads (j .proposal) p (K .low) (K .entry) z from (K .fits .1) from-is))
 
       pub string-set-is : (x b : ℕ) → act ≡ SetString x b → (one : Values) → ((t : ℕ) → holdsValue one t ≡ eqb t (b % 64)) → (t : ℕ) → transferString (asAct act) E y t ≡ holdsValue one t
       string-set-is x b e one h t =

@@ -11,11 +11,11 @@ use borrow.Author.Tests.{eqb-true, eqb-false, lt-ltb, le-ltb, ltb-true, ltb-fals
 use Rattle.verdicts.specs.declared.Cover.{Cover}
 use Rattle.verdicts.specs.declared.Cover.the-variants.{Start, Step}
 use Rattle.sets.specs.Sets.{member}
-use Rattle.commands.specs.declared.Context.the-variants.{TemplateFacts, StringFacts}
+use Rattle.commands.specs.declared.Context.the-variants.{TemplateHoldings, StringHoldings}
 use Rattle.pages.specs.Items.{gapIn, attributeGapIn}
 use Rattle.pages.specs.Items as Items
-use Rattle.programs.specs.Program.{Statement, stop, templates, strings, statementAt}
-use Rattle.summaries.specs.Proposal.{root, edge, string, gapFrom, attributeGapFrom, Head, Fact}
+use Rattle.programs.specs.Program.{Statement, stop, templateVariable, stringVariable, statementAt}
+use Rattle.summaries.specs.Proposal.{root, edge, string, gapFrom, attributeGapFrom, Head, Holding}
 use Rattle.summaries.specs.ProposalReading.{variableOf}
 use Rattle.summaries.specs.Summaries.{Summary, Environment, Within, fragment, saysClaim, saysString, held, under, entries}
 use Rattle.summaries.specs.Covering.{WithinAt, startEnvironment}
@@ -45,19 +45,19 @@ empty-decides R r is = decides r covers (λ w. sym is ∙ w (root 0) refl)
     covers e (attributeGapFrom g m) h = absurd (false≢true (sym (and-false (eqb m 0)) ∙ h))
 
 module _ (s heads : List ℕ) (hs : List Head) (entry : EntriesAt s heads hs 0) (v from : ℕ) (r : Bool) where
-  pub start-template : v < 4 → (0 < 32 → v < 4 → from ≡ getD heads (0 * 8 + v) 0) → (roots : ℕ) → ((xs : List Fact) → Listed TemplateFacts s from xs → (n : ℕ) → held saysClaim xs (root n) ≡ member roots n)
+  pub start-template : v < 4 → (0 < 32 → v < 4 → from ≡ getD heads (0 * 8 + v) 0) → (roots : ℕ) → ((xs : List Holding) → Listed TemplateHoldings s from xs → (n : ℕ) → held saysClaim xs (root n) ≡ member roots n)
       → r ≡ member roots 0 → Decides r (WithinAt (variableOf v) startEnvironment (entries hs 0))
   unfolding entries
   start-template f from-is roots h is =
       rw (lt-ltb v 4 f)
-      (empty-decides (held saysClaim (under hs 0 (templates v))) r (h (under hs 0 (templates v)) (template-listed s heads hs 0 (omega arith) entry v from f from-is) 0 ∙ sym is))
+      (empty-decides (held saysClaim (under hs 0 (templateVariable v))) r (h (under hs 0 (templateVariable v)) (template-listed s heads hs 0 (omega arith) entry v from f from-is) 0 ∙ sym is))
 
-  pub start-string : 4 ≤ v → v < 8 → (0 < 32 → v - 4 < 4 → from ≡ getD heads (0 * 8 + (4 + (v - 4))) 0) → (set : Values) → ((ys : List Fact) → Listed StringFacts s from ys → (t : ℕ) → held saysString ys t ≡ holdsValue set t)
+  pub start-string : 4 ≤ v → v < 8 → (0 < 32 → v - 4 < 4 → from ≡ getD heads (0 * 8 + (4 + (v - 4))) 0) → (set : Values) → ((ys : List Holding) → Listed StringHoldings s from ys → (t : ℕ) → held saysString ys t ≡ holdsValue set t)
       → (one : Values) → ((t : ℕ) → holdsValue one t ≡ eqb t 0) → ValuesWithin one set r → Decides r (WithinAt (variableOf v) startEnvironment (entries hs 0))
   unfolding entries
   start-string f g from-is set h one o w =
       rw (le-ltb v 4 f)
-      (values-decide _ (held saysString (under hs 0 (strings (v - 4)))) one set (λ t. sym (o t)) (h (under hs 0 (strings (v - 4))) (string-listed s heads hs 0 (omega arith) entry (v - 4) from (omega arith) from-is)) r w)
+      (values-decide _ (held saysString (under hs 0 (stringVariable (v - 4)))) one set (λ t. sym (o t)) (h (under hs 0 (stringVariable (v - 4))) (string-listed s heads hs 0 (omega arith) entry (v - 4) from (omega arith) from-is)) r w)
 
 -- No statement stands past the last point.
 pub past-stops : (ts : List Statement) (p : ℕ) → length ts ≤ p → statementAt ts p ≡ stop

@@ -6,9 +6,9 @@ use mathlib.Core.List.{List}
 use mathlib.Core.Bool.{true}
 use lib.ListN.{length, getD}
 use Rattle.sets.specs.Sets.{member}
-use Rattle.commands.specs.declared.Context.the-variants.{TemplateFacts, StringFacts}
+use Rattle.commands.specs.declared.Context.the-variants.{TemplateHoldings, StringHoldings}
 use Rattle.commands.specs.Commands.{byte, operandsOf, allInRange}
-use Rattle.programs.specs.Program.{Act, Statement, templates, strings, statementAt, named}
+use Rattle.programs.specs.Program.{Act, Statement, templateVariable, stringVariable, statementAt, named}
 use Rattle.programs.specs.ProgramReading.{statementRead, actTemplatesThere, templatesThere, pointsThere}
 use Rattle.programs.specs.Promises.{ActFits}
 use Rattle.summaries.specs.Proposal.{Head}
@@ -21,8 +21,8 @@ use Rattle.pages.specs.Gaps.{StartsAt, GapsTable}
 -- The items under each head of a point stand where the table says. Variable v, as `40` numbers it, has place 8 p + v; where there is
 -- no head, the table may name any offset at which no item stands.
 pub record EntriesAt (s heads : List ℕ) (hs : List Head) (p : ℕ) : Type 0 where
-  pub template : (x : ℕ) → x < 4 → Listed TemplateFacts s (getD heads (p * 8 + x) 0) (under hs p (templates x))
-  pub string : (y : ℕ) → y < 4 → Listed StringFacts s (getD heads (p * 8 + (4 + y)) 0) (under hs p (strings y))
+  pub template : (x : ℕ) → x < 4 → Listed TemplateHoldings s (getD heads (p * 8 + x) 0) (under hs p (templateVariable x))
+  pub string : (y : ℕ) → y < 4 → Listed StringHoldings s (getD heads (p * 8 + (4 + y)) 0) (under hs p (stringVariable y))
 
 -- The statement at an offset, in range and with its template there.
 pub record StatementStands (s : List ℕ) (count place : ℕ) (t : Statement) : Type 0 where

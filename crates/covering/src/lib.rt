@@ -5,7 +5,7 @@ ghost use Prim.Native.Nat.{ℕ, _+_, _*_, _<_};
 ghost use lib.ListN.{getD};
 ghost use mathlib.Core.Bool.{true};
 ghost use Rattle.programs.specs.Promises.{asAct};
-ghost use Rattle.summaries.specs.Proposal.{Fact, Head};
+ghost use Rattle.summaries.specs.Proposal.{Holding, Head};
 ghost use Rattle.summaries.specs.ProposalReading.{variableOf};
 ghost use Rattle.summaries.specs.Summaries.{Within, saysClaim, saysString, held, entries, transfer, transferTemplate, transferString};
 ghost use Rattle.summaries.specs.Covering.{WithinAt, startEnvironment, StepCovered};
@@ -13,11 +13,13 @@ ghost use Rattle.jobs.specs.Job.{Job};
 ghost use Rattle.jobs.specs.JobVerdict.{StartHolds};
 ghost use Rattle.pages.specs.Gaps.{GapsTable};
 ghost use Rattle.summaries.specs.Listed.{Listed};
+ghost use Rattle.graphs.specs.Graphs.{Keeps, nothing};
 ghost use Rattle.entries.specs.Passing.{Decides};
 ghost use Rattle.covering.specs.Tables.{EntriesAt, NamesAre, Tables, PointAt, StepAt};
 ghost use Rattle.covering.specs.Promises.{setsTemplate, setsString, Lowest, Covers, PointCovers, StepsCover};
 use commands::Context;
 use commands::Position;
+use graphs::Graph;
 use programs::Act;
 use programs::Statement;
 use verdicts::Cover;
@@ -25,6 +27,13 @@ use verdicts::Cover;
 pub enum Covering {
     Covered,
     Uncovered(Cover),
+}
+
+// The step of a point over its act to a next point.
+struct Step {
+    act: Act,
+    point: usize,
+    next: usize,
 }
 
 // Where the items under the head of a template variable at a point stand, and of a string variable.
@@ -80,23 +89,32 @@ fn assigned_holds(
     act: Act,
     p: usize,
     there: Position,
+    graph: &mut Graph,
 ) -> bool
-    ensures { λ r. ⌜ ((j : Job) (x : ℕ) (zs : List Fact) → PointAt j (now (s .entry)) (now (gaps .entry)) (now (heads .entry)) p (asAct act) → setsTemplate (asAct act) x ≡ true → Listed Context.TemplateFacts (now (s .entry)) (there .at) zs → Decides r (Within (transferTemplate (j .script .templates) (asAct act) (entries (j .proposal) p) x) (held saysClaim zs))) ⌝ }
+    requires { ⌜ Keeps (now graph) nothing ⌝ }
+    ensures decides { λ r. ⌜ ((j : Job) (x : ℕ) (zs : List Holding) → PointAt j (now (s .entry)) (now (gaps .entry)) (now (heads .entry)) p (asAct act) → setsTemplate (asAct act) x ≡ true → Listed Context.TemplateHoldings (now (s .entry)) (there .at) zs → Decides r (Within (transferTemplate (j .script .templates) (asAct act) (entries (j .proposal) p) x) (held saysClaim zs))) ⌝ }
+    ensures empty { λ _. ⌜ Keeps (now (graph .exit)) nothing ⌝ }
 {
     match act {
         Act::CopyTemplate(_, x) => {
-            entries::entry_within(s, template_head(heads, p, x as usize), there)
+            entries::entry_within(s, template_head(heads, p, x as usize), there, graph)
         }
-        Act::SetTemplate(_, t) => entries::fragment_within(s, t, gaps[(t % 32) as usize], there),
+        Act::SetTemplate(_, t) => entries::fragment_within(
+            s,
+            t,
+            gaps[(t % 32) as usize],
+            there,
+            graph,
+        ),
         Act::Plug(_, x, g, y) => {
             let first = template_head(heads, p, x as usize);
             let second = template_head(heads, p, y as usize);
-            entries::plug_within(s, first, g, second, there)
+            entries::plug_within(s, first, g, second, there, graph)
         }
         Act::PlugString(_, x, h, y) => {
             let from = template_head(heads, p, x as usize);
             let strings = entries::strings_of(s, string_head(heads, p, y as usize));
-            entries::fill_within(s, from, h, strings, there)
+            entries::fill_within(s, from, h, strings, there, graph)
         }
         Act::CopyString(_, _) => true,
         Act::SetString(_, _) => true,
@@ -110,18 +128,20 @@ fn template_holds(
     s: &[u8],
     gaps: &[u64; 32],
     heads: &[usize; 256],
-    act: Act,
-    p: usize,
-    next: usize,
+    step: Step,
     x: usize,
+    graph: &mut Graph,
 ) -> bool
-    ensures { λ r. ⌜ ((j : Job) → StepAt j (now (s .entry)) (now (gaps .entry)) (now (heads .entry)) p next (asAct act) → x < 4 → Decides r (Within (transferTemplate (j .script .templates) (asAct act) (entries (j .proposal) p) x) (entries (j .proposal) next .template x))) ⌝ }
+    requires { ⌜ Keeps (now graph) nothing ⌝ }
+    ensures decides { λ r. ⌜ ((j : Job) → StepAt j (now (s .entry)) (now (gaps .entry)) (now (heads .entry)) (step .point) (step .next) (asAct (step .act)) → x < 4 → Decides r (Within (transferTemplate (j .script .templates) (asAct (step .act)) (entries (j .proposal) (step .point)) x) (entries (j .proposal) (step .next) .template x))) ⌝ }
+    ensures empty { λ _. ⌜ Keeps (now (graph .exit)) nothing ⌝ }
 {
-    let there = template_head(heads, next, x);
+    let act = step.act;
+    let there = template_head(heads, step.next, x);
     if sets_template(act, x) {
-        return assigned_holds(s, gaps, heads, act, p, there);
+        return assigned_holds(s, gaps, heads, act, step.point, there, graph);
     }
-    entries::entry_within(s, template_head(heads, p, x), there)
+    entries::entry_within(s, template_head(heads, step.point, x), there, graph)
 }
 
 // Whether the strings that an act gives the string variable that it sets lie within those whose items stand there.
@@ -132,7 +152,7 @@ fn assigned_strings_hold(
     p: usize,
     there: Position,
 ) -> bool
-    ensures { λ r. ⌜ ((j : Job) (gaps : List ℕ) (y : ℕ) (zs : List Fact) → PointAt j (now (s .entry)) gaps (now (heads .entry)) p (asAct act) → setsString (asAct act) y ≡ true → Listed Context.StringFacts (now (s .entry)) (there .at) zs → Decides r (Within (transferString (asAct act) (entries (j .proposal) p) y) (held saysString zs))) ⌝ }
+    ensures { λ r. ⌜ ((j : Job) (gaps : List ℕ) (y : ℕ) (zs : List Holding) → PointAt j (now (s .entry)) gaps (now (heads .entry)) p (asAct act) → setsString (asAct act) y ≡ true → Listed Context.StringHoldings (now (s .entry)) (there .at) zs → Decides r (Within (transferString (asAct act) (entries (j .proposal) p) y) (held saysString zs))) ⌝ }
 {
     match act {
         Act::CopyString(_, y) => {
@@ -154,14 +174,15 @@ fn assigned_strings_hold(
 }
 
 // Whether string variable y is covered in the step of a point over an act to a next point.
-fn string_holds(s: &[u8], heads: &[usize; 256], act: Act, p: usize, next: usize, y: usize) -> bool
-    ensures { λ r. ⌜ ((j : Job) (gaps : List ℕ) → StepAt j (now (s .entry)) gaps (now (heads .entry)) p next (asAct act) → y < 4 → Decides r (Within (transferString (asAct act) (entries (j .proposal) p) y) (entries (j .proposal) next .string y))) ⌝ }
+fn string_holds(s: &[u8], heads: &[usize; 256], step: Step, y: usize) -> bool
+    ensures { λ r. ⌜ ((j : Job) (gaps : List ℕ) → StepAt j (now (s .entry)) gaps (now (heads .entry)) (step .point) (step .next) (asAct (step .act)) → y < 4 → Decides r (Within (transferString (asAct (step .act)) (entries (j .proposal) (step .point)) y) (entries (j .proposal) (step .next) .string y))) ⌝ }
 {
-    let there = string_head(heads, next, y);
+    let act = step.act;
+    let there = string_head(heads, step.next, y);
     if sets_string(act, y) {
-        return assigned_strings_hold(s, heads, act, p, there);
+        return assigned_strings_hold(s, heads, act, step.point, there);
     }
-    entries::strings_entry_within(s, string_head(heads, p, y), there)
+    entries::strings_entry_within(s, string_head(heads, step.point, y), there)
 }
 
 // Whether a variable, as `40` numbers it, is covered in the step of a point to a next point.
@@ -169,17 +190,18 @@ fn variable_holds(
     s: &[u8],
     gaps: &[u64; 32],
     heads: &[usize; 256],
-    act: Act,
-    p: usize,
-    next: usize,
+    step: Step,
     v: usize,
+    graph: &mut Graph,
 ) -> bool
-    ensures { λ r. ⌜ ((j : Job) → StepAt j (now (s .entry)) (now (gaps .entry)) (now (heads .entry)) p next (asAct act) → v < 8 → Decides r (WithinAt (variableOf v) (transfer (j .script .templates) (asAct act) (entries (j .proposal) p)) (entries (j .proposal) next))) ⌝ }
+    requires { ⌜ Keeps (now graph) nothing ⌝ }
+    ensures decides { λ r. ⌜ ((j : Job) → StepAt j (now (s .entry)) (now (gaps .entry)) (now (heads .entry)) (step .point) (step .next) (asAct (step .act)) → v < 8 → Decides r (WithinAt (variableOf v) (transfer (j .script .templates) (asAct (step .act)) (entries (j .proposal) (step .point))) (entries (j .proposal) (step .next)))) ⌝ }
+    ensures empty { λ _. ⌜ Keeps (now (graph .exit)) nothing ⌝ }
 {
     if v < 4 {
-        return template_holds(s, gaps, heads, act, p, next, v);
+        return template_holds(s, gaps, heads, step, v, graph);
     }
-    string_holds(s, heads, act, p, next, v - 4)
+    string_holds(s, heads, step, v - 4)
 }
 
 // The same of a variable that some statement names; no other is looked at.
@@ -188,18 +210,19 @@ fn named_holds(
     gaps: &[u64; 32],
     heads: &[usize; 256],
     names: u64,
-    act: Act,
-    p: usize,
-    next: usize,
+    step: Step,
     v: usize,
+    graph: &mut Graph,
 ) -> bool
     requires { ⌜ v < 8 ⌝ }
-    ensures { λ r. ⌜ ((j : Job) → StepAt j (now (s .entry)) (now (gaps .entry)) (now (heads .entry)) p next (asAct act) → NamesAre j names → Decides r (StepCovered (j .script .templates) (j .script .program) (entries (j .proposal)) p (asAct act) next (variableOf v))) ⌝ }
+    requires { ⌜ Keeps (now graph) nothing ⌝ }
+    ensures decides { λ r. ⌜ ((j : Job) → StepAt j (now (s .entry)) (now (gaps .entry)) (now (heads .entry)) (step .point) (step .next) (asAct (step .act)) → NamesAre j names → Decides r (StepCovered (j .script .templates) (j .script .program) (entries (j .proposal)) (step .point) (asAct (step .act)) (step .next) (variableOf v))) ⌝ }
+    ensures empty { λ _. ⌜ Keeps (now (graph .exit)) nothing ⌝ }
 {
     if !sets::has(names, v as u8) {
         return true;
     }
-    variable_holds(s, gaps, heads, act, p, next, v)
+    variable_holds(s, gaps, heads, step, v, graph)
 }
 
 // The lowest variable that is not covered in the step of a point to a next point; 8: all are.
@@ -211,12 +234,20 @@ fn lowest_uncovered(
     act: Act,
     p: usize,
     next: usize,
+    graph: &mut Graph,
 ) -> usize
-    ensures { λ r. ⌜ ((j : Job) → StepAt j (now (s .entry)) (now (gaps .entry)) (now (heads .entry)) p next (asAct act) → NamesAre j names → Lowest (λ v. StepCovered (j .script .templates) (j .script .program) (entries (j .proposal)) p (asAct act) next (variableOf v)) r) ⌝ }
+    requires { ⌜ Keeps (now graph) nothing ⌝ }
+    ensures lowest { λ r. ⌜ ((j : Job) → StepAt j (now (s .entry)) (now (gaps .entry)) (now (heads .entry)) p next (asAct act) → NamesAre j names → Lowest (λ v. StepCovered (j .script .templates) (j .script .program) (entries (j .proposal)) p (asAct act) next (variableOf v)) r) ⌝ }
+    ensures empty { λ _. ⌜ Keeps (now (graph .exit)) nothing ⌝ }
 {
+    let step = Step {
+        act,
+        point: p,
+        next,
+    };
     let mut v: usize = 0;
     while v < 8 {
-        if !named_holds(s, gaps, heads, names, act, p, next, v) {
+        if !named_holds(s, gaps, heads, names, step, v, graph) {
             return v;
         }
         v += 1;
@@ -232,14 +263,17 @@ fn point_uncovered(
     names: u64,
     place: usize,
     p: usize,
+    graph: &mut Graph,
 ) -> Covering
-    ensures { λ r. ⌜ ((j : Job) (count : ℕ) (starts : List ℕ) (points : ℕ) (places : List ℕ) → Tables j (now (s .entry)) count starts points places names (now (heads .entry)) → GapsTable (now (gaps .entry)) (j .script .templates) → p < points → place ≡ getD places p 0 → PointCovers (j .script) (entries (j .proposal)) p r) ⌝ }
+    requires { ⌜ Keeps (now graph) nothing ⌝ }
+    ensures covers { λ r. ⌜ ((j : Job) (count : ℕ) (starts : List ℕ) (points : ℕ) (places : List ℕ) → Tables j (now (s .entry)) count starts points places names (now (heads .entry)) → GapsTable (now (gaps .entry)) (j .script .templates) → p < points → place ≡ getD places p 0 → PointCovers (j .script) (entries (j .proposal)) p r) ⌝ }
+    ensures empty { λ _. ⌜ Keeps (now (graph .exit)) nothing ⌝ }
 {
     let statement = programs::statement_at(s, Position::new(place));
     let Statement::Step { act, first, second } = statement else {
         return Covering::Covered;
     };
-    let v = lowest_uncovered(s, gaps, heads, names, act, p, first);
+    let v = lowest_uncovered(s, gaps, heads, names, act, p, first, graph);
     if v < 8 {
         return Covering::Uncovered(Cover::Step {
             point: p,
@@ -250,7 +284,7 @@ fn point_uncovered(
     if second == first {
         return Covering::Covered;
     }
-    let w = lowest_uncovered(s, gaps, heads, names, act, p, second);
+    let w = lowest_uncovered(s, gaps, heads, names, act, p, second, graph);
     if w < 8 {
         return Covering::Uncovered(Cover::Step {
             point: p,
@@ -269,13 +303,16 @@ fn steps_uncovered(
     names: u64,
     places: &[usize; 32],
     points: usize,
+    graph: &mut Graph,
 ) -> Covering
-    ensures { λ r. ⌜ ((j : Job) (count : ℕ) (starts : List ℕ) → Tables j (now (s .entry)) count starts points (now (places .entry)) names (now (heads .entry)) → GapsTable (now (gaps .entry)) (j .script .templates) → StepsCover (j .script) (entries (j .proposal)) r) ⌝ }
+    requires { ⌜ Keeps (now graph) nothing ⌝ }
+    ensures covers { λ r. ⌜ ((j : Job) (count : ℕ) (starts : List ℕ) → Tables j (now (s .entry)) count starts points (now (places .entry)) names (now (heads .entry)) → GapsTable (now (gaps .entry)) (j .script .templates) → StepsCover (j .script) (entries (j .proposal)) r) ⌝ }
+    ensures empty { λ _. ⌜ Keeps (now (graph .exit)) nothing ⌝ }
 {
     let mut p: usize = 0;
     while p < points {
         let place = places[p % 32];
-        let found = point_uncovered(s, gaps, heads, names, place, p);
+        let found = point_uncovered(s, gaps, heads, names, place, p, graph);
         let Covering::Covered = found else {
             return found;
         };
@@ -337,5 +374,6 @@ pub fn first_uncovered(
     if v < 8 {
         return Covering::Uncovered(Cover::Start(v));
     }
-    steps_uncovered(s, gaps, heads, names, places, points)
+    let mut graph = graphs::none();
+    steps_uncovered(s, gaps, heads, names, places, points, &mut graph)
 }

@@ -1,119 +1,267 @@
 -- Attributes one after the other: what each adds to the patterns.
-use Prim.Native.Nat.{ℕ, _<_}
-use mathlib.Core.Path.{_≡_, sym, subst, _∙_}
+use Prim.Native.Nat.{ℕ, suc, _<_}
+use mathlib.Core.Path.{_≡_, refl, sym, ap, subst, _∙_}
 use mathlib.Core.List.{List, [], _∷_}
+use mathlib.Core.Bool.{Bool, true, false, not, _&&_, _||_, and-true, and-false, false≢true}
 use native.Mathlib.Omega.{arith}
 use lib.Dec.{eqb}
 use borrow.Author.Tests.{ne-eqb}
+use Rattle.sets.specs.Sets.{member}
 use Rattle.commands.specs.declared.Position.{Position}
 use Rattle.commands.specs.Reading.{whole}
 use Rattle.vocabularies.specs.Vocabulary.{Formula}
 use Rattle.vocabularies.specs.Facts.{factsOf}
+use Rattle.vocabularies.specs.declared.Facts.{Facts}
+use Rattle.vocabularies.specs.Promises.{Represents}
 use Rattle.pages.specs.declared.Kind.the-variants.{Template}
 use Rattle.pages.specs.declared.AttributeHere.{AttributeHere}
 use Rattle.pages.specs.declared.AttributeHere.the-variants.{Fixed, Open, Done}
 use Rattle.pages.specs.Items.{Attribute, string, open-gap}
 use Rattle.pages.specs.ItemReading.{attributes}
-use Rattle.pages.specs.Steps.{attributeHere}
-use Rattle.pages.proofs.Steps.{AttributeFirst, fixed, opened, fixed-first, open-first, none-first}
+use Rattle.pages.specs.Steps.{attributeHere, AttributeMoves, NamesAt}
+use Rattle.pages.proofs.Steps.{AttributeFirst, fixed, opened, fixed-first, open-first, none-first, fixed-moves, open-moves}
+use Rattle.pages.proofs.Gathering.{Onto, NamesWith, fixed-named, open-named, all-named}
 use Rattle.summaries.specs.Proposal as Proposal
 use Rattle.summaries.specs.Summaries.{Summary}
-use Rattle.patterns.specs.Morphisms.{factMorphism}
-use Rattle.patterns.specs.Rounds.{Set, product, only}
-use Rattle.patterns.specs.Elements.{valuePatterns, attributePatterns}
+use Rattle.patterns.specs.Morphisms.{Morphism, factMorphism}
+use Rattle.patterns.specs.Rounds.{Set, product, only, anyBelow, anyNamed, valueTakes}
+use Rattle.patterns.specs.Elements.{attributePattern, valuePatterns, attributePatterns}
+use Rattle.patterns.proofs.Tests.{and-both, and-left, and-right, same-test, failed, any-below, below-any}
+use Rattle.patterns.proofs.Bits.{pattern-of-nothing}
 use Rattle.patterns.proofs.Clauses.{pattern-below}
 use Rattle.patterns.proofs.Products.{clause-monoid, product-assoc, product-unit-left, product-unit-right}
 use Rattle.pattern_sets.specs.PatternSets.{holds}
-use Rattle.readings.specs.declared.Reading.{Reading}
-use Rattle.readings.specs.Readings.{ReadsFacts, Is, of-facts}
-use Rattle.readings.specs.Promises.{Multiplies}
-use Rattle.clauses.specs.Promises.{alone, IsPattern, ValuePatterns}
+use Rattle.schemes.specs.declared.Scheme.{Scheme}
+use Rattle.schemes.specs.Schemes.{StandsForFacts, Is, of-facts}
+use Rattle.schemes.specs.Promises.{Multiplies}
+use Rattle.clauses.specs.Promises.{alone, IsPattern, ValuedNames, ValuePatterns}
 use Rattle.strings.specs.declared.Values.{Values}
-use Rattle.strings.specs.Strings.{holdsValue}
+use Rattle.strings.specs.Strings.{strings, holdsValue, NoValues}
 use Rattle.graphs.specs.Graphs.{Keeps}
 use Rattle.graphs.specs.Graphs as Graphs
 use Rattle.languages.specs.Tables.{of-clause}
-use Rattle.languages.proofs.Uses.{is-as, unit-set}
+use Rattle.languages.specs.Promises.{AttributesTake}
+use Rattle.languages.proofs.Uses.{is-as, product-as, unit-set}
+use Rattle.languages.proofs.AttributeGaps.{some-taken}
+use Rattle.languages.proofs.Lists.{TakingTo, taking-begins, taking-fixed, taking-open, taking-done}
+use Rattle.elements.specs.declared.Attributes.{Attributes}
 use Rattle.elements.specs.Attributes.{patternsBy, AttributePatterns}
 
 -- ---- the value of one attribute
 
--- Of every formula whose facts are read, and every summary that the words keep.
-abbrev pub OfReading : Reading → List ℕ → (Formula → Summary → Type 0) → Type 0
-OfReading r words P = (ψ : Formula) (G : Summary) → ReadsFacts r (factsOf ψ) → Keeps words G → P ψ G
+-- Of every formula whose facts are kept and read, and every summary that the words keep.
+abbrev pub OfScheme : Facts → Scheme → List ℕ → (Formula → Summary → Type 0) → Type 0
+OfScheme t r words P = (ψ : Formula) (G : Summary) → Represents t (factsOf ψ) → StandsForFacts r (factsOf ψ) → Keeps words G → P ψ G
 
-module _ (r : Reading) (words : List ℕ) (n : ℕ) where
+module _ (t : Facts) (r : Scheme) (words : List ℕ) (n : ℕ) where
   -- The patterns of one attribute.
   abbrev pub HasPatterns : Attribute → List ℕ → Type 0
-  HasPatterns a set = OfReading r words (λ ψ G. Is (patternsBy ψ) set (valuePatterns G (factsOf ψ) n (a .name) (a .value)))
+  HasPatterns a set = OfScheme t r words (λ ψ G. Is (patternsBy ψ) set (valuePatterns G (factsOf ψ) n (a .name) (a .value)))
 
-  pub string-patterns : (a s p : ℕ) (set : List ℕ) → IsPattern (r .facts) a s p → ((y : ℕ) → holds set y ≡ eqb y p)
+  pub string-patterns : (a s p : ℕ) (set : List ℕ) → IsPattern t a s p → ((y : ℕ) → holds set y ≡ eqb y p)
       → HasPatterns (record { name = a; value = string s }) set
-  string-patterns a s p set is one ψ G R kept =
+  string-patterns a s p set is one ψ G T R kept =
       let fs = factsOf ψ in
-      let same = is fs (R .represents) (R .few) in
+      let same = is fs T (R .few) in
       let below : p < factMorphism fs .size = subst (λ (q : ℕ). q < factMorphism fs .size) (sym same) (pattern-below fs (alone a s) []) in
       let own : Is (patternsBy ψ) set (only p) = record { inside = λ x l. one x; outside = λ x l. one x ∙ ne-eqb x p (λ e. omega arith) } in
       subst (λ (q : ℕ). Is (patternsBy ψ) set (only q)) same own
 
   pub gap-patterns : (a h : ℕ) → n < 32 → h < 8 → (values : Values)
       → (n < 32 → h < 8 → (t : ℕ) → holdsValue values t ≡ Graphs.holds words (Proposal.string n h t))
-      → (set : List ℕ) → ValuePatterns (r .facts) a values set → HasPatterns (record { name = a; value = open-gap h }) set
-  gap-patterns a h low small values held set patterned ψ G R kept =
-      patterned (factsOf ψ) (R .represents) (R .few) (λ k. G (Proposal.string n h k))
+      → (set : List ℕ) → ValuePatterns t a values set → HasPatterns (record { name = a; value = open-gap h }) set
+  gap-patterns a h low small values held set patterned ψ G T R kept =
+      patterned (factsOf ψ) T (R .few) (λ k. G (Proposal.string n h k))
       (λ k l. kept .same (Proposal.string n h k) (low, small) ∙ sym (held low small k))
+
+  -- A set with the patterns of one attribute more.
+  abbrev pub Extends : Attribute → List ℕ → List ℕ → Type 0
+  Extends a set set′ = OfScheme t r words (λ ψ G. (A : Set) → Is (patternsBy ψ) set A
+      → Is (patternsBy ψ) set′ (product (patternsBy ψ) A (valuePatterns G (factsOf ψ) n (a .name) (a .value))))
+
+  pub extends-own : (a : Attribute) (own set set′ : List ℕ) → HasPatterns a own → Multiplies r set own set′ → Extends a set set′
+  extends-own a own set set′ has joined ψ G T R kept A held =
+      joined (patternsBy ψ) (of-facts R) A (valuePatterns G (factsOf ψ) n (a .name) (a .value)) held (has ψ G T R kept)
+
+  -- An attribute whose only pattern is that of none.
+  unit-extends : (a : Attribute) (set : List ℕ)
+      → OfScheme t r words (λ ψ G. (x : ℕ) → valuePatterns G (factsOf ψ) n (a .name) (a .value) x ≡ only 0 x) → Extends a set set
+  unit-extends a set is ψ G T R kept A held =
+      let M = patternsBy ψ in
+      is-as set A (product M A (valuePatterns G (factsOf ψ) n (a .name) (a .value))) held
+      (λ x l. sym (product-as M A A (valuePatterns G (factsOf ψ) n (a .name) (a .value)) (only (M .of [])) (λ y k. refl)
+      (λ y k. is ψ G T R kept y ∙ sym (ap (λ (p : ℕ). only p y) (pattern-of-nothing (factsOf ψ)))) x ∙ product-unit-right M (clause-monoid ψ) A x l))
+
+  module _ (valued a : ℕ) (all : ValuedNames t valued) (low : a < 64) (out : member valued a ≡ false) where
+    pub extends-string : (s : ℕ) (set : List ℕ) → Extends (fixed a s) set set
+    extends-string s set = unit-extends (fixed a s) set (λ ψ G T R kept x. ap (λ (p : ℕ). only p x) (all (factsOf ψ) T (R .few) a s low out))
+
+    pub extends-gap : (h : ℕ) → ((G : Summary) → Keeps words G → valueTakes G n (open-gap h) ≡ true) → (set : List ℕ) → Extends (opened a h) set set
+    extends-gap h takes set = unit-extends (opened a h) set (λ ψ G T R kept x.
+        let none : (s : ℕ) → attributePattern (factsOf ψ) a s ≡ 0 = λ s. all (factsOf ψ) T (R .few) a s low out in
+        let own : ℕ → Bool = λ s. G (Proposal.string n h s) && only (attributePattern (factsOf ψ) a s) x in
+        same-test (anyNamed own) (only 0 x)
+        (λ e. let (s, l, q) = below-any (suc strings) own e in
+        sym (ap (λ (p : ℕ). only p x) (none s)) ∙ and-right (G (Proposal.string n h s)) (only (attributePattern (factsOf ψ) a s) x) q)
+        (λ e. let (s, l, q) = below-any (suc strings) (λ s. G (Proposal.string n h s)) (takes G kept) in
+        any-below (suc strings) own s l (and-both q (ap (λ (p : ℕ). only p x) (none s) ∙ e))))
+
+  -- A gap with nothing to take leaves no pattern.
+  pub extends-none : (a h : ℕ) → ((G : Summary) → Keeps words G → valueTakes G n (open-gap h) ≡ false) → (set empty : List ℕ) → ((y : ℕ) → holds empty y ≡ false)
+      → Extends (opened a h) set empty
+  extends-none a h takes set empty none ψ G T R kept A held = record {
+    inside = λ z l. none z ∙ sym (failed (product M A own z) (nothing z));
+    outside = λ z l. none z;
+  }
+    where
+      M : Morphism
+      M = patternsBy ψ
+
+      own : Set
+      own = valuePatterns G (factsOf ψ) n a (open-gap h)
+
+      untaken : (y : ℕ) → own y ≡ true → ⊥
+      untaken y e =
+          let (s, l, q) = below-any (suc strings) (λ s. G (Proposal.string n h s) && only (attributePattern (factsOf ψ) a s) y) e in
+          false≢true (sym (takes G kept) ∙ any-below (suc strings) (λ s. G (Proposal.string n h s)) s l (and-left (G (Proposal.string n h s)) (only (attributePattern (factsOf ψ) a s) y) q))
+
+      nothing : (z : ℕ) → product M A own z ≡ true → ⊥
+      nothing z e =
+          let (x, l, p) = below-any (M .size) (λ x. A x && anyBelow (M .size) (λ y. own y && only (M .op x y) z)) e in
+          let (y, k, q) = below-any (M .size) (λ y. own y && only (M .op x y) z) (and-right (A x) (anyBelow (M .size) (λ y. own y && only (M .op x y) z)) p) in
+          untaken y (and-left (own y) (only (M .op x y) z) q)
 
 -- ---- attributes one after the other
 
-module _ (s : List ℕ) (r : Reading) (words : List ℕ) (n : ℕ) where
+module _ (s : List ℕ) (t : Facts) (r : Scheme) (words : List ℕ) (n : ℕ) where
   -- What the attributes from an offset on add to the patterns of those before.
   abbrev pub Adds : ℕ → List ℕ → List ℕ → List ℕ → Type 0
-  Adds at set before end-set = OfReading r words (λ ψ G. (f end : ℕ) (δ : List Attribute) → attributes f Template s before at ≡ whole δ end
+  Adds at set before end-set = OfScheme t r words (λ ψ G. (f end : ℕ) (δ : List Attribute) → attributes f Template s before at ≡ whole δ end
       → attributeHere s end ≡ Done → (A : Set) → Is (patternsBy ψ) set A
       → Is (patternsBy ψ) end-set (product (patternsBy ψ) A (attributePatterns G (factsOf ψ) n δ)))
 
   -- What is added to nothing is all there is.
-  pub adds-all : (at : ℕ) (set end-set : List ℕ) → ((y : ℕ) → holds set y ≡ eqb y 0) → Adds at set [] end-set → AttributePatterns s at r words n end-set
-  adds-all at set end-set one A ψ G R kept f end δ e done =
+  pub adds-all : (at : ℕ) (set : List ℕ) (out : Attributes) → ((y : ℕ) → holds set y ≡ eqb y 0) → Adds at set [] (out .set)
+      → NamesAt s at (record { names = out .names; next = out .next }) → AttributesTake s at words n (record { takes = out .takes; next = out .next })
+      → AttributePatterns s at t r words n out
+  adds-all at set out one A N F ψ G T R kept f end δ e done =
       let M = patternsBy ψ in
       let unit : Is M set (only (M .of [])) = unit-set (of-facts R) (of-clause ψ) set one in
-      is-as end-set (product M (only (M .of [])) (attributePatterns G (factsOf ψ) n δ)) (attributePatterns G (factsOf ψ) n δ)
-      (A ψ G R kept f end δ e done (only (M .of [])) unit) (λ x h. product-unit-left M (clause-monoid ψ) (attributePatterns G (factsOf ψ) n δ) x h)
+      record {
+        named = N Template [] f end δ e done .1;
+        patterned = is-as (out .set) (product M (only (M .of [])) (attributePatterns G (factsOf ψ) n δ)) (attributePatterns G (factsOf ψ) n δ)
+            (A ψ G T R kept f end δ e done (only (M .of [])) unit) (λ x h. product-unit-left M (clause-monoid ψ) (attributePatterns G (factsOf ψ) n δ) x h);
+        takes = F G kept [] f end δ e done .0;
+        ends = F G kept [] f end δ e done .1;
+      }
 
   module _ (at : ℕ) (set before : List ℕ) (h : AttributeHere) (is : h ≡ attributeHere s at) where
     pub adds-none : h ≡ Done → Adds at set before set
     unfolding attributePatterns
-    adds-none q ψ G R kept f end δ e done A held =
+    adds-none q ψ G T R kept f end δ e done A held =
         let M = patternsBy ψ in
         let N = none-first f Template s before at δ end e done h is q in
         rw (N .no-more) (is-as set A (product M A (only (M .of []))) held (λ x l. sym (product-unit-right M (clause-monoid ψ) A x l)))
 
     -- One attribute, and then the others.
-    module _ (own set′ end-set : List ℕ) (joined : Multiplies r set own set′) (next : Position) where
-      adds-first : (a : Attribute) → HasPatterns r words n a own → Adds (next .at) set′ (a .name ∷ before) end-set
-          → OfReading r words (λ ψ G. (end : ℕ) (δ : List Attribute) → AttributeFirst Template s before a next δ end → attributeHere s end ≡ Done
+    module _ (set′ end-set : List ℕ) (next : Position) where
+      adds-first : (a : Attribute) → Extends t r words n a set set′ → Adds (next .at) set′ (a .name ∷ before) end-set
+          → OfScheme t r words (λ ψ G. (end : ℕ) (δ : List Attribute) → AttributeFirst Template s before a next δ end → attributeHere s end ≡ Done
           → (A : Set) → Is (patternsBy ψ) set A → Is (patternsBy ψ) end-set (product (patternsBy ψ) A (attributePatterns G (factsOf ψ) n δ)))
       unfolding attributePatterns
-      adds-first a value later ψ G R kept end δ F done A held =
+      adds-first a more later ψ G T R kept end δ F done A held =
           let M = patternsBy ψ in
-          let own-set : Set = valuePatterns G (factsOf ψ) n (a .name) (a .value) in
+          let own : Set = valuePatterns G (factsOf ψ) n (a .name) (a .value) in
           let rest : Set = attributePatterns G (factsOf ψ) n (F .rest) in
-          let here = joined M (of-facts R) A own-set held (value ψ G R kept) in
-          rw (F .is-more) (is-as end-set (product M (product M A own-set) rest) (product M A (product M own-set rest))
-          (later ψ G R kept (F .fuel) end (F .rest) (F .reads-rest) done (product M A own-set) here)
-          (λ x l. product-assoc M (clause-monoid ψ) A own-set rest x))
+          rw (F .is-more) (is-as end-set (product M (product M A own) rest) (product M A (product M own rest))
+          (later ψ G T R kept (F .fuel) end (F .rest) (F .reads-rest) done (product M A own) (more ψ G T R kept A held))
+          (λ x l. product-assoc M (clause-monoid ψ) A own rest x))
 
-      pub adds-fixed : (a v : ℕ) → h ≡ Fixed a v next → HasPatterns r words n (record { name = a; value = string v }) own
+      pub adds-fixed : (a v : ℕ) → h ≡ Fixed a v next → Extends t r words n (fixed a v) set set′
           → Adds (next .at) set′ (a ∷ before) end-set → Adds at set before end-set
-      adds-fixed a v q value later ψ G R kept f end δ e done =
-          adds-first (fixed a v) value later ψ G R kept end δ (fixed-first f Template s before at δ end e done h is a v next q .0) done
+      adds-fixed a v q more later ψ G T R kept f end δ e done =
+          adds-first (fixed a v) more later ψ G T R kept end δ (fixed-first f Template s before at δ end e done h is a v next q .0) done
 
-      pub adds-open : (a g : ℕ) → h ≡ Open a g next → HasPatterns r words n (record { name = a; value = open-gap g }) own
+      pub adds-open : (a g : ℕ) → h ≡ Open a g next → Extends t r words n (opened a g) set set′
           → Adds (next .at) set′ (a ∷ before) end-set → Adds at set before end-set
-      adds-open a g q value later ψ G R kept f end δ e done =
-          adds-first (opened a g) value later ψ G R kept end δ (open-first f Template s before at δ end e done h is a g next q .0) done
+      adds-open a g q more later ψ G T R kept f end δ e done =
+          adds-first (opened a g) more later ψ G T R kept end δ (open-first f Template s before at δ end e done h is a g next q .0) done
 
-  -- Where reading has come: what the attributes from here on add to these patterns is what all of them add to nothing.
-  pub record Going (first : ℕ) (set₀ : List ℕ) (at : ℕ) (set : List ℕ) : Type 0 where
+  -- Where the walk has come: the names of the attributes passed, whether they have something to take, and that what the attributes from here
+  -- on add to these patterns is what all of them add to nothing.
+  pub record Going (first : ℕ) (set₀ : List ℕ) (at named : ℕ) (set : List ℕ) (takes : Bool) : Type 0 where
+    pub named-to : Onto (NamesWith s) first 0 at named
+    pub taking-to : TakingTo s words n first takes at
     pub before : List ℕ
     pub goes : (end-set : List ℕ) → Adds at set before end-set → Adds first set₀ [] end-set
+
+  pub going-none : (at : ℕ) (set : List ℕ) → Going at set at 0 set true
+  going-none at set = record {
+    named-to = record { forward = omega arith; goes = λ r N. N };
+    taking-to = taking-begins s words n at;
+    before = [];
+    goes = λ end-set A. A;
+  }
+
+  module _ (first : ℕ) (set₀ : List ℕ) (at named : ℕ) (set : List ℕ) (takes : Bool) (going : Going first set₀ at named set takes) (h : AttributeHere)
+      (is : (h ≡ attributeHere s at) × AttributeMoves s at h) where
+    module _ (a v : ℕ) (next : Position) (q : h ≡ Fixed a v next) (more : ℕ) (is-more : (k : ℕ) → member more k ≡ (eqb k a || member named k)) where
+      going-fixed : (set′ : List ℕ) → Extends t r words n (fixed a v) set set′ → Going first set₀ (next .at) more set′ takes
+      going-fixed set′ longer = record {
+        named-to = fixed-named s at h (is .0) (is .1) first named (going .named-to) a v next q more is-more;
+        taking-to = taking-fixed s words n first takes at (going .taking-to) h (is .0) a v next q (fixed-moves s at h (is .1) a v next q .0 .forward);
+        before = a ∷ going .before;
+        goes = λ end-set A. going .goes end-set (adds-fixed at set (going .before) h (is .0) set′ end-set next a v q longer A);
+      }
+
+      pub going-string : (p : ℕ) (own set′ : List ℕ) → IsPattern t a v p → ((y : ℕ) → holds own y ≡ eqb y p) → Multiplies r set own set′
+          → Going first set₀ (next .at) more set′ takes
+      going-string p own set′ patterned one joined =
+          going-fixed set′ (extends-own t r words n (fixed a v) own set set′ (string-patterns t r words n a v p own patterned one) joined)
+
+      -- No fact is about the attribute.
+      pub going-other-string : (valued : ℕ) → ValuedNames t valued → member valued a ≡ false → Going first set₀ (next .at) more set takes
+      going-other-string valued all out =
+          let m = fixed-moves s at h (is .1) a v next q in
+          going-fixed set (extends-string t r words n valued a all (omega (arith, m .1)) out v set)
+
+    module _ (a g : ℕ) (next : Position) (q : h ≡ Open a g next) (more : ℕ) (is-more : (k : ℕ) → member more k ≡ (eqb k a || member named k)) (low : n < 32)
+        (values : Values) (held : n < 32 → g < 8 → (k : ℕ) → holdsValue values k ≡ Graphs.holds words (Proposal.string n g k)) (b : Bool) (told : NoValues values b) where
+      small : g < 8
+      small = open-moves s at h (is .1) a g next q .2
+
+      takes-some : (G : Summary) → Keeps words G → g < 8 → not b ≡ valueTakes G n (open-gap g)
+      takes-some = some-taken words n g values (held low small) low b told
+
+      going-open : (takes′ : Bool) → takes′ ≡ (takes && not b) → (set′ : List ℕ) → Extends t r words n (opened a g) set set′ → Going first set₀ (next .at) more set′ takes′
+      going-open takes′ is-takes set′ longer = record {
+        named-to = open-named s at h (is .0) (is .1) first named (going .named-to) a g next q more is-more;
+        taking-to = taking-open s words n first takes at (going .taking-to) h (is .0) a g next q (open-moves s at h (is .1) a g next q .0 .forward) (not b) takes-some takes′ is-takes;
+        before = a ∷ going .before;
+        goes = λ end-set A. going .goes end-set (adds-open at set (going .before) h (is .0) set′ end-set next a g q longer A);
+      }
+
+      pub going-empty : b ≡ true → (empty : List ℕ) → ((y : ℕ) → holds empty y ≡ false) → Going first set₀ (next .at) more empty false
+      going-empty e empty none = going-open false (sym (ap (λ (u : Bool). takes && not u) e ∙ and-false takes)) empty
+          (extends-none t r words n a g (λ G keeps. sym (takes-some G keeps small) ∙ ap not e) set empty none)
+
+      module _ (e : b ≡ false) where
+        still : takes ≡ (takes && not b)
+        still = sym (ap (λ (u : Bool). takes && not u) e ∙ and-true takes)
+
+        pub going-values : (own set′ : List ℕ) → ValuePatterns t a values own → Multiplies r set own set′ → Going first set₀ (next .at) more set′ takes
+        going-values own set′ patterned joined =
+            going-open takes still set′ (extends-own t r words n (opened a g) own set set′ (gap-patterns t r words n a g low small values held own patterned) joined)
+
+        -- No fact is about the attribute.
+        pub going-other-values : (valued : ℕ) → ValuedNames t valued → member valued a ≡ false → Going first set₀ (next .at) more set takes
+        going-other-values valued all out =
+            let m = open-moves s at h (is .1) a g next q in
+            going-open takes still set (extends-gap t r words n valued a all (omega (arith, m .1)) out g (λ G keeps. sym (takes-some G keeps small) ∙ ap not e) set)
+
+    pub going-ends : h ≡ Done → ((y : ℕ) → holds set₀ y ≡ eqb y 0)
+        → AttributePatterns s first t r words n (record { names = named; set = set; takes = takes; next = record { at = at } })
+    going-ends q one = adds-all first set₀ (record { names = named; set = set; takes = takes; next = record { at = at } }) one
+        (going .goes set (adds-none at set (going .before) h (is .0) q))
+        (all-named s at h (is .0) (is .1) first named (going .named-to) (record { names = named; next = record { at = at } }) refl refl q .1)
+        (taking-done s words n first takes at (going .taking-to) h (is .0) (record { takes = takes; next = record { at = at } }) q refl)

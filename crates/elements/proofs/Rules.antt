@@ -1,7 +1,7 @@
 -- Clause by clause and rule by rule.
 use Prim.Native.Nat.{ℕ, zero, suc, _+_, _-_, _^_, _≤_, _<_}
 use mathlib.Core.Path.{_≡_, refl, sym, ap, subst, _∙_}
-use mathlib.Core.List.{List, [], List·Memᴰ·head, List·Memᴰ·tail}
+use mathlib.Core.List.{List, List·Memᴰ·head, List·Memᴰ·tail}
 use mathlib.Core.Bool.{Bool, true, false, _&&_, _||_, or-false, and-false, false≢true}
 use mathlib.Core.Option.{Option, some, none}
 use native.Mathlib.Omega.{arith}
@@ -12,15 +12,15 @@ use Rattle.sets.specs.Sets.{member, FirstMember}
 use Rattle.sets.proofs.Laws.{member-zero, member-high}
 use Rattle.verdicts.specs.declared.Form.{Form}
 use Rattle.commands.specs.declared.Position.{Position}
+use Rattle.commands.specs.declared.Part.{Part}
 use Rattle.commands.specs.declared.Part.the-variants.{Whole, Refused}
 use Rattle.commands.specs.Commands.{byte}
 use Rattle.commands.specs.Reading.{whole}
 use Rattle.vocabularies.specs.declared.Facts.{Facts}
-use Rattle.vocabularies.specs.declared.FormulaRead.{FormulaRead}
 use Rattle.vocabularies.specs.Vocabulary.{Formula, Rule, Vocabulary, ruleOf, isSome}
 use Rattle.vocabularies.specs.VocabularyReading as Reading
 use Rattle.vocabularies.specs.Facts.{factsOf}
-use Rattle.vocabularies.specs.Promises.{Represents, FormulaReads}
+use Rattle.vocabularies.specs.Promises.{FormulaReads, FactsRead}
 use Rattle.vocabularies.proofs.Laws.{Clausal, no-more, one-more, clauses-formed, formula-whole}
 use Rattle.pages.specs.Items.{Attribute, Items}
 use Rattle.pages.specs.RightPages.{_∈_, SomeElement}
@@ -36,8 +36,8 @@ use Rattle.patterns.specs.LowestWrong.{lowerWrong, LowestWrong, Passing}
 use Rattle.patterns.proofs.Tests.{and-both, and-left}
 use Rattle.patterns.proofs.Bits.{facts-distinct}
 use Rattle.patterns.proofs.LowestOf.{lower-assoc, lower-nowhere, lowest-iff, lowest-none, lowest-either, lowest-same, lowest-never}
-use Rattle.readings.specs.declared.Reading as Readings
-use Rattle.readings.specs.Promises.{KeepsFacts}
+use Rattle.schemes.specs.declared.Scheme as Schemes
+use Rattle.schemes.specs.Promises.{KeepsFacts}
 use Rattle.occurrences.specs.Occurrences.{Stands, Occurrences}
 use Rattle.occurrences.proofs.Elements.{all-met}
 use Rattle.reach.specs.PlainlyWrong.{clauseBy, wrongByClause}
@@ -72,10 +72,9 @@ module _ (s : List ℕ) (e : ℕ) (words starts : List ℕ) (count chosen : ℕ)
     either-clause false p q = refl
 
     -- A clause, whose formula was read, and then the others.
-    module _ (formula : Position) (over : formula .at ≡ at + 1) (t₀ : Facts) (nothing : Represents t₀ []) (read : FormulaRead)
-        (reads-formula : FormulaReads s 0 (formula .at) t₀ read) where
+    module _ (formula : Position) (over : formula .at ≡ at + 1) (read : Part) (reads-formula : FormulaReads s 0 (formula .at) read) where
       -- A formula that is not whole stands in no rule that was read.
-      pub rule-unread : (i : Form) (n : ℕ) → read .part ≡ Refused i n → byte s at ≡ 0x04 → SearchesRule s e at words starts count chosen Nowhere
+      pub rule-unread : (i : Form) (n : ℕ) → read ≡ Refused i n → byte s at ≡ 0x04 → SearchesRule s e at words starts count chosen Nowhere
       unfolding Reading.clauses
       rule-unread i n broken code φs G X S zero end ψs reads exact = never-unfinished reads
       rule-unread i n broken code φs G X S (suc f) end ψs reads exact = go (clauses-formed f s at ψs end reads)
@@ -83,12 +82,12 @@ module _ (s : List ℕ) (e : ℕ) (words starts : List ℕ) (count chosen : ℕ)
           go : Clausal f s at ψs end → LowestWrong (Passing φs chosen (λ n e′ mark δ φ. eqb e′ e && someClauseFails φs G X ψs n δ φ)) Nowhere
           go (no-more k q z) = absurd (k code)
           go (one-more k ψ next rest reads-ψ few reads-rest q) =
-              let w = formula-whole s 0 (formula .at) t₀ read reads-formula f ψ next (rw over reads-ψ) .0 in
+              let w = formula-whole s 0 (formula .at) read reads-formula f ψ next (rw over reads-ψ) in
               let z : _≡_ {A = ℕ} 0 1 = cc in absurd (omega arith)
 
-      module _ (r : Readings.Reading) (keeps : KeepsFacts (read .facts) r) (place : ℕ) (after : Position) (ended : read .part ≡ Whole after) where
+      module _ (after : Position) (ended : read ≡ Whole after) (facts : Facts) (gathered : FactsRead s (formula .at) (after .at) facts) (r : Schemes.Scheme) (keeps : KeepsFacts facts r) (place : ℕ) where
         pub rule-goes : byte s at ≡ 0x04 → (found : Wrong)
-            → SearchesClause s (record { element = e; place = place; formula = formula; reading = r }) words starts count chosen found
+            → SearchesClause s (record { element = e; place = place; formula = formula; facts = facts; scheme = r }) words starts count chosen found
             → (later : Wrong) → SearchesRule s e (after .at) words starts count chosen later
             → SearchesRule s e at words starts count chosen (lowerWrong found later)
         unfolding Reading.clauses someClauseFails
@@ -101,11 +100,12 @@ module _ (s : List ℕ) (e : ℕ) (words starts : List ℕ) (count chosen : ℕ)
             go (one-more k ψ next rest reads-ψ few reads-rest q) each =
                 let each′ = subst (λ (l : List Formula). (χ : Formula) → χ ∈ l → Exact φs G (patternsBy χ) (X χ)) q each in
                 let stands : Reading.formula f s 0 (formula .at) ≡ whole ψ next = rw over reads-ψ in
-                let w = formula-whole s 0 (formula .at) t₀ read reads-formula f ψ next stands in
-                let is : after ≡ record { at = next } = whole-same after next (sym ended ∙ w .0) in
+                let is : after ≡ record { at = next } = whole-same after next (sym ended ∙ formula-whole s 0 (formula .at) read reads-formula f ψ next stands) in
                 let same : after .at ≡ next = rw is in
+                let kept = gathered f 0 ψ (subst (λ (j : ℕ). Reading.formula f s 0 (formula .at) ≡ whole ψ j) (sym same) stands) in
                 let first = here φs G ψ (X ψ) S (record {
-                  reads = keeps (factsOf ψ) (w .1 [] nothing) few (facts-distinct ψ);
+                  represents = kept;
+                  reads = keeps (factsOf ψ) kept few (facts-distinct ψ);
                   fuel = f;
                   depth = 0;
                   end = next;

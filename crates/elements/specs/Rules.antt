@@ -11,7 +11,7 @@ use Rattle.commands.specs.Reading.{whole}
 use Rattle.commands.specs.Parts.{Enough}
 use Rattle.vocabularies.specs.Vocabulary.{Formula, Rule, Vocabulary, ruleOf}
 use Rattle.vocabularies.specs.Vocabulary as Vocabularies
-use Rattle.vocabularies.specs.VocabularyReading as Reading
+use Rattle.vocabularies.specs.VocabularyReading as Grammar
 use Rattle.pages.specs.Items.{Items}
 use Rattle.pages.specs.RightPages.{_∈_}
 use Rattle.summaries.specs.Summaries.{Summary}
@@ -22,7 +22,9 @@ use Rattle.patterns.specs.Elements.{someClauseFails}
 use Rattle.patterns.specs.Shows.{lowestMark}
 use Rattle.patterns.specs.LowestWrong.{wrongIn, LowestWrong, Passing}
 use Rattle.pages.specs.Gaps.{ItemsStand, StartsAt}
+use Rattle.schemes.specs.declared.Scheme.{Scheme}
 use Rattle.languages.specs.Tables.{SetsAre}
+use Rattle.languages.specs.Promises.{Settles}
 use Rattle.occurrences.specs.Occurrences.{Occurrences}
 use Rattle.reach.specs.Promises.{GraphKept}
 use Rattle.reach.specs.PlainlyWrong.{wrongByClause}
@@ -34,6 +36,10 @@ use Rattle.elements.specs.Search.{failsAt}
 pub record Standing (s : List ℕ) (φs : List Items) (G : Summary) (words starts : List ℕ) (count : ℕ) : Type 0 where
   pub graph : GraphKept φs G words count
   pub stand : StartsAt s φs starts
+
+-- The sets of all templates are those of the first settled round by a scheme.
+abbrev pub SettledBy : Scheme → List ℕ → List ℕ → List ℕ → ℕ → List (List ℕ) → Type 0
+SettledBy r s words starts count sets = (made : ℕ) × Settles r s words starts count made sets
 
 -- The lowest element of items of template n for which the clause can fail.
 abbrev pub SearchesTemplate : List ℕ → ℕ → Clause → List ℕ → List (List ℕ) → ℕ → Wrong → Type 0
@@ -51,14 +57,14 @@ SearchesClause s c words starts count chosen r = (φs : List Items) (G : Summary
 abbrev pub SearchesRule : List ℕ → ℕ → ℕ → List ℕ → List ℕ → ℕ → ℕ → Wrong → Type 0
 SearchesRule s e from words starts count chosen r = (φs : List Items) (G : Summary) (X : Formula → Sets)
     → Standing s φs G words starts count
-    → (f end : ℕ) (ψs : List Formula) → Reading.clauses f s from ≡ whole ψs end → ((ψ : Formula) → ψ ∈ ψs → Exact φs G (patternsBy ψ) (X ψ))
+    → (f end : ℕ) (ψs : List Formula) → Grammar.clauses f s from ≡ whole ψs end → ((ψ : Formula) → ψ ∈ ψs → Exact φs G (patternsBy ψ) (X ψ))
     → LowestWrong (Passing φs chosen (λ n e′ mark δ φ. eqb e′ e && someClauseFails φs G X ψs n δ φ)) r
 
 -- Which elements have a rule, and where the clauses of each stand.
 pub record RulesStand (s : List ℕ) (D : Vocabulary) (declared : ℕ) (clauses : List ℕ) : Type 0 where
   pub declares : (e : ℕ) → member declared e ≡ Vocabularies.declared (D .rules) e
   pub stands : (e : ℕ) (r : Rule) → ruleOf (D .rules) e ≡ some r → (f : ℕ) → Enough s (getD clauses e 0) f
-      → (end : ℕ) × (Reading.clauses f s (getD clauses e 0) ≡ whole (r .clauses) end)
+      → (end : ℕ) × (Grammar.clauses f s (getD clauses e 0) ≡ whole (r .clauses) end)
 
 -- The sets of each clause are exact.
 abbrev pub ExactClauses : List Items → Summary → Vocabulary → (Formula → Sets) → Type 0

@@ -1,92 +1,122 @@
 // Elements of templates that are wrong by a clause of their rule (document 01, verdict 12), clause by clause.
 ghost use mathlib.Core.Path.{_≡_};
+ghost use mathlib.Core.Bool.{true};
 ghost use Prim.Native.Nat.{_≤_, _<_};
 ghost use Rattle.sets.specs.Sets.{FirstMember};
 ghost use Rattle.patterns.specs.Shows.{onlyIf};
 ghost use Rattle.patterns.specs.LowestWrong.{wrongIn};
 ghost use Rattle.elements.specs.Attributes.{AttributePatterns};
-ghost use Rattle.elements.specs.Rules.{SearchesTemplate, SearchesClause, SearchesRule, SearchesRules};
-ghost use Rattle.elements.specs.Search.{ElementFails, SearchesElement, SearchesItems};
+ghost use Rattle.elements.specs.Rules.{SettledBy, SearchesTemplate, SearchesClause, SearchesRule, SearchesRules};
+ghost use Rattle.elements.specs.Search.{CanFail, HasPattern, SearchesElement, SearchesItems};
 use commands::Part;
 use commands::Past;
 use commands::Position;
 use graphs::Graph;
 use pages::AttributeHere;
 use pages::ItemHere;
+use pages::TEXT;
 use patterns::Wrong;
-use readings::EMPTY;
-use readings::Reading;
+use schemes::EMPTY;
+use schemes::Scheme;
+use vocabularies::Facts;
 use vocabularies::Tables;
 
-// A clause of an element's rule: its place in the rule, from 0, where its formula stands, and the reading of its facts.
+// A clause of an element's rule: its place in the rule, from 0, where its formula stands, its facts, and the scheme of these.
 struct Clause {
     element: u8,
     place: usize,
     formula: Position,
-    reading: Reading,
+    facts: Facts,
+    scheme: Scheme,
 }
 
-// The lowest wrong element of an element or of items, and the position after them.
-struct Found {
+// The attributes of an element: their names, their patterns, whether all their gaps have something to take, and the position after
+// them.
+struct Attributes {
+    names: u64,
+    set: [u64; 4],
+    takes: bool,
+    next: Position,
+}
+
+// An element that was searched: whether it has a pattern, the lowest wrong element in it, itself one of them, and the position after it.
+struct FoundElement {
+    yields: bool,
     wrong: Wrong,
     next: Position,
 }
 
-// The patterns of the attributes from here on, of an element of template n.
+// A list of items that was searched: its patterns, the lowest wrong element in it, and the position after what ends it.
+struct FoundItems {
+    set: [u64; 4],
+    wrong: Wrong,
+    next: Position,
+}
+
+// The attributes from here on, of an element of template n. One that no fact is about leaves the patterns as they are, if it has something
+// to take.
 fn attribute_patterns(
     s: &[u8],
     start: Position,
-    reading: Reading,
+    facts: Facts,
+    scheme: Scheme,
     graph: &Graph,
     n: usize,
-) -> [u64; 4]
+) -> Attributes
     requires { ⌜ n < 32 ⌝ }
-    ensures { λ r. ⌜ AttributePatterns (now (s .entry)) (start .at) reading (now (graph .entry)) n r ⌝ }
+    ensures forward { λ r. ⌜ start .at ≤ r .next .at ⌝ }
+    ensures patterned { λ r. ⌜ AttributePatterns (now (s .entry)) (start .at) facts scheme (now (graph .entry)) n r ⌝ }
 {
-    let facts = reading.facts;
+    let valued = clauses::valued_names(facts);
     let mut here = start;
+    let mut names: u64 = 0;
     let mut set = pattern_sets::only(EMPTY);
+    let mut takes = true;
     loop {
         match pages::attribute_here(s, here) {
             AttributeHere::Fixed { name, string, next } => {
-                let own = pattern_sets::only(clauses::attribute_pattern(facts, name, string));
-                let more = readings::product(reading, set, own);
-                set = more;
                 here = next;
+                names = sets::with(names, name);
+                if sets::has(valued, name) {
+                    let own = pattern_sets::only(clauses::attribute_pattern(facts, name, string));
+                    let more = schemes::product(scheme, set, own);
+                    set = more;
+                }
             }
             AttributeHere::Open { name, gap, next } => {
-                let values = graphs::strings_at(graph, n as u8, gap);
-                let own = clauses::value_patterns(facts, name, values);
-                let more = readings::product(reading, set, own);
-                set = more;
                 here = next;
+                names = sets::with(names, name);
+                let values = graphs::strings_at(graph, n as u8, gap);
+                if strings::is_empty(values) {
+                    takes = false;
+                    let none = pattern_sets::empty();
+                    set = none;
+                } else if sets::has(valued, name) {
+                    let own = clauses::value_patterns(facts, name, values);
+                    let more = schemes::product(scheme, set, own);
+                    set = more;
+                }
             }
             AttributeHere::Done => {
-                return set;
+                return Attributes {
+                    names,
+                    set,
+                    takes,
+                    next: here,
+                };
             }
         }
     }
 }
 
-// Whether the clause can fail for the element of template n whose attributes stand here and have these names, and whose contents have
-// these patterns.
-fn element_fails(
-    s: &[u8],
-    start: Position,
-    clause: Clause,
-    graph: &Graph,
-    n: usize,
-    names: u64,
-    inner: [u64; 4],
-) -> bool
-    requires { ⌜ n < 32 ⌝ }
-    ensures { λ r. ⌜ ElementFails (now (s .entry)) (start .at) clause (now (graph .entry)) n names inner r ⌝ }
+// Whether the clause can fail for an element whose attributes have these names, and whose attributes and contents have these patterns.
+fn can_fail(s: &[u8], clause: Clause, names: u64, outer: [u64; 4], inner: [u64; 4]) -> bool
+    ensures { λ r. ⌜ CanFail (now (s .entry)) clause names outer inner r ⌝ }
 {
-    let reading = clause.reading;
-    let outer = attribute_patterns(s, start, reading, graph, n);
-    let patterns = readings::product(reading, outer, inner);
+    let scheme = clause.scheme;
+    let patterns = schemes::product(scheme, outer, inner);
     let formula = clause.formula;
-    let facts = reading.facts;
+    let facts = clause.facts;
     clauses::clause_fails(s, formula, facts, names, patterns).fails
 }
 
@@ -100,6 +130,16 @@ fn wrong_if(fails: bool, n: usize, at: usize) -> Wrong
     Wrong::Nowhere
 }
 
+// Whether an element has a pattern: its attributes have something to take, and the list inside it has a pattern.
+fn has_pattern(takes: bool, inner: [u64; 4]) -> bool
+    ensures { λ r. ⌜ HasPattern takes inner r ⌝ }
+{
+    if !takes {
+        return false;
+    }
+    !pattern_sets::is_empty(inner)
+}
+
 // The element e here, of template n, whose attributes stand at `start`: itself, if it has the clause's name, and those inside it.
 fn search_element(
     s: &[u8],
@@ -110,31 +150,42 @@ fn search_element(
     n: usize,
     graph: &Graph,
     takes: &[[u64; 4]; 8],
-) -> Found
+) -> FoundElement
     requires { ⌜ n < 32 ⌝ }
     ensures forward { λ r. ⌜ start .at ≤ r .next .at ⌝ }
     ensures searched { λ r. ⌜ SearchesElement (now (s .entry)) (here .at) e start clause (now (graph .entry)) (now (takes .entry)) n r ⌝ }
 {
-    let named = pages::names_at(s, start);
-    let inside = named.next;
-    let found = search_items(s, inside, clause, n, graph, takes);
     if e != clause.element {
-        return found;
+        let filled = languages::attributes_take(s, start, graph, n);
+        let list = search_items(s, filled.next, clause, n, graph, takes);
+        let inner = list.set;
+        let wrong = list.wrong;
+        let next = list.next;
+        return FoundElement {
+            yields: has_pattern(filled.takes, inner),
+            wrong,
+            next,
+        };
     }
-    let reading = clause.reading;
-    let list = languages::list_patterns(s, inside, reading, graph, n, takes);
+    let facts = clause.facts;
+    let scheme = clause.scheme;
+    let attributes = attribute_patterns(s, start, facts, scheme, graph, n);
+    let list = search_items(s, attributes.next, clause, n, graph, takes);
+    let outer = attributes.set;
     let inner = list.set;
-    let fails = element_fails(s, start, clause, graph, n, named.names, inner);
+    let fails = can_fail(s, clause, attributes.names, outer, inner);
     let own = wrong_if(fails, n, here.at);
-    let wrong = found.wrong;
-    let next = found.next;
-    Found {
+    let wrong = list.wrong;
+    let next = list.next;
+    FoundElement {
+        yields: has_pattern(attributes.takes, inner),
         wrong: patterns::lower(own, wrong),
         next,
     }
 }
 
-// The items from here on, of template n, up to and with what ends them.
+// The items from here on, of template n, up to and with what ends them: the lowest wrong element, and the patterns of the list, which
+// are the product of those of the items. After an item without a pattern there is none.
 fn search_items(
     s: &[u8],
     start: Position,
@@ -142,29 +193,42 @@ fn search_items(
     n: usize,
     graph: &Graph,
     takes: &[[u64; 4]; 8],
-) -> Found
+) -> FoundItems
     requires { ⌜ n < 32 ⌝ }
     ensures forward { λ r. ⌜ start .at ≤ r .next .at ⌝ }
     ensures searched { λ r. ⌜ SearchesItems (now (s .entry)) (start .at) clause (now (graph .entry)) (now (takes .entry)) n r ⌝ }
 {
+    let scheme = clause.scheme;
+    let mut line = languages::line_of(pattern_sets::only(EMPTY));
     let mut here = start;
     let mut wrong = Wrong::Nowhere;
     loop {
         match pages::item_here(s, here) {
             ItemHere::Text(next) => {
                 here = next;
+                if sets::has(line.contents, TEXT) {
+                    let longer = languages::with_content(scheme, line, TEXT);
+                    line = longer;
+                }
             }
-            ItemHere::Gap(_, next) => {
+            ItemHere::Gap(g, next) => {
                 here = next;
+                if sets::has(line.gaps, g) {
+                    let longer = languages::with_gap(scheme, line, takes, g);
+                    line = longer;
+                }
             }
             ItemHere::Element(e, inside) => {
                 let found = search_element(s, here, e, inside, clause, n, graph, takes);
                 let own = found.wrong;
                 wrong = patterns::lower(wrong, own);
                 here = found.next;
+                let longer = languages::with_element(scheme, line, e, found.yields);
+                line = longer;
             }
             ItemHere::End(next) => {
-                return Found { wrong, next };
+                let set = line.set;
+                return FoundItems { set, wrong, next };
             }
         }
     }
@@ -188,7 +252,7 @@ fn search_template(
     wrong
 }
 
-// One clause, for the templates of a set. Template 0 has no element.
+// One clause, for the templates of a set, from the sets that are settled by its scheme. Template 0 has no element.
 fn search_clause(
     s: &[u8],
     clause: Clause,
@@ -196,12 +260,11 @@ fn search_clause(
     starts: &[usize; 32],
     count: usize,
     chosen: u64,
+    sets: &[[u64; 4]; 32],
 ) -> Wrong
+    requires { ⌜ SettledBy (clause .scheme) (now s) (now graph) (now starts) count (now sets) ⌝ }
     ensures { λ r. ⌜ SearchesClause (now (s .entry)) clause (now (graph .entry)) (now (starts .entry)) count chosen r ⌝ }
 {
-    let reading = clause.reading;
-    let mut rounds: usize = 0;
-    let sets = languages::settle(s, reading, graph, starts, count, &mut rounds);
     let mut lowest = Wrong::Nowhere;
     let mut t = sets::first_member(chosen, 1);
     while t < 32 {
@@ -209,11 +272,47 @@ fn search_clause(
         if count < n {
             return lowest;
         }
-        let found = search_template(s, Position::new(starts[n]), clause, n, graph, &sets);
+        let found = search_template(s, Position::new(starts[n]), clause, n, graph, sets);
         lowest = patterns::lower(lowest, found);
         t = sets::first_member(chosen, t + 1);
     }
     lowest
+}
+
+// Whether the sets at hand are settled, and by which scheme.
+struct AtHand {
+    known: bool,
+    scheme: Scheme,
+}
+
+// The sets settled by a scheme: those at hand, if their scheme is the same, as it often is of the clauses of a rule.
+fn settle_by(
+    s: &[u8],
+    last: AtHand,
+    scheme: Scheme,
+    graph: &Graph,
+    starts: &[usize; 32],
+    count: usize,
+    sets: &mut [[u64; 4]; 32],
+) -> AtHand
+    requires { ⌜ (last .known ≡ true → SettledBy (last .scheme) (now s) (now graph) (now starts) count (now sets)) ⌝ }
+    ensures known { λ r. ⌜ r .scheme ≡ scheme ⌝ }
+    ensures settled { λ r. ⌜ SettledBy scheme (now (s .entry)) (now (graph .entry)) (now (starts .entry)) count (now (sets .exit)) ⌝ }
+{
+    let settled = last.scheme;
+    if last.known {
+        if schemes::same(settled, scheme) {
+            return AtHand {
+                known: true,
+                scheme,
+            };
+        }
+    }
+    languages::settle(s, scheme, graph, starts, count, sets);
+    AtHand {
+        known: true,
+        scheme,
+    }
 }
 
 // The clauses of element e's rule, which stand from an offset on, for the templates of a set.
@@ -234,25 +333,32 @@ fn search_rule(
     }
     let mut here = Position::new(from);
     let mut place: usize = 0;
+    let mut sets = [[0u64; 4]; 32];
+    let mut at_hand = AtHand {
+        known: false,
+        scheme: schemes::facts_scheme(vocabularies::no_facts()),
+    };
     loop {
         let begins = here.past(s, 0x04);
         let Past::Over(formula) = begins else {
             return lowest;
         };
-        let read = vocabularies::read_formula(s, formula, 0, vocabularies::no_facts());
-        let part = read.part;
+        let part = vocabularies::read_formula(s, formula, 0);
         let Part::Whole(next) = part else {
             return lowest;
         };
-        let facts = read.facts;
-        let reading = readings::facts_reading(facts);
+        let facts = vocabularies::facts_of(s, formula, next);
+        let scheme = schemes::facts_scheme(facts);
+        let settled = settle_by(s, at_hand, scheme, graph, starts, count, &mut sets);
+        at_hand = settled;
         let clause = Clause {
             element: e,
             place,
             formula,
-            reading,
+            facts,
+            scheme,
         };
-        let found = search_clause(s, clause, graph, starts, count, chosen);
+        let found = search_clause(s, clause, graph, starts, count, chosen, &sets);
         lowest = patterns::lower(lowest, found);
         here = next;
         place += 1;

@@ -33,7 +33,7 @@ module _ (graph : List ℕ) (how : Passing) where
     pub edge-held : (m : ℕ) (r : Bool) → r ≡ member edges m → ItemHolds graph how (claim (edge n g m)) r
     edge-held m r r-is f R k = edge-passes how R n g m r (k .same (edge n g m) (f .0, f .1) ∙ (sym (is (f .0) (f .1) m) ∙ sym r-is))
 
-    pub plugged-held : g ≡ how .gap → (r : Bool) → Sets.Within (how .plugged) edges r → ItemHolds graph how (claim (gapFrom g n)) r
+    pub plugged-held : g ≡ how .gap → (r : Bool) → Sets.MembersWithin (how .plugged) edges r → ItemHolds graph how (claim (gapFrom g n)) r
     plugged-held e r v f R k = plugged-passes how R g n e edges (λ m. k .same (edge n g m) (f .1, f .0) ∙ sym (is (f .1) (f .0) m)) r v
 
   pub gap-held : (g n origins : ℕ) (r : Bool) → (g ≡ how .gap → ⊥) → (g < 8 → (m : ℕ) → member origins m ≡ holds graph (gapFrom g m)) → r ≡ member origins n

@@ -1,27 +1,24 @@
--- A graph while the items under a head are put into it.
+-- A graph while the items under a head are put into it, and while they are taken out again.
 use Prim.Native.Nat.{ℕ}
-use mathlib.Core.Path.{_≡_, refl, _∙_}
+use mathlib.Core.Path.{_≡_, refl, sym, _∙_}
 use mathlib.Core.List.{List, [], _∷_}
-use mathlib.Core.Bool.{Bool, true, false, _||_, or-false}
-use Rattle.commands.specs.declared.Context.the-variants.{TemplateFacts}
+use mathlib.Core.Logic.{inl, inr}
+use mathlib.Core.Bool.{Bool, true, false, _||_, or-false, false≢true}
+use native.Mathlib.Omega.{arith}
+use Rattle.commands.specs.declared.Context.the-variants.{TemplateHoldings}
 use Rattle.commands.specs.declared.Position.{Position}
-use Rattle.summaries.specs.Proposal.{Claim, Fact}
+use Rattle.summaries.specs.Proposal.{Claim, Holding}
 use Rattle.summaries.specs.Summaries.{Summary, saysClaim, held}
-use Rattle.summaries.specs.Listed.{FactFits, Listed}
-use Rattle.summaries.proofs.Steps.{First}
-use Rattle.graphs.specs.Graphs.{Keeps, nothing, adding}
+use Rattle.summaries.specs.declared.Claim as Declared
+use Rattle.summaries.specs.declared.ClaimHere.{ClaimHere}
+use Rattle.summaries.specs.declared.ClaimHere.the-variants.{Item, End}
+use Rattle.summaries.specs.Listed.{HoldingFits, Listed, meaningOf, claimHere, ClaimMoves}
+use Rattle.summaries.proofs.Steps.{claims-first, claims-end}
+use Rattle.graphs.specs.Graphs.{Keeps, Forgotten, nothing, adding}
 use Rattle.graphs.proofs.ClosedGraphs.{keeps-same}
-use Rattle.entries.specs.Entries.{Loads}
-use Rattle.entries.proofs.Walks.{Walked, walk-begins, walk-goes, walk-ends}
-
--- The graph keeps a summary that, with what is left, holds what the first one holds with all.
-pub record Kept (graph : List ℕ) (R : Summary) (xs rest : List Fact) : Type 0 where
-  pub summary : Summary
-  pub keeps : Keeps graph summary
-  pub same : (c : Claim) → (R c || held saysClaim xs c) ≡ (summary c || held saysClaim rest c)
-
-abbrev pub Loaded : List ℕ → List ℕ → List Fact → List Fact → Type 0
-Loaded before graph xs rest = (R : Summary) → Keeps before R → Kept graph R xs rest
+use Rattle.entries.specs.Entries.{Taken, Loads, Unloads}
+use Rattle.entries.proofs.Tests.{or-cases, refuted}
+use Rattle.entries.proofs.Walks.{claim-moves}
 
 pub swap : (k y r : Bool) → (k || (y || r)) ≡ ((y || k) || r)
 swap true true r = refl
@@ -29,31 +26,80 @@ swap true false r = refl
 swap false true r = refl
 swap false false r = refl
 
-module _ (s : List ℕ) (from : ℕ) (before : List ℕ) where
-  pub load-begins : Walked TemplateFacts s from from (Loaded before before)
-  load-begins = walk-begins TemplateFacts s from (Loaded before before) λ xs R K. record { summary = R; keeps = K; same = λ c. refl }
+-- The step that the code takes.
+module _ (s : List ℕ) (at : ℕ) (r : ClaimHere) (is : r ≡ claimHere s at) where
+  module _ (item : Declared.Claim) (next : Position) (e : r ≡ Item item next) where
+    taken-more : (ys : List Holding) → Taken s (next .at) ys → Taken s at (meaningOf item ∷ ys)
+    unfolding Taken
+    taken-more ys t = record { item = item; next = next; is = sym is ∙ e; means = refl; more = t }
 
-  module _ (at : ℕ) (graph : List ℕ) (h : Walked TemplateFacts s from at (Loaded before graph)) where
-    pub load-goes : (y : Fact) (next : Position) → ((ys : List Fact) → Listed TemplateFacts s at ys → First s at TemplateFacts y next ys) → FactFits y
-        → (after : List ℕ) → (FactFits y → (R : Summary) → Keeps graph R → Keeps after (adding y R)) → Walked TemplateFacts s from (next .at) (Loaded before after)
-    unfolding held
-    load-goes y next first fits after adds = walk-goes TemplateFacts s from at (Loaded before graph) h y next first (Loaded before after) goes
-      where
-        goes : (xs ys : List Fact) → Loaded before graph xs (y ∷ ys) → Loaded before after xs ys
-        goes xs ys w R K =
-            let k = w R K in
-            record {
-              summary = adding y (k .summary);
-              keeps = adds fits (k .summary) (k .keeps);
-              same = λ c. k .same c ∙ swap (k .summary c) (saysClaim y c) (held saysClaim ys c);
-            }
+    module _ (moves : ClaimMoves s at r) (before middle after : List ℕ) where
+      pub load-goes : (HoldingFits (meaningOf item) → (R : Summary) → Keeps before R → Keeps middle (adding (meaningOf item) R)) → Loads s (next .at) middle after → Loads s at before after
+      unfolding held
+      load-goes adds l = record {
+        items = meaningOf item ∷ l .items;
+        taken = taken-more (l .items) (l .taken);
+        keeps = λ R K.
+            keeps-same after _ _ (λ c g. swap (R c) (saysClaim (meaningOf item) c) (held saysClaim (l .items) c))
+            (l .keeps (adding (meaningOf item) R) (adds (claim-moves s at r moves item next e .fits) R K));
+      }
 
-    pub load-ends : ((ys : List Fact) → Listed TemplateFacts s at ys → ys ≡ []) → Loads s from before graph
-    unfolding held
-    load-ends e xs l R K =
-        let k = walk-ends TemplateFacts s from at (Loaded before graph) h e xs l R K in
-        keeps-same graph (k .summary) _ (λ c g. k .same c ∙ or-false (k .summary c)) (k .keeps)
+      pub unload-goes : (HoldingFits (meaningOf item) → (R : Summary) → Keeps before R → Forgotten (meaningOf item) R middle) → Unloads s (next .at) middle after → Unloads s at before after
+      unfolding held
+      unload-goes forgets u = record {
+        items = meaningOf item ∷ u .items;
+        taken = taken-more (u .items) (u .taken);
+        keeps = λ R K w.
+            let f = forgets (claim-moves s at r moves item next e .fits) R K in
+            u .keeps (f .left) (f .keeps) (λ c h. elim (or-cases (saysClaim (meaningOf item) c) (held saysClaim (u .items) c) (w c (f .within c h))) [
+              | inl q ↦ absurd (false≢true (sym (f .gone c q) ∙ h))
+              | inr q ↦ q
+            ]);
+      }
 
--- A graph that held nothing keeps the entry.
-pub kept-entry : (s : List ℕ) (at : ℕ) (before after : List ℕ) → Keeps before nothing → Loads s at before after → (xs : List Fact) → Listed TemplateFacts s at xs → Keeps after (held saysClaim xs)
-kept-entry s at before after K loads xs l = loads xs l nothing K
+  module _ (e : r ≡ End) (graph : List ℕ) where
+    pub load-ends : Loads s at graph graph
+    unfolding held Taken
+    load-ends = record { items = []; taken = sym is ∙ e; keeps = λ R K. keeps-same graph R _ (λ c g. or-false (R c)) K }
+
+    pub unload-ends : Unloads s at graph graph
+    unfolding held Taken
+    unload-ends = record {
+      items = [];
+      taken = sym is ∙ e;
+      keeps = λ R K w. keeps-same graph R nothing (λ c g. sym (refuted (R c) (λ h. false≢true (w c h)))) K;
+    }
+
+-- The items that are taken off are those that stand there, and are the same each time.
+pub taken-listed : (s : List ℕ) (at : ℕ) (xs ys : List Holding) → Taken s at xs → Listed TemplateHoldings s at ys → xs ≡ ys
+unfolding Taken
+taken-listed s at [] ys t l = sym (claims-end s at ys l (claimHere s at) refl t)
+taken-listed s at (x ∷ xs) ys t l =
+    let f = claims-first s at ys l (claimHere s at) refl (t .item) (t .next) (t .is) in
+    let q = taken-listed s (t .next .at) xs (f .rest) (t .more) (f .stand) in
+    let m = t .means in
+    let n = f .is-more in
+    cc
+
+taken-once : (s : List ℕ) (at : ℕ) (xs ys : List Holding) → Taken s at xs → Taken s at ys → xs ≡ ys
+unfolding Taken
+taken-once s at [] [] t u = refl
+taken-once s at [] (y ∷ ys) t u = let q : End ≡ Item (u .item) (u .next) = sym t ∙ u .is in absurd (let z : _≡_ {A = ℕ} 0 1 = cc in omega arith)
+taken-once s at (x ∷ xs) [] t u = let q : Item (t .item) (t .next) ≡ End = sym (t .is) ∙ u in absurd (let z : _≡_ {A = ℕ} 0 1 = cc in omega arith)
+taken-once s at (x ∷ xs) (y ∷ ys) t u =
+    let q : Item (t .item) (t .next) ≡ Item (u .item) (u .next) = sym (t .is) ∙ u .is in
+    let same : t .item ≡ u .item = cc in
+    let same-next : t .next ≡ u .next = cc in
+    let rest = taken-once s (t .next .at) xs ys (t .more) (rw same-next (u .more)) in
+    let m = t .means in
+    let n = u .means in
+    cc
+
+module _ (s : List ℕ) (at : ℕ) (before after : List ℕ) (empty : Keeps before nothing) (loads : Loads s at before after) where
+  -- A graph that held nothing keeps the entry.
+  pub kept-entry : (xs : List Holding) → Listed TemplateHoldings s at xs → Keeps after (held saysClaim xs)
+  kept-entry xs l = rw (← taken-listed s at (loads .items) xs (loads .taken) l) (loads .keeps nothing empty)
+
+  -- What is loaded into it is unloaded.
+  pub emptied : (last : List ℕ) → Unloads s at after last → Keeps last nothing
+  emptied last u = u .keeps (held saysClaim (loads .items)) (loads .keeps nothing empty) (rw (taken-once s at (loads .items) (u .items) (loads .taken) (u .taken)) (λ c h. h))

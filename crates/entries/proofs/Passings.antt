@@ -8,8 +8,8 @@ use lib.Dec.{eqb}
 use borrow.Author.Tests.{eq-eqb, ne-eqb, eqb-true}
 use Rattle.sets.specs.Sets.{member}
 use Rattle.sets.specs.Sets as Sets
-use Rattle.summaries.specs.Proposal.{Claim, root, edge, string, gapFrom, attributeGapFrom, Fact, claim, anyAt}
-use Rattle.summaries.specs.Summaries.{Summary, Within, sameNumbers, saysClaim, held}
+use Rattle.summaries.specs.Proposal.{Claim, root, edge, string, gapFrom, attributeGapFrom, Holding, claim, anyAt}
+use Rattle.summaries.specs.Summaries.{Summary, Within, sameCode, saysClaim, held}
 use Rattle.strings.specs.declared.Values.{Values}
 use Rattle.entries.specs.declared.Passing.{Passing}
 use Rattle.strings.specs.Strings.{holdsValue}
@@ -53,17 +53,17 @@ module _ (how : Passing) where
   nothing-passes (attributeGapFrom h n) = rw (and-false (not (eqb h (how .attribute))))
 
   module _ (R : Summary) where
-    abbrev pub Passes : Fact → Type 0
+    abbrev pub Passes : Holding → Type 0
     Passes y = Within (passed how (saysClaim y)) R
 
-    abbrev pub AllPass : List Fact → Type 0
+    abbrev pub AllPass : List Holding → Type 0
     AllPass ys = Within (passed how (held saysClaim ys)) R
 
     pub none-pass : AllPass []
     unfolding held
     none-pass c e = absurd (false≢true (sym (nothing-passes c) ∙ e))
 
-    module _ (y : Fact) (ys : List Fact) where
+    module _ (y : Holding) (ys : List Holding) where
       more-or : (c : Claim) → passed how (held saysClaim (y ∷ ys)) c ≡ (passed how (saysClaim y) c || passed how (held saysClaim ys) c)
       unfolding held
       more-or c = passed-or (saysClaim y) (held saysClaim ys) c
@@ -95,11 +95,11 @@ module _ (how : Passing) where
         (λ w. sym is ∙ w c (or-left _ _ (and-both _ _ st (says-itself c))))
 
     pub root-passes : (n : ℕ) (b : Bool) → how .roots ≡ true → R (root n) ≡ b → Decides b (Passes (claim (root n)))
-    unfolding sameNumbers
+    unfolding sameCode
     root-passes n b e is = stays-passes (root n) e (adds-none (root n) (λ g m. refl) (λ h m. refl)) b is
 
     pub root-stays-out : (n : ℕ) → how .roots ≡ false → Passes (claim (root n))
-    unfolding sameNumbers
+    unfolding sameCode
     root-stays-out n e d p = elim (or-cases (stays how d && saysClaim (claim (root n)) d) (added how (saysClaim (claim (root n))) d) p) [
       | inl h ↦ let q : root n ≡ d = says-alone (root n) d (and-right (stays how d) _ h) in
           absurd (false≢true (sym e ∙ (ap (stays how) q ∙ and-left (stays how d) _ h)))
@@ -107,11 +107,11 @@ module _ (how : Passing) where
     ]
 
     pub edge-passes : (n g m : ℕ) (b : Bool) → R (edge n g m) ≡ b → Decides b (Passes (claim (edge n g m)))
-    unfolding sameNumbers
+    unfolding sameCode
     edge-passes n g m b is = stays-passes (edge n g m) refl (adds-none (edge n g m) (λ k l. refl) (λ h l. refl)) b is
 
     pub string-passes : (n h s : ℕ) (b : Bool) → R (string n h s) ≡ b → Decides b (Passes (claim (string n h s)))
-    unfolding sameNumbers
+    unfolding sameCode
     string-passes n h s b is = stays-passes (string n h s) refl (adds-none (string n h s) (λ k l. refl) (λ k l. refl)) b is
 
     pub any-passes : (n h : ℕ) (there : Values) → ((t : ℕ) → R (string n h t) ≡ holdsValue there t) → (b : Bool) → Decides b (Within (λ t. true) (holdsValue there)) → Decides b (Passes (anyAt n h))
@@ -137,7 +137,7 @@ module _ (how : Passing) where
     -- Origins of a gap that is not plugged, and of one that is: edges to the roots plugged in stand for those.
     module _ (g n : ℕ) where
       adds-edges : (d : Claim) → added how (saysClaim (claim (gapFrom g n))) d ≡ true → (g ≡ how .gap) × (m : ℕ) × (edge n g m ≡ d) × (member (how .plugged) m ≡ true)
-      unfolding sameNumbers
+      unfolding sameCode
       adds-edges (root k) p = absurd (false≢true p)
       adds-edges (edge k l m) p =
           let a : l ≡ how .gap = eqb-true l (how .gap) (and-left _ _ p) in
@@ -165,14 +165,14 @@ module _ (how : Passing) where
           | inr h ↦ let a = adds-edges d h in rw (← a .2) (is (a .1) ∙ w (a .1) (a .3))
         ]
 
-        pub plugged-passes : (b : Bool) → Sets.Within (how .plugged) targets b → Decides b (Passes (claim (gapFrom g n)))
+        pub plugged-passes : (b : Bool) → Sets.MembersWithin (how .plugged) targets b → Decides b (Passes (claim (gapFrom g n)))
         plugged-passes true w = from-edges w
         plugged-passes false w = λ v. false≢true (sym (w .3) ∙ to-edges v (w .0) (w .2))
 
     -- The same for attribute gaps, with strings.
     module _ (h n : ℕ) where
       adds-strings : (d : Claim) → added how (saysClaim (claim (attributeGapFrom h n))) d ≡ true → (h ≡ how .attribute) × (t : ℕ) × (string n h t ≡ d) × (holdsValue (how .strings) t ≡ true)
-      unfolding sameNumbers
+      unfolding sameCode
       adds-strings (root k) p = absurd (false≢true p)
       adds-strings (edge k l m) p = absurd (false≢true (sym (and-false (eqb l (how .gap))) ∙ p))
       adds-strings (string k l t) p =

@@ -9,12 +9,12 @@ use lib.Dec.{eqb}
 use borrow.Author.Tests.{ne-eqb}
 use Rattle.sets.specs.Sets.{member}
 use Rattle.sets.proofs.Laws.{member-zero}
-use Rattle.commands.specs.declared.Context.the-variants.{TemplateFacts}
-use Rattle.summaries.specs.Proposal.{Claim, root, edge, string, gapFrom, attributeGapFrom, Fact, claim, anyAt, oneString, anyString}
+use Rattle.commands.specs.declared.Context.the-variants.{TemplateHoldings}
+use Rattle.summaries.specs.Proposal.{Claim, root, edge, string, gapFrom, attributeGapFrom, Holding, claim, anyAt, oneString, anyString}
 use Rattle.summaries.specs.Summaries.{Summary, Strings, Within, plugSummary, plugStringSummary, saysClaim, held}
 use Rattle.strings.specs.declared.Values.{Values}
 use Rattle.entries.specs.declared.Passing.{Passing}
-use Rattle.summaries.specs.Listed.{FactFits, Listed}
+use Rattle.summaries.specs.Listed.{HoldingFits, Listed}
 use Rattle.strings.specs.Strings.{holdsValue}
 use Rattle.entries.specs.Passing.{passed, wholly, withoutRoots, plugging, filling, Decides}
 use Rattle.entries.proofs.Tests.{or-left, or-right, or-cases, and-right, decided-true, decided-false, decides-map}
@@ -31,28 +31,28 @@ LowGaps (attributeGapFrom h n) = h < 8
 abbrev pub Low : Summary → Type 0
 Low S = (c : Claim) → S c ≡ true → LowGaps c
 
-fact-low : (y : Fact) → FactFits y → (c : Claim) → saysClaim y c ≡ true → LowGaps c
-fact-low (claim d) f c e = go d f (says-alone d c e)
+holding-low : (y : Holding) → HoldingFits y → (c : Claim) → saysClaim y c ≡ true → LowGaps c
+holding-low (claim d) f c e = go d f (says-alone d c e)
   where
-    go : (d : Claim) → FactFits (claim d) → d ≡ c → LowGaps c
+    go : (d : Claim) → HoldingFits (claim d) → d ≡ c → LowGaps c
     go (root n) f q = rw (← q) tt
     go (edge n g m) f q = rw (← q) tt
     go (string n h s) f q = rw (← q) tt
     go (gapFrom g n) f q = rw (← q) (f .0)
     go (attributeGapFrom h n) f q = rw (← q) (f .0)
-fact-low (anyAt n h) f (root m) e = tt
-fact-low (anyAt n h) f (edge m g k) e = tt
-fact-low (anyAt n h) f (string m k s) e = tt
-fact-low (anyAt n h) f (gapFrom g m) e = absurd (false≢true e)
-fact-low (anyAt n h) f (attributeGapFrom k m) e = absurd (false≢true e)
-fact-low (oneString t) f c e = absurd (false≢true e)
-fact-low anyString f c e = absurd (false≢true e)
+holding-low (anyAt n h) f (root m) e = tt
+holding-low (anyAt n h) f (edge m g k) e = tt
+holding-low (anyAt n h) f (string m k s) e = tt
+holding-low (anyAt n h) f (gapFrom g m) e = absurd (false≢true e)
+holding-low (anyAt n h) f (attributeGapFrom k m) e = absurd (false≢true e)
+holding-low (oneString t) f c e = absurd (false≢true e)
+holding-low anyString f c e = absurd (false≢true e)
 
-pub listed-low : (s : List ℕ) (at : ℕ) (xs : List Fact) → Listed TemplateFacts s at xs → Low (held saysClaim xs)
+pub listed-low : (s : List ℕ) (at : ℕ) (xs : List Holding) → Listed TemplateHoldings s at xs → Low (held saysClaim xs)
 unfolding Listed held
 listed-low s at [] l c e = absurd (false≢true e)
 listed-low s at (y ∷ ys) l c e = elim (or-cases (saysClaim y c) (held saysClaim ys c) e) [
-  | inl h ↦ fact-low y (l .0 .fits) c h
+  | inl h ↦ holding-low y (l .0 .fits) c h
   | inr h ↦ listed-low s _ ys (l .1) c h
 ]
 

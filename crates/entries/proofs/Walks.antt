@@ -4,7 +4,7 @@ use mathlib.Core.Path.{_≡_}
 use mathlib.Core.List.{List, [], _∷_}
 use Rattle.commands.specs.declared.Context.{Context}
 use Rattle.commands.specs.declared.Position.{Position}
-use Rattle.summaries.specs.Proposal.{Fact, oneString, anyString}
+use Rattle.summaries.specs.Proposal.{Holding, oneString, anyString}
 use Rattle.summaries.specs.declared.Claim.{Claim}
 use Rattle.summaries.specs.declared.ClaimHere.{ClaimHere}
 use Rattle.summaries.specs.declared.ClaimHere.the-variants.{Item}
@@ -15,33 +15,33 @@ use Rattle.summaries.proofs.Steps.{First}
 
 module _ (x : Context) (s : List ℕ) where
   -- The items from an offset on, and what they have to do with those that were there at first.
-  pub record Left (at : ℕ) (P : List Fact → Type 0) : Type 0 where
-    pub rest : List Fact
+  pub record Left (at : ℕ) (P : List Holding → Type 0) : Type 0 where
+    pub rest : List Holding
     pub stands : Listed x s at rest
     pub tells : P rest
 
-  abbrev pub Walked : ℕ → ℕ → (List Fact → List Fact → Type 0) → Type 0
-  Walked from at P = (xs : List Fact) → Listed x s from xs → Left at (P xs)
+  abbrev pub Walked : ℕ → ℕ → (List Holding → List Holding → Type 0) → Type 0
+  Walked from at P = (xs : List Holding) → Listed x s from xs → Left at (P xs)
 
 module _ (x : Context) (s : List ℕ) (from : ℕ) where
-  pub walk-begins : (P : List Fact → List Fact → Type 0) → ((xs : List Fact) → P xs xs) → Walked x s from from P
+  pub walk-begins : (P : List Holding → List Holding → Type 0) → ((xs : List Holding) → P xs xs) → Walked x s from from P
   walk-begins P h xs l = record { rest = xs; stands = l; tells = h xs }
 
-  module _ (at : ℕ) (P : List Fact → List Fact → Type 0) (walked : Walked x s from at P) where
-    pub walk-ends : ((ys : List Fact) → Listed x s at ys → ys ≡ []) → (xs : List Fact) → Listed x s from xs → P xs []
+  module _ (at : ℕ) (P : List Holding → List Holding → Type 0) (walked : Walked x s from at P) where
+    pub walk-ends : ((ys : List Holding) → Listed x s at ys → ys ≡ []) → (xs : List Holding) → Listed x s from xs → P xs []
     walk-ends e xs l =
         let w = walked xs l in
         rw (e (w .rest) (w .stands)) at (w .tells)
 
-    module _ (y : Fact) (next : Position) (first : (ys : List Fact) → Listed x s at ys → First s at x y next ys) where
-      pub walk-goes : (Q : List Fact → List Fact → Type 0) → ((xs ys : List Fact) → P xs (y ∷ ys) → Q xs ys) → Walked x s from (next .at) Q
+    module _ (y : Holding) (next : Position) (first : (ys : List Holding) → Listed x s at ys → First s at x y next ys) where
+      pub walk-goes : (Q : List Holding → List Holding → Type 0) → ((xs ys : List Holding) → P xs (y ∷ ys) → Q xs ys) → Walked x s from (next .at) Q
       walk-goes Q h xs l =
           let w = walked xs l in
           let f = first (w .rest) (w .stands) in
           record { rest = f .rest; stands = f .stand; tells = h xs (f .rest) (rw (f .is-more) at (w .tells)) }
 
       -- What an item that is left says, where the walk is given up.
-      pub walk-stops : (Q : List Fact → Type 0) → ((xs ys : List Fact) → P xs (y ∷ ys) → Q xs) → (xs : List Fact) → Listed x s from xs → Q xs
+      pub walk-stops : (Q : List Holding → Type 0) → ((xs ys : List Holding) → P xs (y ∷ ys) → Q xs) → (xs : List Holding) → Listed x s from xs → Q xs
       walk-stops Q h xs l =
           let w = walked xs l in
           let f = first (w .rest) (w .stands) in

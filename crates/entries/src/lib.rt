@@ -7,12 +7,12 @@ ghost use Rattle.sets.specs.Sets.{member};
 ghost use Rattle.strings.specs.Strings.{holdsValue};
 ghost use Rattle.pages.specs.Items.{Items};
 ghost use Rattle.pages.specs.Gaps.{GapsAre};
-ghost use Rattle.summaries.specs.Proposal.{root, gapFrom, attributeGapFrom, Fact, claim};
+ghost use Rattle.summaries.specs.Proposal.{root, gapFrom, attributeGapFrom, Holding, claim};
 ghost use Rattle.summaries.specs.Summaries.{Summary, Strings, Within, fragment, plugSummary, plugStringSummary, saysClaim, saysString, held};
 ghost use Rattle.summaries.specs.Listed.{Listed, meaningOf};
-ghost use Rattle.graphs.specs.Graphs.{holds, Keeps};
+ghost use Rattle.graphs.specs.Graphs.{holds, Keeps, nothing};
 ghost use Rattle.entries.specs.Passing.{passed, Decides};
-ghost use Rattle.entries.specs.Entries.{Loads, ItemHolds, originOf};
+ghost use Rattle.entries.specs.Entries.{Loads, Unloads, ItemHolds, WithRoot, originOf};
 use commands::Context;
 use commands::Position;
 use graphs::Graph;
@@ -44,6 +44,21 @@ pub fn load(s: &[u8], here: Position, graph: &mut Graph)
             return;
         };
         graphs::add(graph, item);
+        at = next;
+    }
+}
+
+// The items from here on, which were added to a graph that held nothing, are forgotten.
+fn unload(s: &[u8], here: Position, graph: &mut Graph)
+    ensures { λ _. ⌜ Unloads (now (s .entry)) (here .at) (now (graph .entry)) (now (graph .exit)) ⌝ }
+{
+    let mut at = here;
+    loop {
+        let step = summaries::claim_here(s, at);
+        let ClaimHere::Item(item, next) = step else {
+            return;
+        };
+        graphs::forget(graph, item);
         at = next;
     }
 }
@@ -104,8 +119,8 @@ fn item_holds(graph: &Graph, item: Claim, how: Passing) -> bool
 }
 
 // Whether all that passes of the items from here on lies within the entry that a graph keeps.
-pub fn items_hold(s: &[u8], here: Position, graph: &Graph, how: Passing) -> bool
-    ensures { λ r. ⌜ ((xs : List Fact) (R : Summary) → Listed Context.TemplateFacts (now (s .entry)) (here .at) xs → Keeps (now (graph .entry)) R → Decides r (Within (passed how (held saysClaim xs)) R)) ⌝ }
+fn items_hold(s: &[u8], here: Position, graph: &Graph, how: Passing) -> bool
+    ensures { λ r. ⌜ ((xs : List Holding) (R : Summary) → Listed Context.TemplateHoldings (now (s .entry)) (here .at) xs → Keeps (now (graph .entry)) R → Decides r (Within (passed how (held saysClaim xs)) R)) ⌝ }
 {
     let mut at = here;
     loop {
@@ -120,18 +135,39 @@ pub fn items_hold(s: &[u8], here: Position, graph: &Graph, how: Passing) -> bool
     }
 }
 
+// A set of templates with the root that an item says, if it says one.
+fn with_root(found: u64, item: Claim) -> u64
+    ensures { λ r. ⌜ WithRoot found (meaningOf item) r ⌝ }
+{
+    match item {
+        Claim::Root(n) => sets::with(found, n % 64),
+        Claim::Edge(_, _, _) => found,
+        Claim::String(_, _, _) => found,
+        Claim::AnyString(_, _) => found,
+        Claim::GapFrom(_, _) => found,
+        Claim::AttributeGapFrom(_, _) => found,
+    }
+}
+
 // The roots among the items from here on.
 pub fn roots_of(s: &[u8], here: Position) -> u64
-    ensures { λ r. ⌜ ((xs : List Fact) → Listed Context.TemplateFacts (now (s .entry)) (here .at) xs → (n : ℕ) → held saysClaim xs (root n) ≡ member r n) ⌝ }
+    ensures { λ r. ⌜ ((xs : List Holding) → Listed Context.TemplateHoldings (now (s .entry)) (here .at) xs → (n : ℕ) → held saysClaim xs (root n) ≡ member r n) ⌝ }
 {
-    let mut graph = graphs::none();
-    load(s, here, &mut graph);
-    graphs::roots(&graph)
+    let mut found: u64 = 0;
+    let mut at = here;
+    loop {
+        let step = summaries::claim_here(s, at);
+        let ClaimHere::Item(item, next) = step else {
+            return found;
+        };
+        found = with_root(found, item);
+        at = next;
+    }
 }
 
 // The strings that the items from here on say.
 pub fn strings_of(s: &[u8], here: Position) -> Values
-    ensures { λ r. ⌜ ((xs : List Fact) → Listed Context.StringFacts (now (s .entry)) (here .at) xs → (t : ℕ) → held saysString xs t ≡ holdsValue r t) ⌝ }
+    ensures { λ r. ⌜ ((xs : List Holding) → Listed Context.StringHoldings (now (s .entry)) (here .at) xs → (t : ℕ) → held saysString xs t ≡ holdsValue r t) ⌝ }
 {
     let mut found = strings::no_values();
     let mut at = here;
@@ -183,12 +219,13 @@ fn fragment_holds(graph: &Graph, t: u8, gaps: u64) -> bool
     true
 }
 
-// Whether one entry lies within another, both given by where their items stand.
-pub fn entry_within(s: &[u8], from: Position, there: Position) -> bool
-    ensures { λ r. ⌜ ((xs ys : List Fact) → Listed Context.TemplateFacts (now (s .entry)) (from .at) xs → Listed Context.TemplateFacts (now (s .entry)) (there .at) ys → Decides r (Within (held saysClaim xs) (held saysClaim ys))) ⌝ }
+// Whether one entry lies within another, both given by where their items stand. The graph is lent empty and handed back empty.
+pub fn entry_within(s: &[u8], from: Position, there: Position, graph: &mut Graph) -> bool
+    requires { ⌜ Keeps (now graph) nothing ⌝ }
+    ensures decides { λ r. ⌜ ((xs ys : List Holding) → Listed Context.TemplateHoldings (now (s .entry)) (from .at) xs → Listed Context.TemplateHoldings (now (s .entry)) (there .at) ys → Decides r (Within (held saysClaim xs) (held saysClaim ys))) ⌝ }
+    ensures empty { λ _. ⌜ Keeps (now (graph .exit)) nothing ⌝ }
 {
-    let mut graph = graphs::none();
-    load(s, there, &mut graph);
+    load(s, there, graph);
     let how = Passing {
         roots: true,
         gap: NO_GAP,
@@ -196,24 +233,27 @@ pub fn entry_within(s: &[u8], from: Position, there: Position) -> bool
         attribute: NO_GAP,
         strings: strings::no_values(),
     };
-    items_hold(s, from, &graph, how)
+    let holds = items_hold(s, from, graph, how);
+    unload(s, there, graph);
+    holds
 }
 
 // Whether what is held of a template that is just loaded lies within the entry whose items stand there.
-pub fn fragment_within(s: &[u8], t: u8, gaps: u64, there: Position) -> bool
-    ensures { λ r. ⌜ ((φ : Items) (ys : List Fact) → GapsAre gaps φ → Listed Context.TemplateFacts (now (s .entry)) (there .at) ys → Decides r (Within (fragment t φ) (held saysClaim ys))) ⌝ }
+pub fn fragment_within(s: &[u8], t: u8, gaps: u64, there: Position, graph: &mut Graph) -> bool
+    requires { ⌜ Keeps (now graph) nothing ⌝ }
+    ensures decides { λ r. ⌜ ((φ : Items) (ys : List Holding) → GapsAre gaps φ → Listed Context.TemplateHoldings (now (s .entry)) (there .at) ys → Decides r (Within (fragment t φ) (held saysClaim ys))) ⌝ }
+    ensures empty { λ _. ⌜ Keeps (now (graph .exit)) nothing ⌝ }
 {
-    let mut graph = graphs::none();
-    load(s, there, &mut graph);
-    fragment_holds(&graph, t, gaps)
+    load(s, there, graph);
+    let holds = fragment_holds(graph, t, gaps);
+    unload(s, there, graph);
+    holds
 }
 
-// The same for the plug of the second entry into a gap of the first.
-pub fn plug_within(s: &[u8], first: Position, gap: u8, second: Position, there: Position) -> bool
-    ensures { λ r. ⌜ ((xs ys zs : List Fact) → Listed Context.TemplateFacts (now (s .entry)) (first .at) xs → Listed Context.TemplateFacts (now (s .entry)) (second .at) ys → Listed Context.TemplateFacts (now (s .entry)) (there .at) zs → Decides r (Within (plugSummary gap (held saysClaim xs) (held saysClaim ys)) (held saysClaim zs))) ⌝ }
+// Whether the plug of the second entry into a gap of the first lies within the entry that a graph keeps.
+fn plug_holds(s: &[u8], first: Position, gap: u8, second: Position, graph: &Graph) -> bool
+    ensures { λ r. ⌜ ((xs ys : List Holding) (R : Summary) → Listed Context.TemplateHoldings (now (s .entry)) (first .at) xs → Listed Context.TemplateHoldings (now (s .entry)) (second .at) ys → Keeps (now (graph .entry)) R → Decides r (Within (plugSummary gap (held saysClaim xs) (held saysClaim ys)) R)) ⌝ }
 {
-    let mut graph = graphs::none();
-    load(s, there, &mut graph);
     let none = strings::no_values();
     let plugging = Passing {
         roots: true,
@@ -222,7 +262,7 @@ pub fn plug_within(s: &[u8], first: Position, gap: u8, second: Position, there: 
         attribute: NO_GAP,
         strings: none,
     };
-    if !items_hold(s, first, &graph, plugging) {
+    if !items_hold(s, first, graph, plugging) {
         return false;
     }
     let without_roots = Passing {
@@ -232,7 +272,26 @@ pub fn plug_within(s: &[u8], first: Position, gap: u8, second: Position, there: 
         attribute: NO_GAP,
         strings: none,
     };
-    items_hold(s, second, &graph, without_roots)
+    items_hold(s, second, graph, without_roots)
+}
+
+// The same within the entry whose items stand there.
+pub fn plug_within(
+    s: &[u8],
+    first: Position,
+    gap: u8,
+    second: Position,
+    there: Position,
+    graph: &mut Graph,
+) -> bool
+    requires { ⌜ Keeps (now graph) nothing ⌝ }
+    ensures decides { λ r. ⌜ ((xs ys zs : List Holding) → Listed Context.TemplateHoldings (now (s .entry)) (first .at) xs → Listed Context.TemplateHoldings (now (s .entry)) (second .at) ys → Listed Context.TemplateHoldings (now (s .entry)) (there .at) zs → Decides r (Within (plugSummary gap (held saysClaim xs) (held saysClaim ys)) (held saysClaim zs))) ⌝ }
+    ensures empty { λ _. ⌜ Keeps (now (graph .exit)) nothing ⌝ }
+{
+    load(s, there, graph);
+    let holds = plug_holds(s, first, gap, second, graph);
+    unload(s, there, graph);
+    holds
 }
 
 // The same for the plug of strings into an attribute gap of an entry.
@@ -242,11 +301,13 @@ pub fn fill_within(
     attribute: u8,
     strings: Values,
     there: Position,
+    graph: &mut Graph,
 ) -> bool
-    ensures { λ r. ⌜ ((xs : List Fact) (Y : Strings) (zs : List Fact) → Listed Context.TemplateFacts (now (s .entry)) (from .at) xs → ((t : ℕ) → Y t ≡ holdsValue strings t) → Listed Context.TemplateFacts (now (s .entry)) (there .at) zs → Decides r (Within (plugStringSummary attribute (held saysClaim xs) Y) (held saysClaim zs))) ⌝ }
+    requires { ⌜ Keeps (now graph) nothing ⌝ }
+    ensures decides { λ r. ⌜ ((xs : List Holding) (Y : Strings) (zs : List Holding) → Listed Context.TemplateHoldings (now (s .entry)) (from .at) xs → ((t : ℕ) → Y t ≡ holdsValue strings t) → Listed Context.TemplateHoldings (now (s .entry)) (there .at) zs → Decides r (Within (plugStringSummary attribute (held saysClaim xs) Y) (held saysClaim zs))) ⌝ }
+    ensures empty { λ _. ⌜ Keeps (now (graph .exit)) nothing ⌝ }
 {
-    let mut graph = graphs::none();
-    load(s, there, &mut graph);
+    load(s, there, graph);
     let how = Passing {
         roots: true,
         gap: NO_GAP,
@@ -254,12 +315,14 @@ pub fn fill_within(
         attribute,
         strings,
     };
-    items_hold(s, from, &graph, how)
+    let holds = items_hold(s, from, graph, how);
+    unload(s, there, graph);
+    holds
 }
 
 // Whether the strings of one string variable are strings of another, both given by where their items stand.
 pub fn strings_entry_within(s: &[u8], from: Position, there: Position) -> bool
-    ensures { λ r. ⌜ ((xs ys : List Fact) → Listed Context.StringFacts (now (s .entry)) (from .at) xs → Listed Context.StringFacts (now (s .entry)) (there .at) ys → Decides r (Within (held saysString xs) (held saysString ys))) ⌝ }
+    ensures { λ r. ⌜ ((xs ys : List Holding) → Listed Context.StringHoldings (now (s .entry)) (from .at) xs → Listed Context.StringHoldings (now (s .entry)) (there .at) ys → Decides r (Within (held saysString xs) (held saysString ys))) ⌝ }
 {
     strings::values_within(strings_of(s, from), strings_of(s, there))
 }

@@ -10,14 +10,14 @@ use lib.Seq.{getD-set-same, getD-set-other}
 use lib.Dec.{eqb, lit<}
 use borrow.Author.Tests.{eqb-true, eqb-false}
 use Rattle.sets.specs.Sets.{member}
-use Rattle.summaries.specs.Proposal.{Claim, root, edge, string, gapFrom, attributeGapFrom, Fact, claim, anyAt}
+use Rattle.summaries.specs.Proposal.{Claim, root, edge, string, gapFrom, attributeGapFrom, Holding, claim, anyAt}
 use Rattle.summaries.specs.Summaries.{Summary, saysClaim}
-use Rattle.summaries.specs.Listed.{FactFits, meaningOf}
+use Rattle.summaries.specs.Listed.{HoldingFits, meaningOf}
 use Rattle.summaries.specs.declared.Claim as Declared
 use Rattle.summaries.specs.declared.Claim.the-variants.{Root, Edge, String, AnyString, GapFrom, AttributeGapFrom}
 use Rattle.summaries.proofs.Laws.{zeros}
 use Rattle.graphs.specs.declared.Slot.{Slot}
-use Rattle.graphs.specs.Graphs.{factWord, factBit, holds, InWords, Keeps, nothing, adding}
+use Rattle.graphs.specs.Graphs.{holdingWord, holdingBit, holds, InWords, Keeps, nothing, adding}
 use Rattle.graphs.specs.Promises.{SlotOf}
 use Rattle.graphs.proofs.Slots.{holds-claim, holds-any, holds-none}
 
@@ -33,7 +33,7 @@ none-keeps graph e = record {
 
 -- The slot of each item.
 module _ (item : Declared.Claim) where
-  module _ (w x : ℕ) (y : Fact) (is : meaningOf item ≡ y) (l : w < 544) (h : FactFits y → (w ≡ factWord y) × (x < 64) × (x ≡ factBit y)) where
+  module _ (w x : ℕ) (y : Holding) (is : meaningOf item ≡ y) (l : w < 544) (h : HoldingFits y → (w ≡ holdingWord y) × (x < 64) × (x ≡ holdingBit y)) where
     slot-at : SlotOf item (record { word = w; bit = x % 64 })
     slot-at = record {
       word-fits = l;
@@ -70,7 +70,7 @@ module _ (graph : List ℕ) (slot : Slot) (v : ℕ) (more : (k : ℕ) → member
   abbrev stored : List ℕ
   stored = set graph (slot .word) v
 
-  holds-then : (item : Declared.Claim) → SlotOf item slot → FactFits (meaningOf item) → (c : Claim) → InWords c → holds stored c ≡ (saysClaim (meaningOf item) c || holds graph c)
+  holds-then : (item : Declared.Claim) → SlotOf item slot → HoldingFits (meaningOf item) → (c : Claim) → InWords c → holds stored c ≡ (saysClaim (meaningOf item) c || holds graph c)
   holds-then (Root n) is f = holds-claim graph _ v _ inside more (root n) (is .word-is f) (is .bit-is f) tt
   holds-then (Edge n g m) is f = holds-claim graph _ v _ inside more (edge n g m) (is .word-is f) (is .bit-is f) (f .0, f .1)
   holds-then (String n h t) is f = holds-claim graph _ v _ inside more (string n h t) (is .word-is f) (is .bit-is f) (f .0, f .1)
@@ -87,7 +87,7 @@ module _ (graph : List ℕ) (slot : Slot) (v : ℕ) (more : (k : ℕ) → member
 
 pub add-keeps : (item : Declared.Claim) (graph : List ℕ) (slot : Slot) (v : ℕ) → SlotOf item slot → v < 2 ^ 64
     → ((k : ℕ) → member v k ≡ (eqb k (slot .bit) || member (getD graph (slot .word) 0) k))
-    → FactFits (meaningOf item) → (R : Summary) → Keeps graph R → Keeps (set graph (slot .word) v) (adding (meaningOf item) R)
+    → HoldingFits (meaningOf item) → (R : Summary) → Keeps graph R → Keeps (set graph (slot .word) v) (adding (meaningOf item) R)
 add-keeps item graph slot v is l more fits R keeps =
     let inside : slot .word < length graph = let a = is .word-fits in let e = keeps .room in omega arith in
     record {

@@ -7,22 +7,22 @@ use lib.ListN.{getD}
 use lib.Dec.{eqb}
 use borrow.Author.Tests.{eq-eqb, eqb-true}
 use Rattle.summaries.specs.Proposal.{Claim, root, edge, string, gapFrom, attributeGapFrom, claim, anyAt}
-use Rattle.summaries.specs.Summaries.{numbersOf, sameNumbers, saysClaim}
+use Rattle.summaries.specs.Summaries.{claimCode, sameCode, saysClaim}
 use Rattle.graphs.proofs.Tests.{and-both, and-left, and-right}
 
-same-numbers : (ns : List ℕ) → sameNumbers ns ns ≡ true
-unfolding sameNumbers
-same-numbers [] = refl
-same-numbers (n ∷ ns) = and-both _ _ (eq-eqb n n refl) (same-numbers ns)
+same-code : (ns : List ℕ) → sameCode ns ns ≡ true
+unfolding sameCode
+same-code [] = refl
+same-code (n ∷ ns) = and-both _ _ (eq-eqb n n refl) (same-code ns)
 
-equal-numbers : (ns ms : List ℕ) → sameNumbers ns ms ≡ true → ns ≡ ms
-unfolding sameNumbers
-equal-numbers [] [] e = refl
-equal-numbers [] (m ∷ ms) e = absurd (false≢true e)
-equal-numbers (n ∷ ns) [] e = absurd (false≢true e)
-equal-numbers (n ∷ ns) (m ∷ ms) e =
+equal-code : (ns ms : List ℕ) → sameCode ns ms ≡ true → ns ≡ ms
+unfolding sameCode
+equal-code [] [] e = refl
+equal-code [] (m ∷ ms) e = absurd (false≢true e)
+equal-code (n ∷ ns) [] e = absurd (false≢true e)
+equal-code (n ∷ ns) (m ∷ ms) e =
     let p : n ≡ m = eqb-true n m (and-left _ _ e) in
-    let q : ns ≡ ms = equal-numbers ns ms (and-right (eqb n m) _ e) in
+    let q : ns ≡ ms = equal-code ns ms (and-right (eqb n m) _ e) in
     cc
 
 -- The claim that some numbers spell.
@@ -34,7 +34,7 @@ claimOf ns =
     (cond (eqb (getD ns 0 0) 4) (gapFrom (getD ns 1 0) (getD ns 2 0))
     (attributeGapFrom (getD ns 1 0) (getD ns 2 0)))))
 
-claim-of : (c : Claim) → claimOf (numbersOf c) ≡ c
+claim-of : (c : Claim) → claimOf (claimCode c) ≡ c
 unfolding claimOf
 claim-of (root n) = refl
 claim-of (edge n g m) = refl
@@ -44,10 +44,10 @@ claim-of (attributeGapFrom h n) = refl
 
 -- A claim says itself and no other.
 pub says-itself : (c : Claim) → saysClaim (claim c) c ≡ true
-says-itself c = same-numbers (numbersOf c)
+says-itself c = same-code (claimCode c)
 
 pub says-alone : (c d : Claim) → saysClaim (claim c) d ≡ true → c ≡ d
-says-alone c d e = sym (claim-of c) ∙ ap claimOf (equal-numbers _ _ e) ∙ claim-of d
+says-alone c d e = sym (claim-of c) ∙ ap claimOf (equal-code _ _ e) ∙ claim-of d
 
 -- Any string at a place says every string there.
 pub says-any : (n h t : ℕ) → saysClaim (anyAt n h) (string n h t) ≡ true

@@ -8,9 +8,9 @@ use lib.Dec.{eqb, ltb}
 use borrow.Author.Tests.{eq-eqb, eqb-true, eqb-false, lt-ltb, le-ltb, ltb-true, ltb-false}
 use Rattle.sets.specs.Sets.{member, FirstMember}
 use Rattle.summaries.specs.Proposal.{Claim, root, edge, string, gapFrom, attributeGapFrom, claim}
-use Rattle.summaries.specs.Summaries.{Summary, sameNumbers, saysClaim}
+use Rattle.summaries.specs.Summaries.{Summary, sameCode, saysClaim}
 use Rattle.summaries.specs.Languages.{closedSummary}
-use Rattle.summaries.specs.Listed.{FactFits, meaningOf}
+use Rattle.summaries.specs.Listed.{HoldingFits, meaningOf}
 use Rattle.summaries.specs.declared.Claim as Declared
 use Rattle.graphs.specs.Graphs.{holds, InWords, Keeps, adding}
 use Rattle.graphs.specs.Promises.{closing, closedAt}
@@ -119,7 +119,7 @@ module _ (attribute : Bool) (g templates : ℕ) (graph : List ℕ) (R : Summary)
 
 module _ (attribute : Bool) (g templates m next : ℕ) (is : member templates m ≡ true) (F : FirstMember templates (m + 1) next) (R : Summary) where
   goes-same : (attribute′ : Bool) (c : Claim) → closedAt attribute′ g (before next templates) R c ≡ adding (claim (closing attribute′ m g)) (closedAt attribute′ g (before m templates) R) c
-  unfolding sameNumbers
+  unfolding sameCode
   goes-same true (root n) = refl
   goes-same false (root n) = refl
   goes-same true (edge n k l) = refl
@@ -131,12 +131,12 @@ module _ (attribute : Bool) (g templates m next : ℕ) (is : member templates m 
   goes-same true (attributeGapFrom k n) = refl
   goes-same false (attributeGapFrom k n) = refl
 
-  closing-fits : (attribute′ : Bool) → m < 32 → g < 8 → FactFits (claim (closing attribute′ m g))
+  closing-fits : (attribute′ : Bool) → m < 32 → g < 8 → HoldingFits (claim (closing attribute′ m g))
   closing-fits true f h = (f, h, omega arith)
   closing-fits false f h = (f, h, omega arith)
 
   pub closing-goes : (item : Declared.Claim) → meaningOf item ≡ claim (closing attribute m g) → m < 32 → g < 8 → (graph after : List ℕ)
-      → (FactFits (meaningOf item) → (S : Summary) → Keeps graph S → Keeps after (adding (meaningOf item) S)) → ClosedTo attribute g templates graph R m
+      → (HoldingFits (meaningOf item) → (S : Summary) → Keeps graph S → Keeps after (adding (meaningOf item) S)) → ClosedTo attribute g templates graph R m
       → ClosedTo attribute g templates after R next
   closing-goes item e f h graph after adds K =
       keeps-same after _ _ (λ c w. goes-same attribute c) (rw e at (adds (rw e (closing-fits attribute f h)) (closedAt attribute g (before m templates) R) K))

@@ -35,7 +35,3 @@ module _ (a b : List ℕ) where
       rw (any, one)
   same-holds same (gapFrom g n) w = ap (λ (x : ℕ). member x n) (same (1 + g) (omega arith))
   same-holds same (attributeGapFrom h n) w = ap (λ (x : ℕ). member x n) (same (9 + h) (omega arith))
-
-  -- A graph that keeps some summary keeps what the other keeps.
-  pub keeps-other : (R S : Summary) → SameGraph a b → Keeps a R → Keeps b S → Keeps a S
-  keeps-other R S same K L = record { room = K .room; same = λ c w. L .same c w ∙ sym (same c w); narrow = K .narrow }

@@ -10,14 +10,14 @@ use lib.Dec.{eqb, ltb}
 use borrow.Author.Tests.{eq-eqb, eqb-true, eqb-false, lt-ltb, le-ltb}
 use Rattle.sets.specs.Sets.{member}
 use Rattle.sets.proofs.Laws.{member-zero}
-use Rattle.summaries.specs.Proposal.{Claim, root, edge, string, gapFrom, attributeGapFrom, Fact, claim, anyAt, oneString, anyString}
+use Rattle.summaries.specs.Proposal.{Claim, root, edge, string, gapFrom, attributeGapFrom, Holding, claim, anyAt, oneString, anyString}
 use Rattle.summaries.specs.Summaries.{saysClaim}
-use Rattle.graphs.specs.Graphs.{claimWord, claimBit, factWord, factBit, isKept, holds, InWords}
+use Rattle.graphs.specs.Graphs.{claimWord, claimBit, holdingWord, holdingBit, isKept, holds, InWords}
 use Rattle.graphs.proofs.Tests.{and-both, and-left, and-right, alike, refuted}
 use Rattle.graphs.proofs.Claims.{says-itself, says-alone}
 
 -- The item of a word and a bit.
-itemOf : ℕ → ℕ → Fact
+itemOf : ℕ → ℕ → Holding
 itemOf w b =
     cond (ltb w 1) (claim (root b))
     (cond (ltb w 9) (claim (gapFrom (w - 1) b))
@@ -26,13 +26,13 @@ itemOf w b =
     (cond (ltb w 288) (claim (edge ((w - 32) / 8) ((w - 32) % 8) b))
     (claim (string ((w - 288) / 8) ((w - 288) % 8) b))))))
 
-abbrev pub InSlots : Fact → Type 0
+abbrev pub InSlots : Holding → Type 0
 InSlots (claim c) = InWords c
 InSlots (anyAt n h) = h < 8
 InSlots (oneString s) = ⊥
 InSlots anyString = ⊥
 
-item-of : (x : Fact) → InSlots x → itemOf (factWord x) (factBit x) ≡ x
+item-of : (x : Holding) → InSlots x → itemOf (holdingWord x) (holdingBit x) ≡ x
 unfolding itemOf
 item-of (claim (root n)) f = refl
 item-of (claim (edge n g m)) f =
@@ -55,14 +55,14 @@ item-of (anyAt n h) f =
 item-of (oneString s) f = absurd f
 item-of anyString f = absurd f
 
-abbrev sameSlot : Fact → Fact → Bool
-sameSlot y x = eqb (factWord y) (factWord x) && eqb (factBit x) (factBit y)
+abbrev sameSlot : Holding → Holding → Bool
+sameSlot y x = eqb (holdingWord y) (holdingWord x) && eqb (holdingBit x) (holdingBit y)
 
-same-item : (y x : Fact) → InSlots y → InSlots x → sameSlot y x ≡ true → y ≡ x
+same-item : (y x : Holding) → InSlots y → InSlots x → sameSlot y x ≡ true → y ≡ x
 same-item y x f g e =
-    let w : factWord y ≡ factWord x = eqb-true _ _ (and-left _ _ e) in
-    let b : factBit x ≡ factBit y = eqb-true _ _ (and-right (eqb (factWord y) (factWord x)) _ e) in
-    let q : itemOf (factWord y) (factBit y) ≡ itemOf (factWord x) (factBit x) = rw (w, b) in
+    let w : holdingWord y ≡ holdingWord x = eqb-true _ _ (and-left _ _ e) in
+    let b : holdingBit x ≡ holdingBit y = eqb-true _ _ (and-right (eqb (holdingWord y) (holdingWord x)) _ e) in
+    let q : itemOf (holdingWord y) (holdingBit y) ≡ itemOf (holdingWord x) (holdingBit x) = rw (w, b) in
     sym (item-of y f) ∙ q ∙ item-of x g
 
 -- Whether the slot of an item is a claim's, as the item says it.
@@ -112,15 +112,15 @@ module _ (words : List ℕ) (i v b : ℕ) (inside : i < length words) (more : (k
       go true e = rw (← eqb-true i w e, getD-set-same words i v 0 inside) (more k)
       go false e = rw (getD-set-other words i w v 0 (λ q. eqb-false i w e (sym q)))
 
-  module _ (y : Fact) (word-is : i ≡ factWord y) (bit-is : b ≡ factBit y) (f : InSlots y) where
-    kept : (x : Fact) → isKept (set words i v) x ≡ (sameSlot y x || isKept words x)
-    kept x = rw (← word-is, ← bit-is) (stored (factWord x) (factBit x))
+  module _ (y : Holding) (word-is : i ≡ holdingWord y) (bit-is : b ≡ holdingBit y) (f : InSlots y) where
+    kept : (x : Holding) → isKept (set words i v) x ≡ (sameSlot y x || isKept words x)
+    kept x = rw (← word-is, ← bit-is) (stored (holdingWord x) (holdingBit x))
 
     by-slot : (c : Claim) → sameSlot y (claim c) ≡ saysClaim y c → isKept (set words i v) (claim c) ≡ (saysClaim y c || isKept words (claim c))
     by-slot c e = rw (← e) (kept (claim c))
 
   -- What the words hold then: what the item says, and what they held.
-  module _ (d : Claim) (word-is : i ≡ factWord (claim d)) (bit-is : b ≡ factBit (claim d)) (f : InWords d) where
+  module _ (d : Claim) (word-is : i ≡ holdingWord (claim d)) (bit-is : b ≡ holdingBit (claim d)) (f : InWords d) where
     by-claim : (c : Claim) → InWords c → isKept (set words i v) (claim c) ≡ (saysClaim (claim d) c || isKept words (claim c))
     by-claim c g = by-slot (claim d) word-is bit-is f c (same-claim d c f g)
 
@@ -133,7 +133,7 @@ module _ (words : List ℕ) (i v b : ℕ) (inside : i < length words) (more : (k
     holds-claim (gapFrom k n) g = by-claim (gapFrom k n) g
     holds-claim (attributeGapFrom h n) g = by-claim (attributeGapFrom h n) g
 
-  module _ (n h : ℕ) (word-is : i ≡ factWord (anyAt n h)) (bit-is : b ≡ factBit (anyAt n h)) (f : h < 8) where
+  module _ (n h : ℕ) (word-is : i ≡ holdingWord (anyAt n h)) (bit-is : b ≡ holdingBit (anyAt n h)) (f : h < 8) where
     pub holds-any : (c : Claim) → InWords c → holds (set words i v) c ≡ (saysClaim (anyAt n h) c || holds words c)
     holds-any (root m) g = by-slot (anyAt n h) word-is bit-is f (root m) (any-claim n h (root m) f g)
     holds-any (edge m k l) g = by-slot (anyAt n h) word-is bit-is f (edge m k l) (any-claim n h (edge m k l) f g)

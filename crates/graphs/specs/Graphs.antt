@@ -3,11 +3,11 @@
 use Prim.Native.Nat.{ℕ, _+_, _*_, _^_, _<_}
 use mathlib.Core.Path.{_≡_}
 use mathlib.Core.List.{List}
-use mathlib.Core.Bool.{Bool, false, _||_}
+use mathlib.Core.Bool.{Bool, true, false, _||_}
 use lib.ListN.{length, getD}
 use Rattle.sets.specs.Sets.{member}
-use Rattle.summaries.specs.Proposal.{Claim, root, edge, string, gapFrom, attributeGapFrom, Fact, claim, anyAt, oneString, anyString}
-use Rattle.summaries.specs.Summaries.{Summary, saysClaim}
+use Rattle.summaries.specs.Proposal.{Claim, root, edge, string, gapFrom, attributeGapFrom, Holding, claim, anyAt, oneString, anyString}
+use Rattle.summaries.specs.Summaries.{Summary, Within, saysClaim}
 
 -- Word 0 has the roots; 1 to 8 the origins of each gap, 9 to 16 those of each attribute gap; 17 to 24, for each attribute gap, the
 -- templates at which it takes any string; then for each template and gap the templates of its edges, and for each template and
@@ -27,20 +27,20 @@ claimBit (gapFrom g n) = n
 claimBit (attributeGapFrom h n) = n
 
 -- Items of a string variable have no word.
-abbrev pub factWord : Fact → ℕ
-factWord (claim c) = claimWord c
-factWord (anyAt n h) = 17 + h
-factWord (oneString s) = 0
-factWord anyString = 0
+abbrev pub holdingWord : Holding → ℕ
+holdingWord (claim c) = claimWord c
+holdingWord (anyAt n h) = 17 + h
+holdingWord (oneString s) = 0
+holdingWord anyString = 0
 
-abbrev pub factBit : Fact → ℕ
-factBit (claim c) = claimBit c
-factBit (anyAt n h) = n
-factBit (oneString s) = 0
-factBit anyString = 0
+abbrev pub holdingBit : Holding → ℕ
+holdingBit (claim c) = claimBit c
+holdingBit (anyAt n h) = n
+holdingBit (oneString s) = 0
+holdingBit anyString = 0
 
-abbrev pub isKept : List ℕ → Fact → Bool
-isKept graph x = member (getD graph (factWord x) 0) (factBit x)
+abbrev pub isKept : List ℕ → Holding → Bool
+isKept graph x = member (getD graph (holdingWord x) 0) (holdingBit x)
 
 -- What a graph says: of a string, it is kept, or any string is at its place.
 abbrev pub holds : List ℕ → Claim → Bool
@@ -72,5 +72,12 @@ SameGraph a b = (c : Claim) → InWords c → holds a c ≡ holds b c
 abbrev pub nothing : Summary
 nothing c = false
 
-abbrev pub adding : Fact → Summary → Summary
+abbrev pub adding : Holding → Summary → Summary
 adding y R c = saysClaim y c || R c
+
+-- The graph keeps a part of a summary, in which there is nothing that an item says.
+pub record Forgotten (y : Holding) (R : Summary) (graph : List ℕ) : Type 0 where
+  pub left : Summary
+  pub keeps : Keeps graph left
+  pub within : Within left R
+  pub gone : (c : Claim) → saysClaim y c ≡ true → left c ≡ false

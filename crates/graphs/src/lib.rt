@@ -7,9 +7,9 @@ ghost use Rattle.strings.specs.Strings.{holdsValue};
 ghost use Rattle.summaries.specs.Proposal.{claim, root, edge, string, gapFrom, attributeGapFrom};
 ghost use Rattle.summaries.specs.Summaries.{Summary};
 ghost use Rattle.summaries.specs.Languages.{closedSummary};
-ghost use Rattle.summaries.specs.Listed.{FactFits, meaningOf};
-ghost use Rattle.graphs.specs.Graphs.{holds, Keeps, SameGraph, nothing, adding};
-ghost use Rattle.graphs.specs.Promises.{SlotOf, closing, closedAt};
+ghost use Rattle.summaries.specs.Listed.{HoldingFits, meaningOf};
+ghost use Rattle.graphs.specs.Graphs.{holds, Keeps, SameGraph, Forgotten, nothing, adding};
+ghost use Rattle.graphs.specs.Promises.{SlotOf, OtherWord, closing, closedAt};
 use strings::Values;
 use summaries::Claim;
 
@@ -124,11 +124,38 @@ fn slot_of(item: Claim) -> Slot
 
 // The graph holds what an item says, besides what it held.
 pub fn add(graph: &mut Graph, item: Claim)
-    ensures { λ _. ⌜ (FactFits (meaningOf item) → (R : Summary) → Keeps (now (graph .entry)) R → Keeps (now (graph .exit)) (adding (meaningOf item) R)) ⌝ }
+    ensures { λ _. ⌜ (HoldingFits (meaningOf item) → (R : Summary) → Keeps (now (graph .entry)) R → Keeps (now (graph .exit)) (adding (meaningOf item) R)) ⌝ }
 {
     let slot = slot_of(item);
     let i = slot.word;
     graph[i] = sets::with(graph[i], slot.bit);
+}
+
+// The other word in which what an item says may be held: a string is held by itself, or because any string is at its place. An item
+// that has no other word has its own.
+fn other_word(item: Claim, own: usize) -> usize
+    requires { ⌜ own < 544 ⌝ }
+    ensures { λ r. ⌜ (r < 544) × OtherWord item r ⌝ }
+{
+    match item {
+        Claim::String(_, h, _) => ANY_STRINGS + (h % 8) as usize,
+        Claim::AnyString(n, h) => word_at(STRINGS, n, h),
+        Claim::Root(_) => own,
+        Claim::Edge(_, _, _) => own,
+        Claim::GapFrom(_, _) => own,
+        Claim::AttributeGapFrom(_, _) => own,
+    }
+}
+
+// The graph holds nothing of what an item says, and nothing that it did not hold. What else is in the words of the item goes with it.
+pub fn forget(graph: &mut Graph, item: Claim)
+    ensures { λ _. ⌜ (HoldingFits (meaningOf item) → (R : Summary) → Keeps (now (graph .entry)) R → Forgotten (meaningOf item) R (now (graph .exit))) ⌝ }
+{
+    let slot = slot_of(item);
+    let i = slot.word;
+    graph[i] = 0;
+    let k = other_word(item, i);
+    graph[k] = 0;
 }
 
 // What closing adds at template n: an edge of gap g to template 0, or string 0 at attribute gap g.

@@ -7,7 +7,7 @@ use native.Mathlib.Omega.{arith}
 use lib.ListN.{length, getD}
 use lib.Dec.{eqb, ltb}
 use borrow.Author.Tests.{eq-eqb, eqb-true}
-use Rattle.sets.specs.Sets.{member, Within}
+use Rattle.sets.specs.Sets.{member, MembersWithin}
 use Rattle.vocabularies.specs.Vocabulary.{Formula, conj, disj, neg, truth, attr, content, order, value, isIn}
 use Rattle.vocabularies.specs.Vocabulary as Vocabularies
 use Rattle.vocabularies.specs.Promises.{RuleTables}
@@ -40,7 +40,7 @@ module _ (allowed : List ℕ) where
 
 -- A set within another, as lists.
 pub within-lists : (a b : ℕ) (ns allowed : List ℕ) → ((k : ℕ) → member a k ≡ isIn k ns) → ((k : ℕ) → member b k ≡ isIn k allowed)
-    → (t : Bool) → Within a b t → allIn ns allowed ≡ t
+    → (t : Bool) → MembersWithin a b t → allIn ns allowed ≡ t
 within-lists a b ns allowed is is′ true w = all-in allowed ns (λ k i. sym (is′ k) ∙ w k (is k ∙ i))
 within-lists a b ns allowed is is′ false w = not-all-in allowed (w .0) (sym (is′ (w .0)) ∙ w .3) ns (sym (is (w .0)) ∙ w .2)
 
@@ -94,12 +94,12 @@ module _ (δ : List Attribute) (w : List ℕ) (shape : Shape) (strings : List �
     abbrev Right : Bool → Type 0
     Right b = b ≡ rightUnder R δ w
 
-    names-wrong : Within (shape .names) allowed false → Right false
+    names-wrong : MembersWithin (shape .names) allowed false → Right false
     unfolding rightUnder
     names-wrong h = rw (within-lists (shape .names) allowed (names δ) (R .attributes) (N .has) (T .allows) false h)
 
-    module _ (names-right : Within (shape .names) allowed true) where
-      contents-wrong : Within (shape .contents) held false → Right false
+    module _ (names-right : MembersWithin (shape .names) allowed true) where
+      contents-wrong : MembersWithin (shape .contents) held false → Right false
       unfolding rightUnder
       contents-wrong h =
           rw (
@@ -107,7 +107,7 @@ module _ (δ : List Attribute) (w : List ℕ) (shape : Shape) (strings : List �
             within-lists (shape .contents) held w (R .contents) (C .has) (T .holds) false h,
           )
 
-      clauses-tell : Within (shape .contents) held true → (b : Bool) → AllHold (tableAtoms shape strings order) v from b → Right b
+      clauses-tell : MembersWithin (shape .contents) held true → (b : Bool) → AllHold (tableAtoms shape strings order) v from b → Right b
       unfolding rightUnder
       clauses-tell h b H =
           let f = length v + length v + 2 in
@@ -120,14 +120,14 @@ module _ (δ : List Attribute) (w : List ℕ) (shape : Shape) (strings : List �
 
 -- What the three tests tell, in the code's order.
 module _ (v : List ℕ) (rule : Rule) (shape : Shape) (strings : List ℕ) (order : List (List ℕ)) where
-  pub names-fail : (t : Bool) → Within (shape .names) (rule .attributes) t → t ≡ false → IsRight v rule shape strings order false
-  names-fail t h e R δ w end T N C = names-wrong δ w shape strings order end N C v R _ _ _ T (subst (Within (shape .names) (rule .attributes)) e h)
+  pub names-fail : (t : Bool) → MembersWithin (shape .names) (rule .attributes) t → t ≡ false → IsRight v rule shape strings order false
+  names-fail t h e R δ w end T N C = names-wrong δ w shape strings order end N C v R _ _ _ T (subst (MembersWithin (shape .names) (rule .attributes)) e h)
 
-  module _ (t u : Bool) (h : Within (shape .names) (rule .attributes) t) (e : t ≡ true) (h′ : Within (shape .contents) (rule .contents) u) where
+  module _ (t u : Bool) (h : MembersWithin (shape .names) (rule .attributes) t) (e : t ≡ true) (h′ : MembersWithin (shape .contents) (rule .contents) u) where
     pub contents-fail : u ≡ false → IsRight v rule shape strings order false
     contents-fail e′ R δ w end T N C =
-        contents-wrong δ w shape strings order end N C v R _ _ _ T (subst (Within (shape .names) (rule .attributes)) e h) (subst (Within (shape .contents) (rule .contents)) e′ h′)
+        contents-wrong δ w shape strings order end N C v R _ _ _ T (subst (MembersWithin (shape .names) (rule .attributes)) e h) (subst (MembersWithin (shape .contents) (rule .contents)) e′ h′)
 
     pub clauses-decide : u ≡ true → (b : Bool) → AllHold (tableAtoms shape strings order) v (rule .clauses .at) b → IsRight v rule shape strings order b
     clauses-decide e′ b H R δ w end T N C =
-        clauses-tell δ w shape strings order end N C v R _ _ _ T (subst (Within (shape .names) (rule .attributes)) e h) (subst (Within (shape .contents) (rule .contents)) e′ h′) b H
+        clauses-tell δ w shape strings order end N C v R _ _ _ T (subst (MembersWithin (shape .names) (rule .attributes)) e h) (subst (MembersWithin (shape .contents) (rule .contents)) e′ h′) b H

@@ -14,6 +14,7 @@ use commands::Past;
 use commands::Position;
 use pages::AttributeHere;
 use pages::ItemHere;
+use pages::TEXT;
 
 // The truth of a formula, and the position after it.
 pub struct Held {
@@ -103,13 +104,17 @@ impl Held {
     }
 }
 
+// Each answer is built anew: where the value of an enum is handed on whole, its padding is copied with it, and that stalls.
 impl FirstWrong {
     // The first of two parts, one after the other.
     fn or(self, later: FirstWrong) -> FirstWrong
         ensures { λ r. ⌜ r ≡ firstMark self later ⌝ }
     {
         match self {
-            FirstWrong::Nowhere => later,
+            FirstWrong::Nowhere => match later {
+                FirstWrong::Nowhere => FirstWrong::Nowhere,
+                FirstWrong::At(at) => FirstWrong::At(at),
+            },
             FirstWrong::At(at) => FirstWrong::At(at),
         }
     }
@@ -118,10 +123,13 @@ impl FirstWrong {
     fn of_element(self, right: bool, at: usize) -> FirstWrong
         ensures { λ r. ⌜ r ≡ elementMark right at self ⌝ }
     {
-        if right {
-            return self;
+        if !right {
+            return FirstWrong::At(at);
         }
-        FirstWrong::At(at)
+        match self {
+            FirstWrong::Nowhere => FirstWrong::Nowhere,
+            FirstWrong::At(inside) => FirstWrong::At(inside),
+        }
     }
 }
 
@@ -152,9 +160,16 @@ fn is_valued(names: u64, strings: &[u8; 32], a: u8, m: u64) -> bool
 }
 
 // The formula here, for an element with these tables; the forms stand in the order of source 000's grammar.
-fn holds(v: &[u8], here: Position, shape: Shape, strings: &[u8; 32], order: &[[u16; 2]; 64]) -> Held
+fn holds(
+    v: &[u8],
+    here: Position,
+    names: u64,
+    contents: u64,
+    strings: &[u8; 32],
+    order: &[[u16; 2]; 64],
+) -> Held
     ensures forward { λ r. ⌜ here .at ≤ r .next .at ⌝ }
-    ensures truth { λ r. ⌜ Holds (tableAtoms shape (now (strings .entry)) (now (order .entry))) (now (v .entry)) (here .at) r ⌝ }
+    ensures truth { λ r. ⌜ Holds (tableAtoms (record { names = names; contents = contents }) (now (strings .entry)) (now (order .entry))) (now (v .entry)) (here .at) r ⌝ }
 {
     let d = here.step(v);
     let Decoded::Moved(code, next) = d else {
@@ -165,40 +180,35 @@ fn holds(v: &[u8], here: Position, shape: Shape, strings: &[u8; 32], order: &[[u
     };
     match code {
         0x10 => {
-            let first = holds(v, next, shape, strings, order);
-            let second = holds(v, first.next, shape, strings, order);
+            let first = holds(v, next, names, contents, strings, order);
+            let second = holds(v, first.next, names, contents, strings, order);
             first.and(second)
         }
         0x11 => {
-            let first = holds(v, next, shape, strings, order);
-            let second = holds(v, first.next, shape, strings, order);
+            let first = holds(v, next, names, contents, strings, order);
+            let second = holds(v, first.next, names, contents, strings, order);
             first.or(second)
         }
         0x12 => {
-            let only = holds(v, next, shape, strings, order);
+            let only = holds(v, next, names, contents, strings, order);
             only.not()
         }
         0x13 => Held { value: true, next },
         0x14 => Held {
-            value: sets::is_member(shape.names, here.operand(v, 1)),
+            value: sets::is_member(names, here.operand(v, 1)),
             next,
         },
         0x15 => Held {
-            value: sets::is_member(shape.contents, here.operand(v, 1)),
+            value: sets::is_member(contents, here.operand(v, 1)),
             next,
         },
         0x16 => Held {
-            value: is_ordered(
-                shape.contents,
-                order,
-                here.operand(v, 1),
-                here.operand(v, 2),
-            ),
+            value: is_ordered(contents, order, here.operand(v, 1), here.operand(v, 2)),
             next,
         },
         _ => Held {
             value: is_valued(
-                shape.names,
+                names,
                 strings,
                 here.operand(v, 1),
                 commands::set_at(v, here.at + 2),
@@ -273,7 +283,7 @@ fn all_hold(
                 settled,
             };
         };
-        let held = holds(v, start, shape, strings, order);
+        let held = holds(v, start, shape.names, shape.contents, strings, order);
         if !held.value {
             return Met {
                 value: false,
@@ -509,7 +519,7 @@ fn judge_items(
         let item = pages::item_here(p, place);
         match item {
             ItemHere::Text(next) => {
-                inside = add_content(order, inside, 0, place.at);
+                inside = add_content(order, inside, TEXT, place.at);
                 place = next;
             }
             ItemHere::Gap(_, next) => {

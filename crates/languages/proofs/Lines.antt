@@ -1,6 +1,6 @@
 -- The patterns of a list so far: what leaves them as they are leaves them so until something changes them.
 use Prim.Native.Nat.{ℕ, _<_}
-use mathlib.Core.Path.{_≡_, refl, sym, ap, _∙_}
+use mathlib.Core.Path.{_≡_, refl, sym, subst, _∙_}
 use mathlib.Core.List.{List, [], _∷_}
 use mathlib.Core.Bool.{Bool, true, false, not, _&&_, _||_, false≢true}
 use native.Mathlib.Decide.{ℕ-discrete}
@@ -14,13 +14,13 @@ use Rattle.patterns.specs.Morphisms.{Morphism}
 use Rattle.patterns.specs.Rounds.{Set, only, product}
 use Rattle.pattern_sets.specs.PatternSets.{holds, Same}
 use Rattle.pattern_sets.proofs.Tables.{all-members}
-use Rattle.readings.specs.declared.Reading.{Reading}
-use Rattle.readings.specs.Readings.{Reads, Is}
-use Rattle.readings.specs.Promises.{ReadsOne, Multiplies}
+use Rattle.schemes.specs.declared.Scheme.{Scheme}
+use Rattle.schemes.specs.Schemes.{StandsFor, Is}
+use Rattle.schemes.specs.Promises.{PatternOfOne, Multiplies, Follows}
 use Rattle.languages.specs.declared.Line.{Line}
 use Rattle.languages.specs.Tables.{Used}
-use Rattle.languages.specs.Promises.{LineIs, LineOf, LineWithContent, LineWithGap}
-use Rattle.languages.proofs.Uses.{lawful, is-as, product-as, one-pattern}
+use Rattle.languages.specs.Promises.{LineIs, LineOf, LineWithContent, LineWithGap, LineWithElement}
+use Rattle.languages.proofs.Uses.{lawful, is-as, product-as}
 
 -- ---- members
 
@@ -77,14 +77,14 @@ line-of set M takes A is = record {
   gaps = λ g h absent. absurd (false≢true (sym absent ∙ all-members g (omega arith)));
 }
 
-module _ (r : Reading) (line : Line) (c : ℕ) (low : c < 64) where
+module _ (r : Scheme) (line : Line) (c : ℕ) (low : c < 64) where
   pub content-absent : member (line .contents) c ≡ false → LineWithContent r line c line
   content-absent absent M reads used takes A l = line-as takes line A _ l (λ x h. sym (l .contents c low absent x h))
 
-  module _ (p : ℕ) (one : ReadsOne r c p) (own more : List ℕ) (is : (y : ℕ) → holds own y ≡ eqb y p) (times : Multiplies r (line .set) own more) where
-    content-product : (M : Morphism) → Reads r M → Used M → (takes : List (List ℕ)) (A : Set) → LineIs M takes line A → Is M more (product M A (only (M .of (c ∷ []))))
-    content-product M reads used takes A l = times M reads A (only (M .of (c ∷ []))) (l .is)
-        (one-pattern own (M .of (c ∷ [])) (lawful used .below (c ∷ [])) (λ y. is y ∙ ap (eqb y) (one M reads)))
+  module _ (p : ℕ) (one : PatternOfOne r c p) (more : List ℕ) (follows : Follows r (line .set) p more) where
+    content-product : (M : Morphism) → StandsFor r M → Used M → (takes : List (List ℕ)) (A : Set) → LineIs M takes line A → Is M more (product M A (only (M .of (c ∷ []))))
+    content-product M reads used takes A l = subst (λ (q : ℕ). Is M more (product M A (only q))) (one M reads)
+        (follows M reads A (l .is) (subst (λ (q : ℕ). q < M .size) (sym (one M reads)) (lawful used .below (c ∷ []))))
 
     pub content-kept : (t : Bool) → t ≡ true → Same more (line .set) t → (single fewer : ℕ) → ((k : ℕ) → member single k ≡ (eqb k c || member 0 k))
         → ((k : ℕ) → member fewer k ≡ (member (line .contents) k && not (member single k)))
@@ -96,7 +96,16 @@ module _ (r : Reading) (line : Line) (c : ℕ) (low : c < 64) where
     pub content-new : (longer : Line) → LineOf more longer → LineWithContent r line c longer
     content-new longer new M reads used takes A l = new M takes _ (content-product M reads used takes A l)
 
-module _ (r : Reading) (takes : List (List ℕ)) (line : Line) (g : ℕ) (low : g < 8) where
+module _ (r : Scheme) (line : Line) (e : ℕ) (more : Line) where
+  pub element-none : (y : Bool) → y ≡ false → (none : List ℕ) → ((x : ℕ) → holds none x ≡ false) → LineOf none more → LineWithElement r line e y more
+  element-none false q none nothing new = (none, nothing, new)
+  element-none true q none nothing new = absurd (false≢true (sym q))
+
+  pub element-content : (y : Bool) → y ≡ true → LineWithContent r line e more → LineWithElement r line e y more
+  element-content true q with-content = with-content
+  element-content false q with-content = absurd (false≢true q)
+
+module _ (r : Scheme) (takes : List (List ℕ)) (line : Line) (g : ℕ) (low : g < 8) where
   pub gap-absent : member (line .gaps) g ≡ false → LineWithGap r takes line g line
   gap-absent absent M reads A I l is = line-as takes line A _ l (λ x h. sym (l .gaps g low absent I is x h))
 

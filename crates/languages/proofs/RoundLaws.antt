@@ -23,8 +23,8 @@ use Rattle.patterns.proofs.Tests.{or-left, or-right, and-both, and-left, and-ri
 use Rattle.patterns.proofs.Lawful.{Lawful}
 use Rattle.patterns.proofs.Products.{Monoid, some-pattern}
 use Rattle.pattern_sets.specs.PatternSets.{holds}
-use Rattle.readings.specs.declared.Reading.{Reading}
-use Rattle.readings.specs.Readings.{Is}
+use Rattle.schemes.specs.declared.Scheme.{Scheme}
+use Rattle.schemes.specs.Schemes.{Is}
 use Rattle.graphs.specs.Graphs as Graphs
 use Rattle.languages.specs.declared.Patterned.{Patterned}
 use Rattle.languages.specs.Tables.{SetsAre, GapSetsAre, Shown}
@@ -40,7 +40,7 @@ unfolding templateAt
 no-template [] = refl
 no-template (φ ∷ φs) = refl
 
-module _ (r : Reading) (s graph starts : List ℕ) (φs : List Items) (G : Summary) (M : Morphism) (X : Sets) (shown : Shown r s graph starts φs G M) where
+module _ (r : Scheme) (s graph starts : List ℕ) (φs : List Items) (G : Summary) (M : Morphism) (X : Sets) (shown : Shown r s graph starts φs G M) where
   pub template-zero : (n : ℕ) → n ≡ 0 → (row : List ℕ) → ((y : ℕ) → holds row y ≡ eqb y 0) → Is M row (round φs G M X n)
   unfolding round patterns
   template-zero n z row unit = rw (z, no-template φs) (unit-set (shown .lent .reads) (shown .lent .used) row unit)
@@ -83,7 +83,7 @@ module _ (φs : List Items) (G : Summary) (M : Morphism) (lawful : Lawful M) (mo
     item-same (Items.element e mark δ φ) same z l = ap (λ (t : Bool). attributesTake G n δ && t && only (M .of (e ∷ [])) z)
         (takes-same φ (λ x h. items-same φ same x h))
 
-module _ (r : Reading) (s graph starts : List ℕ) (φs : List Items) (G : Summary) (M : Morphism) (X Y : Sets) (shown : Shown r s graph starts φs G M)
+module _ (r : Scheme) (s graph starts : List ℕ) (φs : List Items) (G : Summary) (M : Morphism) (X Y : Sets) (shown : Shown r s graph starts φs G M)
     (changed : ℕ) (only-changed : OnlyChanged φs M X Y changed) where
   -- The templates that have changed are none to which there is an edge.
   pub round-same : (n : ℕ) → n < 32 → n ≤ length φs → (targets : ℕ) → Targets graph n targets → ((k : ℕ) → member targets k ≡ true → member changed k ≡ false)
@@ -140,7 +140,7 @@ module _ (graph : List ℕ) (n : ℕ) where
 none-common : (targets changed common : ℕ) → ((k : ℕ) → member common k ≡ (member targets k && member changed k)) → common ≡ 0 → (k : ℕ) → member targets k ≡ true → member changed k ≡ false
 none-common targets changed common is z k t = failed (member changed k) (λ c. false≢true (sym (ap (λ (w : ℕ). member w k) z ∙ member-zero k) ∙ (is k ∙ and-both t c)))
 
-module _ (r : Reading) (s graph starts targets : List ℕ) (sets : List (List ℕ)) (count changed : ℕ) where
+module _ (r : Scheme) (s graph starts targets : List ℕ) (sets : List (List ℕ)) (count changed : ℕ) where
   -- What a row is to be in the round that is made.
   abbrev pub RowIs : ℕ → List ℕ → Type 0
   RowIs n row = (φs : List Items) (G : Summary) (M : Morphism) (X Y : Sets) → Shown r s graph starts φs G M

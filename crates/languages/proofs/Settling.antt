@@ -23,7 +23,7 @@ use Rattle.patterns.proofs.Settling.{iterate-grows}
 use Rattle.patterns.proofs.Exact.{exact}
 use Rattle.pattern_sets.specs.PatternSets.{holds, IsEmpty}
 use Rattle.pattern_sets.proofs.Laws.{holds-empty}
-use Rattle.readings.specs.declared.Reading.{Reading}
+use Rattle.schemes.specs.declared.Scheme.{Scheme}
 use Rattle.languages.specs.Tables.{SetsAre, Lent, Shown}
 use Rattle.languages.specs.Promises.{TargetsTable, OnlyChanged, CameOf, Rounds, WithinSet, Lacks, Grown, Grows, SettlesAt, Settles}
 use Rattle.languages.proofs.Uses.{lawful, is-as, held-below}
@@ -191,11 +191,11 @@ module _ (φs : List Items) (G : Summary) (M : Morphism) where
     pub earlier : (t : ℕ) → suc t < number → Rests t → ⊥
     pub last-too : (changed ≡ 0 → ⊥) → (t : ℕ) → suc t ≡ number → Rests t → ⊥
 
-pub record SettlingTo (r : Reading) (s graph starts : List ℕ) (count : ℕ) (sets : List (List ℕ)) (changed number : ℕ) : Type 0 where
+pub record SettlingTo (r : Scheme) (s graph starts : List ℕ) (count : ℕ) (sets : List (List ℕ)) (changed number : ℕ) : Type 0 where
   pub bound : number + left count sets changed ≤ 8193
   pub in-round : (φs : List Items) (G : Summary) (M : Morphism) → Shown r s graph starts φs G M → count ≡ length φs → InRound φs G M sets changed number
 
-module _ (r : Reading) (s graph starts : List ℕ) (count : ℕ) where
+module _ (r : Scheme) (s graph starts : List ℕ) (count : ℕ) where
   pub settling-begins : (sets : List (List ℕ)) (first : ℕ) → ((n x : ℕ) → holds (getD sets n []) x ≡ false) → member first 63 ≡ true
       → SettlingTo r s graph starts count sets first 0
   unfolding rounds iterate
@@ -307,7 +307,7 @@ module _ (r : Reading) (s graph starts : List ℕ) (count : ℕ) where
       }
 
 -- The sets of a settled round are exact, as callers use them.
-pub settled-exact : {r : Reading} {graph : List ℕ} {φs : List Items} {G : Summary} {M : Morphism} → Lent r graph φs G M → (made : ℕ) (sets : List (List ℕ)) → SettlesAt φs G M made sets
+pub settled-exact : {r : Scheme} {graph : List ℕ} {φs : List Items} {G : Summary} {M : Morphism} → Lent r graph φs G M → (made : ℕ) (sets : List (List ℕ)) → SettlesAt φs G M made sets
     → (X : Sets) → Exact φs G M X → SetsAre φs M X sets
 settled-exact {φs = φs} {G = G} {M = M} lent made sets at X ex n h =
     let t : ℕ = at .last in

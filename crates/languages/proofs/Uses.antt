@@ -13,9 +13,9 @@ use Rattle.patterns.proofs.Exact.{in-product, factors}
 use Rattle.patterns.proofs.Lawful.{Lawful, clause-lawful, root-lawful}
 use Rattle.patterns.proofs.Products.{Monoid, clause-monoid, root-monoid}
 use Rattle.pattern_sets.specs.PatternSets.{holds}
-use Rattle.readings.specs.declared.Reading.{Reading}
-use Rattle.readings.specs.Readings.{Reads, Is}
-use Rattle.readings.proofs.Joining.{empty-pattern}
+use Rattle.schemes.specs.declared.Scheme.{Scheme}
+use Rattle.schemes.specs.Schemes.{StandsFor, Is}
+use Rattle.schemes.proofs.Joining.{empty-pattern}
 use Rattle.languages.specs.Tables.{Used, of-clause, of-root}
 
 pub lawful : {M : Morphisms.Morphism} → Used M → Lawful M
@@ -55,7 +55,7 @@ product-as M A A′ B B′ same-a same-b z = same-test (product M A B z) (produc
 pub one-pattern : {M : Morphisms.Morphism} (words : List ℕ) (p : ℕ) → p < M .size → ((y : ℕ) → holds words y ≡ eqb y p) → Is M words (only p)
 one-pattern words p h e = record { inside = λ x l. e x; outside = λ x l. e x ∙ ne-eqb x p (λ q. omega arith) }
 
-pub unit-set : {r : Reading} {M : Morphisms.Morphism} → Reads r M → Used M → (words : List ℕ) → ((y : ℕ) → holds words y ≡ eqb y 0) → Is M words (only (M .of []))
+pub unit-set : {r : Scheme} {M : Morphisms.Morphism} → StandsFor r M → Used M → (words : List ℕ) → ((y : ℕ) → holds words y ≡ eqb y 0) → Is M words (only (M .of []))
 unit-set reads used words e =
     let z = empty-pattern reads in
     one-pattern words _ (lawful used .below []) (λ y. e y ∙ ap (eqb y) (sym z))

@@ -18,9 +18,9 @@ use Rattle.summaries.specs.Summaries.{Summary}
 use Rattle.patterns.specs.Morphisms.{Morphism}
 use Rattle.patterns.specs.Rounds.{Set, Sets, only, attributesTake, product, patterns, itemPatterns, round, rounds, Settled}
 use Rattle.pattern_sets.specs.PatternSets.{holds}
-use Rattle.readings.specs.declared.Reading.{Reading}
-use Rattle.readings.specs.Readings.{Is}
-use Rattle.readings.specs.Promises.{OfReading}
+use Rattle.schemes.specs.declared.Scheme.{Scheme}
+use Rattle.schemes.specs.Schemes.{Is}
+use Rattle.schemes.specs.Promises.{OfScheme}
 use Rattle.graphs.specs.Graphs.{Keeps}
 use Rattle.graphs.specs.Graphs as Graphs
 use Rattle.languages.specs.declared.Filled.{Filled}
@@ -48,24 +48,29 @@ pub record LineIs (M : Morphism) (takes : List (List ℕ)) (line : Line) (A : Se
 abbrev pub LineOf : List ℕ → Line → Type 0
 LineOf set line = (M : Morphism) (takes : List (List ℕ)) (A : Set) → Is M set A → LineIs M takes line A
 
-abbrev pub LineWithContent : Reading → Line → ℕ → Line → Type 0
-LineWithContent r line c more = OfReading r (λ M. Used M → (takes : List (List ℕ)) (A : Set) → LineIs M takes line A → LineIs M takes more (product M A (only (M .of (c ∷ [])))))
+abbrev pub LineWithContent : Scheme → Line → ℕ → Line → Type 0
+LineWithContent r line c more = OfScheme r (λ M. Used M → (takes : List (List ℕ)) (A : Set) → LineIs M takes line A → LineIs M takes more (product M A (only (M .of (c ∷ [])))))
 
-abbrev pub LineWithGap : Reading → List (List ℕ) → Line → ℕ → Line → Type 0
-LineWithGap r takes line g more = OfReading r (λ M. (A I : Set) → LineIs M takes line A → Is M (getD takes g []) I → LineIs M takes more (product M A I))
+abbrev pub LineWithGap : Scheme → List (List ℕ) → Line → ℕ → Line → Type 0
+LineWithGap r takes line g more = OfScheme r (λ M. (A I : Set) → LineIs M takes line A → Is M (getD takes g []) I → LineIs M takes more (product M A I))
+
+-- With an element more: with its content, if it has a pattern, and else no pattern is left.
+abbrev pub LineWithElement : Scheme → Line → ℕ → Bool → Line → Type 0
+LineWithElement r line e true more = LineWithContent r line e more
+LineWithElement r line e false more = (none : List ℕ) × ((x : ℕ) → holds none x ≡ false) × LineOf none more
 
 -- The set of element e of template n whose attributes stand at an offset, and that of items that stand there, at any depth.
-abbrev pub ElementPatterns : List ℕ → ℕ → ℕ → Reading → List ℕ → ℕ → List (List ℕ) → Patterned → Type 0
+abbrev pub ElementPatterns : List ℕ → ℕ → ℕ → Scheme → List ℕ → ℕ → List (List ℕ) → Patterned → Type 0
 ElementPatterns s at e r graph n takes p = (φs : List Items) (G : Summary) (M : Morphism) (X : Sets) → Lent r graph φs G M → GapSetsAre φs G M X n takes
     → (ruled : ℕ → Bool) (f depth inside end mark : ℕ) (δ : List Attribute) (φ : Items) → attributes f Template s [] at ≡ whole δ inside → attributeHere s inside ≡ Done
     → items f Template ruled s depth inside ≡ whole φ end → Has M (itemPatterns φs G M X n (element e mark δ φ)) end p
 
-abbrev pub ListPatterns : List ℕ → ℕ → Reading → List ℕ → ℕ → List (List ℕ) → Patterned → Type 0
+abbrev pub ListPatterns : List ℕ → ℕ → Scheme → List ℕ → ℕ → List (List ℕ) → Patterned → Type 0
 ListPatterns s at r graph n takes p = (φs : List Items) (G : Summary) (M : Morphism) (X : Sets) → Lent r graph φs G M → GapSetsAre φs G M X n takes
     → (ruled : ℕ → Bool) (f depth end : ℕ) (φ : Items) → items f Template ruled s depth at ≡ whole φ end → Has M (patterns φs G M X n φ) end p
 
 -- The set of template n in the round after that of which the sets are.
-abbrev pub IsRound : Reading → List ℕ → List ℕ → List ℕ → List (List ℕ) → ℕ → List ℕ → Type 0
+abbrev pub IsRound : Scheme → List ℕ → List ℕ → List ℕ → List (List ℕ) → ℕ → List ℕ → Type 0
 IsRound r s graph starts sets n row = (φs : List Items) (G : Summary) (M : Morphism) (X : Sets) → Shown r s graph starts φs G M → SetsAre φs M X sets
     → n ≤ length φs → Is M row (round φs G M X n)
 
@@ -86,7 +91,7 @@ abbrev pub CameOf : List Items → Summary → Morphism → Sets → ℕ → Lis
 CameOf φs G M X changed sets Y = member changed 63 ≡ false → OnlyChanged φs M X Y changed × SetsAre φs M (round φs G M Y) sets
 
 -- A round more.
-abbrev pub Rounds : Reading → List ℕ → List ℕ → List ℕ → List ℕ → List (List ℕ) → ℕ → ℕ → List (List ℕ) → Type 0
+abbrev pub Rounds : Scheme → List ℕ → List ℕ → List ℕ → List ℕ → List (List ℕ) → ℕ → ℕ → List (List ℕ) → Type 0
 Rounds r s graph starts targets sets count changed next = (φs : List Items) (G : Summary) (M : Morphism) (X Y : Sets)
     → Shown r s graph starts φs G M → TargetsTable graph count targets → count ≡ length φs → SetsAre φs M X sets
     → CameOf φs G M X changed sets Y → SetsAre φs M (round φs G M X) next
@@ -126,5 +131,5 @@ pub record SettlesAt (φs : List Items) (G : Summary) (M : Morphism) (made : ℕ
   pub rests : Settled φs G M (rounds φs G M last)
   pub no-earlier : (t : ℕ) → t < last → Settled φs G M (rounds φs G M t) → ⊥
 
-abbrev pub Settles : Reading → List ℕ → List ℕ → List ℕ → ℕ → ℕ → List (List ℕ) → Type 0
+abbrev pub Settles : Scheme → List ℕ → List ℕ → List ℕ → ℕ → ℕ → List (List ℕ) → Type 0
 Settles r s graph starts count made sets = (φs : List Items) (G : Summary) (M : Morphism) → Shown r s graph starts φs G M → count ≡ length φs → SettlesAt φs G M made sets

@@ -16,8 +16,8 @@ use Rattle.patterns.specs.Morphisms.{Morphism, factMorphism, rootMorphism}
 use Rattle.patterns.specs.Given.{Bounded}
 use Rattle.patterns.specs.Rounds.{Set, Sets, anyTemplate}
 use Rattle.pattern_sets.specs.PatternSets.{holds}
-use Rattle.readings.specs.declared.Reading.{Reading}
-use Rattle.readings.specs.Readings.{Reads, Is}
+use Rattle.schemes.specs.declared.Scheme.{Scheme}
+use Rattle.schemes.specs.Schemes.{StandsFor, Is}
 use Rattle.graphs.specs.Graphs.{Keeps}
 use Rattle.languages.specs.declared.Patterned.{Patterned}
 
@@ -34,15 +34,15 @@ SetsAre φs M X sets = (n : ℕ) → n ≤ length φs → Is M (getD sets n []) 
 abbrev pub GapSetsAre : List Items → Summary → Morphism → Sets → ℕ → List (List ℕ) → Type 0
 GapSetsAre φs G M X n takes = (g : ℕ) → g < 8 → Is M (getD takes g []) (λ x. anyTemplate φs (λ m. G (edge n g m) && X m x))
 
--- What is lent for a graph: a reading, and the graph as words.
-pub record Lent (r : Reading) (graph : List ℕ) (φs : List Items) (G : Summary) (M : Morphism) : Type 0 where
+-- What is lent for a graph: a scheme, and the graph as words.
+pub record Lent (r : Scheme) (graph : List ℕ) (φs : List Items) (G : Summary) (M : Morphism) : Type 0 where
   pub used : Used M
-  pub reads : Reads r M
+  pub reads : StandsFor r M
   pub bounded : Bounded φs G
   pub keeps : Keeps graph G
 
 -- The same for a show, with where the items of each template stand in the bytes.
-pub record Shown (r : Reading) (s graph starts : List ℕ) (φs : List Items) (G : Summary) (M : Morphism) : Type 0 where
+pub record Shown (r : Scheme) (s graph starts : List ℕ) (φs : List Items) (G : Summary) (M : Morphism) : Type 0 where
   pub lent : Lent r graph φs G M
   pub few : length φs < 32
   pub stand : StartsAt s φs starts

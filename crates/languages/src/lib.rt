@@ -11,15 +11,14 @@ ghost use Rattle.patterns.specs.Given.{Bounded};
 ghost use Rattle.patterns.specs.Rounds.{Sets, valueTakes};
 ghost use Rattle.graphs.specs.Graphs.{Keeps};
 ghost use Rattle.languages.specs.Tables.{SetsAre, GapSetsAre};
-ghost use Rattle.languages.specs.Promises.{UnionOf, AttributesTake, LineOf, LineWithContent, LineWithGap, ElementPatterns, ListPatterns, IsRound, Targets, TargetsTable, Rounds, WithinSet, Grows, Settles};
+ghost use Rattle.languages.specs.Promises.{UnionOf, AttributesTake, LineOf, LineWithContent, LineWithGap, LineWithElement, ElementPatterns, ListPatterns, IsRound, Targets, TargetsTable, Rounds, WithinSet, Grows, Settles};
 use commands::Position;
 use graphs::Graph;
 use pages::AttributeHere;
 use pages::ItemHere;
-use readings::EMPTY;
-use readings::Reading;
-
-const TEXT: u8 = 0;
+use pages::TEXT;
+use schemes::EMPTY;
+use schemes::Scheme;
 
 // The patterns of the templates of a set, from the sets of all templates.
 fn union_of(templates: u64, sets: &[[u64; 4]; 32]) -> [u64; 4]
@@ -61,13 +60,13 @@ fn takes_string(graph: &Graph, n: usize, h: u8) -> bool
 }
 
 // Whether all attribute gaps of attributes have some string to take, and the position after the attributes.
-struct Filled {
-    takes: bool,
-    next: Position,
+pub struct Filled {
+    pub takes: bool,
+    pub next: Position,
 }
 
 // The attributes straight after `23 e`, of an element of template n.
-fn attributes_take(s: &[u8], start: Position, graph: &Graph, n: usize) -> Filled
+pub fn attributes_take(s: &[u8], start: Position, graph: &Graph, n: usize) -> Filled
     requires { ⌜ n < 32 ⌝ }
     ensures forward { λ r. ⌜ start .at ≤ r .next .at ⌝ }
     ensures filled { λ r. ⌜ AttributesTake (now (s .entry)) (start .at) (now (graph .entry)) n r ⌝ }
@@ -96,16 +95,16 @@ fn attributes_take(s: &[u8], start: Position, graph: &Graph, n: usize) -> Filled
 }
 
 // The patterns of a list of items so far, and the contents and the gaps that may change them: the others were found not to.
-struct Line {
-    set: [u64; 4],
-    contents: u64,
-    gaps: u64,
+pub struct Line {
+    pub set: [u64; 4],
+    pub contents: u64,
+    pub gaps: u64,
 }
 
 const ALL: u64 = 0xFFFF_FFFF_FFFF_FFFF;
 
 // A list that has these patterns, which anything may change.
-fn line_of(set: [u64; 4]) -> Line
+pub fn line_of(set: [u64; 4]) -> Line
     ensures { λ line. ⌜ LineOf set line ⌝ }
 {
     Line {
@@ -116,12 +115,12 @@ fn line_of(set: [u64; 4]) -> Line
 }
 
 // A list with one content more.
-fn with_content(r: Reading, line: Line, c: u8) -> Line
+pub fn with_content(r: Scheme, line: Line, c: u8) -> Line
     requires { ⌜ c < 64 ⌝ }
     ensures { λ more. ⌜ LineWithContent r line c more ⌝ }
 {
     let set = line.set;
-    let more = readings::product(r, set, pattern_sets::only(readings::single(r, c)));
+    let more = schemes::followed(r, set, schemes::single(r, c));
     if pattern_sets::same(more, set) {
         return Line {
             set,
@@ -133,12 +132,12 @@ fn with_content(r: Reading, line: Line, c: u8) -> Line
 }
 
 // A list with what gap g takes, one more.
-fn with_gap(r: Reading, line: Line, takes: &[[u64; 4]; 8], g: u8) -> Line
+pub fn with_gap(r: Scheme, line: Line, takes: &[[u64; 4]; 8], g: u8) -> Line
     requires { ⌜ g < 8 ⌝ }
     ensures { λ more. ⌜ LineWithGap r (now (takes .entry)) line g more ⌝ }
 {
     let set = line.set;
-    let more = readings::product(r, set, takes[g as usize]);
+    let more = schemes::product(r, set, takes[g as usize]);
     if pattern_sets::same(more, set) {
         return Line {
             set,
@@ -147,6 +146,20 @@ fn with_gap(r: Reading, line: Line, takes: &[[u64; 4]; 8], g: u8) -> Line
         };
     }
     line_of(more)
+}
+
+// A list with an element e more, which has a pattern or none.
+pub fn with_element(r: Scheme, line: Line, e: u8, yields: bool) -> Line
+    requires { ⌜ e < 64 ⌝ }
+    ensures { λ more. ⌜ LineWithElement r line e yields more ⌝ }
+{
+    if !yields {
+        return line_of(pattern_sets::empty());
+    }
+    if !sets::has(line.contents, e) {
+        return line;
+    }
+    with_content(r, line, e)
 }
 
 // The set of an item, or of a list of items, and the position after it. Where there is no pattern, the position is of no use, and any.
@@ -161,12 +174,12 @@ fn element_patterns(
     s: &[u8],
     here: Position,
     e: u8,
-    r: Reading,
+    r: Scheme,
     graph: &Graph,
     n: usize,
     takes: &[[u64; 4]; 8],
 ) -> Patterned
-    requires { ⌜ n < 32 ⌝ }
+    requires { ⌜ (e < 64) × (n < 32) ⌝ }
     ensures forward { λ p. ⌜ here .at ≤ p .next .at ⌝ }
     ensures patterned { λ p. ⌜ ElementPatterns (now (s .entry)) (here .at) e r (now (graph .entry)) n (now (takes .entry)) p ⌝ }
 {
@@ -185,17 +198,17 @@ fn element_patterns(
     }
     let next = inside.next;
     Patterned {
-        set: pattern_sets::only(readings::single(r, e)),
+        set: pattern_sets::only(schemes::single(r, e)),
         next,
     }
 }
 
 // The set of the items of template n from here on, up to what ends them: the product of the sets of the items, from what its gaps take.
 // As soon as an item has no pattern, the list has none.
-pub fn list_patterns(
+fn list_patterns(
     s: &[u8],
     start: Position,
-    r: Reading,
+    r: Scheme,
     graph: &Graph,
     n: usize,
     takes: &[[u64; 4]; 8],
@@ -251,7 +264,7 @@ pub fn list_patterns(
 // The set of template n, from the sets of the round before. Template 0 is empty.
 fn template_patterns(
     s: &[u8],
-    r: Reading,
+    r: Scheme,
     graph: &Graph,
     starts: &[usize; 32],
     sets: &[[u64; 4]; 32],
@@ -306,7 +319,7 @@ fn all_targets(graph: &Graph, count: usize) -> [u64; 32]
 // it takes from none that has changed.
 fn round(
     s: &[u8],
-    r: Reading,
+    r: Scheme,
     graph: &Graph,
     starts: &[usize; 32],
     targets: &[u64; 32],
@@ -366,28 +379,27 @@ fn grown(before: &[[u64; 4]; 32], after: &[[u64; 4]; 32], count: usize) -> u64
 }
 
 // The sets of all templates: all empty at first, then round after round, until a round changes nothing. Sets of rounds grow, so there
-// are at most as many rounds as patterns that the sets can hold, and one more. `rounds` gets how many were made, the last of which
-// changed nothing. (A struct with sets of all templates beside their count cannot be made.)
+// are at most as many rounds as patterns that the sets can hold, and one more. Answers how many were made, the last of which changed
+// nothing; what the lent sets held before does not matter. (A struct with sets of all templates beside their count cannot be made.)
 pub fn settle(
     s: &[u8],
-    r: Reading,
+    r: Scheme,
     graph: &Graph,
     starts: &[usize; 32],
     count: usize,
-    rounds: &mut usize,
-) -> [[u64; 4]; 32]
-    ensures { λ sets. ⌜ Settles r (now (s .entry)) (now (graph .entry)) (now (starts .entry)) count (now (rounds .exit)) sets ⌝ }
+    sets: &mut [[u64; 4]; 32],
+) -> usize
+    ensures { λ made. ⌜ Settles r (now (s .entry)) (now (graph .entry)) (now (starts .entry)) count made (now (sets .exit)) ⌝ }
 {
     let targets = all_targets(graph, count);
-    let mut sets = [[0u64; 4]; 32];
+    *sets = [[0u64; 4]; 32];
     let mut changed = sets::with(0, FIRST);
     let mut made = 0;
     while changed != 0 {
-        let next = round(s, r, graph, starts, &targets, &sets, count, changed);
-        changed = grown(&sets, &next, count);
-        sets = next;
+        let next = round(s, r, graph, starts, &targets, sets, count, changed);
+        changed = grown(sets, &next, count);
+        *sets = next;
         made += 1;
     }
-    *rounds = made;
-    sets
+    made
 }

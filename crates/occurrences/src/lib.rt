@@ -6,6 +6,7 @@ ghost use Rattle.occurrences.specs.Occurrences.{Keeps};
 ghost use Rattle.occurrences.specs.Promises.{TellsElement, TellsItems, TellsTemplates};
 use commands::Position;
 use pages::ItemHere;
+use pages::TEXT;
 
 // The contents and the gaps that stand among the outer ones of a list of items, and the position after what ends them.
 pub struct Outer {
@@ -19,9 +20,6 @@ pub struct Outlines {
     pub contents: [u64; 32],
     pub gaps: [u64; 32],
 }
-
-// Content 0 is text, the others are elements.
-const TEXT: u8 = 0;
 
 // The element e of template n, whose attributes stand here, and those inside it are put into the table; the position after it. The
 // table has for each element the templates in which it stands.

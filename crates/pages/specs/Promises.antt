@@ -3,16 +3,12 @@
 use Prim.Native.Nat.{ℕ, _+_, _-_, _<_, _≤_}
 use mathlib.Core.Path.{_≡_}
 use mathlib.Core.List.{List}
-use mathlib.Core.Bool.{Bool, cond}
+use mathlib.Core.Bool.{Bool}
 use lib.ListN.{length, getD}
-use lib.Dec.{leb, ltb}
-use Rattle.verdicts.specs.declared.Form.the-variants.{TooLong, NotAllowed}
 use Rattle.commands.specs.declared.Part.{Part}
-use Rattle.commands.specs.declared.Part.the-variants.{Whole, Refused}
 use Rattle.commands.specs.Commands.{byte}
 use Rattle.commands.specs.Reading.{whole}
 use Rattle.commands.specs.Parts.{Agrees, AgreesAs, Enough}
-use Rattle.vocabularies.specs.VocabularyReading.{mostBytes}
 use Rattle.pages.specs.declared.Kind.{Kind}
 use Rattle.pages.specs.declared.Kind.the-variants.{Template}
 use Rattle.pages.specs.declared.TemplatesRead.{TemplatesRead}
@@ -45,11 +41,3 @@ pub record Located (ruled : ℕ → Bool) (s : List ℕ) (φs : List Items) (cou
 abbrev pub TemplatesFrom : (ℕ → Bool) → List ℕ → ℕ → TemplatesRead → Type 0
 TemplatesFrom ruled s at r = (f : ℕ) → Enough s at f
     → AgreesAs (λ φs end. Located ruled s φs (r .count) (r .starts)) (templates f ruled s 0 at) (r .part)
-
--- `alone` of the definitions, for what code keeps of a part.
-abbrev pub nothingAfter : List ℕ → Part → Part
-nothingAfter s (Whole end) = cond (ltb (end .at) (length s)) (Refused NotAllowed (end .at)) (Whole end)
-nothingAfter s (Refused f at) = Refused f at
-
-abbrev pub alonePart : List ℕ → Part → Part
-alonePart s r = cond (leb (length s) mostBytes) (nothingAfter s r) (Refused TooLong 0)

@@ -10,7 +10,7 @@ ghost use Rattle.pages.specs.ItemReading.{itemContext, attributeContext,
 ghost use Rattle.pages.specs.Steps.{itemHere, ItemMoves, attributeHere, AttributeMoves, AfterAttributes, NamesAt};
 ghost use Rattle.pages.specs.Gaps.{AttributeGaps, ElementGaps, ItemsGaps, ItemsStand, StartsAt, GapsAre};
 ghost use Rattle.pages.specs.Items.{Items, templateAt};
-ghost use Rattle.pages.specs.Promises.{AttributesRead, ItemsRead, ItemRead, TemplatesFrom, alonePart};
+ghost use Rattle.pages.specs.Promises.{AttributesRead, ItemsRead, ItemRead, TemplatesFrom};
 use commands::Context;
 use commands::Decoded;
 use commands::Part;
@@ -21,6 +21,9 @@ use verdicts::Form;
 pub const MOST_BYTES: usize = 65535;
 
 pub const MOST_TEMPLATES: usize = 31;
+
+// Content 0 is text, the others are elements.
+pub const TEXT: u8 = 0;
 
 // Which list of items is read: a template of a job, or a page that is judged alone.
 pub enum Kind {
@@ -265,7 +268,7 @@ fn items_gaps(s: &[u8], here: Position, gaps: u64) -> GapsFound
 }
 
 // The gaps of the template whose items stand here.
-pub fn gaps_at(s: &[u8], here: Position) -> u64
+fn gaps_at(s: &[u8], here: Position) -> u64
     ensures { λ r. ⌜ ((φ : Items) → ItemsStand (now (s .entry)) (here .at) φ → GapsAre r φ) ⌝ }
 {
     items_gaps(s, here, 0).gaps
@@ -288,7 +291,7 @@ pub fn gaps_of(s: &[u8], starts: &[usize; 32], count: usize) -> [u64; 32]
 }
 
 // A list of items below `depth` open elements, up to and with what ends it; `declared` is the set of elements that have a rule.
-pub fn read_items(kind: Kind, declared: u64, s: &[u8], here: Position, depth: usize) -> Part
+fn read_items(kind: Kind, declared: u64, s: &[u8], here: Position, depth: usize) -> Part
     ensures { λ r. ⌜ ItemsRead kind (member declared) (now (s .entry)) depth (here .at) r ⌝ }
 {
     let end = end_of(depth);
@@ -357,22 +360,6 @@ pub fn read_page(declared: u64, s: &[u8]) -> Part
     ensures { λ r. ⌜ Agrees (items (enough (now (s .entry))) Kind.Page (member declared) (now (s .entry)) 0 0) r ⌝ }
 {
     read_items(Kind::Page, declared, s, Position::new(0), 0)
-}
-
-// A part of bytes that are a slice of their own: they are not too long, and nothing stands after the part.
-pub fn alone(s: &[u8], part: Part) -> Part
-    ensures { λ r. ⌜ r ≡ alonePart (now (s .entry)) part ⌝ }
-{
-    if MOST_BYTES < s.len() {
-        return Part::Refused(Form::TooLong, 0);
-    }
-    let Part::Whole(end) = part else {
-        return part;
-    };
-    if end.at < s.len() {
-        return Part::Refused(Form::NotAllowed, end.at);
-    }
-    Part::Whole(end)
 }
 
 impl TemplatesRead {

@@ -69,17 +69,17 @@ module _ (φs : List Items) (G : Summary) (bounded : Bounded φs G) (named : Nam
   pub lowest-root : Least (λ r. (page : Items) × DerivedFrom φs G r page × (RootAlone D page → ⊥)) (lowestRoot φs G D T)
   unfolding lowestRoot
   lowest-root = least-iff (λ r. (to r, back r))
-      (least-over (suc (length φs)) (λ i r. (i ≡ r) × (notRoot G (T .kinds) i ≡ true)) _ (λ i h. least-test (notRoot G (T .kinds) i) i))
+      (least-over (suc (length φs)) (λ i r. (i ≡ r) × (notRoot G (T .classes) i ≡ true)) _ (λ i h. least-test (notRoot G (T .classes) i) i))
     where
-      decides : (r : ℕ) → notRoot G (T .kinds) r ≡ true ↔ ((page : Items) × DerivedFrom φs G r page × (RootAlone D page → ⊥))
-      decides = not-root-exact φs G bounded D (sound .root-element) (T .kinds) (exact .kinds)
+      decides : (r : ℕ) → notRoot G (T .classes) r ≡ true ↔ ((page : Items) × DerivedFrom φs G r page × (RootAlone D page → ⊥))
+      decides = not-root-exact φs G bounded D (sound .root-element) (T .classes) (exact .classes)
 
-      to : (r : ℕ) → (i : ℕ) × (i < suc (length φs)) × ((i ≡ r) × (notRoot G (T .kinds) i ≡ true))
+      to : (r : ℕ) → (i : ℕ) × (i < suc (length φs)) × ((i ≡ r) × (notRoot G (T .classes) i ≡ true))
           → (page : Items) × DerivedFrom φs G r page × (RootAlone D page → ⊥)
-      to r (i, h, (e, t)) = decides r .0 (subst (λ (k : ℕ). notRoot G (T .kinds) k ≡ true) e t)
+      to r (i, h, (e, t)) = decides r .0 (subst (λ (k : ℕ). notRoot G (T .classes) k ≡ true) e t)
 
       back : (r : ℕ) → (page : Items) × DerivedFrom φs G r page × (RootAlone D page → ⊥)
-          → (i : ℕ) × (i < suc (length φs)) × ((i ≡ r) × (notRoot G (T .kinds) i ≡ true))
+          → (i : ℕ) × (i < suc (length φs)) × ((i ≡ r) × (notRoot G (T .classes) i ≡ true))
       back r h = (r, (let le = bounded .roots r (h .1 .0) in omega arith), (refl, decides r .1 h))
 
   -- An element of template n of this mark that the test finds wrong.

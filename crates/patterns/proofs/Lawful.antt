@@ -7,7 +7,7 @@ use mathlib.Core.Bool.{Bool, true, false, cond}
 use lib.Dec.{eqb}
 use Rattle.vocabularies.specs.Vocabulary.{Formula}
 use Rattle.vocabularies.specs.Facts.{Fact, factsOf}
-use Rattle.patterns.specs.Morphisms.{Morphism, factMorphism, rootMorphism, kindOf, joinKinds, empty, alone, other}
+use Rattle.patterns.specs.Morphisms.{Morphism, factMorphism, rootMorphism, classOf, joinClasses, empty, alone, other}
 use Rattle.patterns.proofs.Facts.{Closed, facts-closed}
 use Rattle.patterns.proofs.Clauses.{pattern-append, pattern-below}
 
@@ -21,41 +21,41 @@ facts-lawful fs closed = record { below = pattern-below fs []; joins = pattern-a
 pub clause-lawful : (ψ : Formula) → Lawful (factMorphism (factsOf ψ))
 clause-lawful ψ = facts-lawful (factsOf ψ) (facts-closed ψ)
 
-kind-below : (root : ℕ) (w : List ℕ) → kindOf root w < 3
-unfolding kindOf
-kind-below root [] = omega arith
-kind-below root (c ∷ []) = go (eqb c root)
+class-below : (root : ℕ) (w : List ℕ) → classOf root w < 3
+unfolding classOf
+class-below root [] = omega arith
+class-below root (c ∷ []) = go (eqb c root)
   where
     go : (b : Bool) → cond b alone other < 3
     go true = omega arith
     go false = omega arith
-kind-below root (c ∷ d ∷ w) = omega arith
+class-below root (c ∷ d ∷ w) = omega arith
 
-kinds-join : (root : ℕ) (u v : List ℕ) → kindOf root (u ++ v) ≡ joinKinds (kindOf root u) (kindOf root v)
-unfolding kindOf
-kinds-join root [] v = refl
-kinds-join root (c ∷ []) [] = go (eqb c root)
+classes-join : (root : ℕ) (u v : List ℕ) → classOf root (u ++ v) ≡ joinClasses (classOf root u) (classOf root v)
+unfolding classOf
+classes-join root [] v = refl
+classes-join root (c ∷ []) [] = go (eqb c root)
   where
-    go : (b : Bool) → cond b alone other ≡ joinKinds (cond b alone other) empty
+    go : (b : Bool) → cond b alone other ≡ joinClasses (cond b alone other) empty
     go true = refl
     go false = refl
-kinds-join root (c ∷ []) (d ∷ []) = go (eqb c root) (eqb d root)
+classes-join root (c ∷ []) (d ∷ []) = go (eqb c root) (eqb d root)
   where
-    go : (a b : Bool) → other ≡ joinKinds (cond a alone other) (cond b alone other)
+    go : (a b : Bool) → other ≡ joinClasses (cond a alone other) (cond b alone other)
     go true true = refl
     go true false = refl
     go false true = refl
     go false false = refl
-kinds-join root (c ∷ []) (d ∷ d′ ∷ v) = go (eqb c root)
+classes-join root (c ∷ []) (d ∷ d′ ∷ v) = go (eqb c root)
   where
-    go : (a : Bool) → other ≡ joinKinds (cond a alone other) other
+    go : (a : Bool) → other ≡ joinClasses (cond a alone other) other
     go true = refl
     go false = refl
-kinds-join root (c ∷ c′ ∷ u) v = go (eqb (kindOf root v) empty)
+classes-join root (c ∷ c′ ∷ u) v = go (eqb (classOf root v) empty)
   where
     go : (b : Bool) → other ≡ cond b other other
     go true = refl
     go false = refl
 
 pub root-lawful : (root : ℕ) → Lawful (rootMorphism root)
-root-lawful root = record { below = kind-below root; joins = kinds-join root }
+root-lawful root = record { below = class-below root; joins = classes-join root }

@@ -88,20 +88,3 @@ module _ (p : ℕ → ℕ → List Attribute → Items → Bool) where
     least-mark-in text = nowhere (λ n h. h)
     least-mark-in (gap g) = nowhere (λ n h. h)
     least-mark-in (element e mark δ φ) = least-lower (least-test (p e mark δ φ) mark) (least-mark φ)
-
--- The lowest mark for two tests is the lower of the two lowest: tests may be made one after the other, clause by clause.
-pub mark-either : (p q : ℕ → ℕ → List Attribute → Items → Bool) (φ : Items)
-    → lowestMark (λ e mark δ χ. p e mark δ χ || q e mark δ χ) φ ≡ lower (lowestMark p φ) (lowestMark q φ)
-mark-either p q φ = least-unique (least-mark (λ e mark δ χ. p e mark δ χ || q e mark δ χ) φ)
-    (least-iff (λ at. (
-      ⊎-elim
-          (some-into (λ e mark δ χ. (mark ≡ at) × (p e mark δ χ ≡ true)) (λ e mark δ χ. (mark ≡ at) × ((p e mark δ χ || q e mark δ χ) ≡ true))
-          (λ e mark δ χ h. (h .0, or-left (p e mark δ χ) (q e mark δ χ) (h .1))) φ)
-          (some-into (λ e mark δ χ. (mark ≡ at) × (q e mark δ χ ≡ true)) (λ e mark δ χ. (mark ≡ at) × ((p e mark δ χ || q e mark δ χ) ≡ true))
-          (λ e mark δ χ h. (h .0, or-right (p e mark δ χ) (q e mark δ χ) (h .1))) φ),
-      λ s. some-either (λ e mark δ χ. (mark ≡ at) × (p e mark δ χ ≡ true)) (λ e mark δ χ. (mark ≡ at) × (q e mark δ χ ≡ true)) φ
-          (some-into (λ e mark δ χ. (mark ≡ at) × ((p e mark δ χ || q e mark δ χ) ≡ true))
-          (λ e mark δ χ. ((mark ≡ at) × (p e mark δ χ ≡ true)) ⊎ ((mark ≡ at) × (q e mark δ χ ≡ true)))
-          (λ e mark δ χ h. ⊎-elim (λ t. inl (h .0, t)) (λ t. inr (h .0, t)) (or-cases (p e mark δ χ) (q e mark δ χ) (h .1))) φ s),
-    ))
-    (least-lower (least-mark p φ) (least-mark q φ)))

@@ -1,5 +1,5 @@
--- Verdict 11 is decided by kinds: some page of a root template is not exactly the root element if and only if the template's set has
--- the kind "empty" or the kind "other".
+-- Verdict 11 is decided by classes: some page of a root template is not exactly the root element if and only if the template's set has
+-- the class "empty" or the class "other".
 use Prim.Native.Nat.{ℕ, zero, suc, _<_}
 use native.Mathlib.Omega.{arith}
 use mathlib.Core.Path.{_≡_, refl, sym, ap, subst, _∙_}
@@ -18,7 +18,7 @@ use Rattle.summaries.specs.Languages.{DerivedFrom}
 use Rattle.agreement.proofs.Deciding.{false-iff}
 use Rattle.agreement.proofs.Gaps.{NoGap}
 use Rattle.agreement.proofs.Roots.{decided-alone}
-use Rattle.patterns.specs.Morphisms.{rootMorphism, kindOf, empty, alone, other}
+use Rattle.patterns.specs.Morphisms.{rootMorphism, classOf, empty, alone, other}
 use Rattle.patterns.specs.Given.{Bounded}
 use Rattle.patterns.specs.Rounds.{Sets}
 use Rattle.patterns.specs.Exactness.{Exact}
@@ -40,31 +40,31 @@ rest-no-gap i φ h g = second (gapInItem i g) (gapIn φ g) (h g)
     second true b e = absurd (true≢false e)
     second false b e = e
 
--- Two items that are no gaps are two contents, which is another kind.
-two-contents : (top c : ℕ) (j : Item) (φ : Items) → NoGap (more j φ) → kindOf top (c ∷ word (more j φ)) ≡ other
-unfolding word wordItem kindOf
+-- Two items that are no gaps are two contents, which is another class.
+two-contents : (top c : ℕ) (j : Item) (φ : Items) → NoGap (more j φ) → classOf top (c ∷ word (more j φ)) ≡ other
+unfolding word wordItem classOf
 two-contents top c text φ h = refl
 two-contents top c (gap g) φ h = absurd (true≢false (sym (gap-found g φ) ∙ h g))
 two-contents top c (element e mark δ χ) φ h = refl
 
-one-content : (top c : ℕ) → eqb (kindOf top (c ∷ [])) alone ≡ eqb c top
-unfolding kindOf
+one-content : (top c : ℕ) → eqb (classOf top (c ∷ [])) alone ≡ eqb c top
+unfolding classOf
 one-content top c = go (eqb c top)
   where
     go : (b : Bool) → eqb (cond b alone other) alone ≡ b
     go true = refl
     go false = refl
 
--- Of a page without gaps the kind tells whether it is exactly the root element.
-pub kind-alone : (top : ℕ) → (top ≡ 0 → ⊥) → (φ : Items) → NoGap φ → isAlone top φ ≡ eqb (kindOf top (word φ)) alone
-unfolding word wordItem kindOf
-kind-alone top pos none h = refl
-kind-alone top pos (more text none) h = sym (one-content top 0 ∙ ne-eqb 0 top (λ e. pos (sym e)))
-kind-alone top pos (more text (more j φ)) h =
+-- Of a page without gaps the class tells whether it is exactly the root element.
+pub class-alone : (top : ℕ) → (top ≡ 0 → ⊥) → (φ : Items) → NoGap φ → isAlone top φ ≡ eqb (classOf top (word φ)) alone
+unfolding word wordItem classOf
+class-alone top pos none h = refl
+class-alone top pos (more text none) h = sym (one-content top 0 ∙ ne-eqb 0 top (λ e. pos (sym e)))
+class-alone top pos (more text (more j φ)) h =
     ap (λ (k : ℕ). eqb k alone) (sym (two-contents top 0 j φ (rest-no-gap text (more j φ) h)))
-kind-alone top pos (more (gap g) φ) h = absurd (true≢false (sym (gap-found g φ) ∙ h g))
-kind-alone top pos (more (element e mark δ χ) none) h = and-true (eqb e top) ∙ sym (one-content top e)
-kind-alone top pos (more (element e mark δ χ) (more j φ)) h =
+class-alone top pos (more (gap g) φ) h = absurd (true≢false (sym (gap-found g φ) ∙ h g))
+class-alone top pos (more (element e mark δ χ) none) h = and-true (eqb e top) ∙ sym (one-content top e)
+class-alone top pos (more (element e mark δ χ) (more j φ)) h =
     and-false (eqb e top) ∙ ap (λ (k : ℕ). eqb k alone) (sym (two-contents top e j φ (rest-no-gap (element e mark δ χ) (more j φ) h)))
 
 not-alone : (k : ℕ) → k < 3 → eqb k alone ≡ false → (k ≡ empty) ⊎ (k ≡ other)
@@ -79,13 +79,13 @@ module _ (φs : List Items) (G : Summary) (bounded : Bounded φs G) (D : Vocabul
   abbrev pub OtherPage : ℕ → Type 0
   OtherPage r = (page : Items) × DerivedFrom φs G r page × (RootAlone D page → ⊥)
 
-  other-kind : (r k : ℕ) → eqb k alone ≡ false → G (root r) ≡ true → K r k ≡ true → OtherPage r
-  other-kind r k ne g e =
+  other-class : (r k : ℕ) → eqb k alone ≡ false → G (root r) ≡ true → K r k ≡ true → OtherPage r
+  other-class r k ne g e =
       let (page, d, p) = exact r k (bounded .roots r g) .0 e in (
         page,
         (g, d),
         false-iff (decided-alone D page) .0
-            (kind-alone (D .root) pos page (derived-no-gap φs G d) ∙ ap (λ (x : ℕ). eqb x alone) p ∙ ne),
+            (class-alone (D .root) pos page (derived-no-gap φs G d) ∙ ap (λ (x : ℕ). eqb x alone) p ∙ ne),
       )
 
   pub not-root-exact : (r : ℕ) → notRoot G K r ≡ true ↔ OtherPage r
@@ -93,16 +93,16 @@ module _ (φs : List Items) (G : Summary) (bounded : Bounded φs G) (D : Vocabul
     where
       to : notRoot G K r ≡ true → OtherPage r
       to e = ⊎-elim
-          (other-kind r empty refl (and-left (G (root r)) (K r empty || K r other) e))
-          (other-kind r other refl (and-left (G (root r)) (K r empty || K r other) e))
+          (other-class r empty refl (and-left (G (root r)) (K r empty || K r other) e))
+          (other-class r other refl (and-left (G (root r)) (K r empty || K r other) e))
           (or-cases (K r empty) (K r other) (and-right (G (root r)) (K r empty || K r other) e))
 
       back : OtherPage r → notRoot G K r ≡ true
       back (page, (g, d), n) =
-          let kind : ℕ = kindOf (D .root) (word page) in
-          let held : K r kind ≡ true = exact r kind (bounded .roots r g) .1 (page, d, refl) in
+          let class : ℕ = classOf (D .root) (word page) in
+          let held : K r class ≡ true = exact r class (bounded .roots r g) .1 (page, d, refl) in
           and-both g (⊎-elim
-          (λ (q : kind ≡ empty). or-left (K r empty) (K r other) (subst (λ (k : ℕ). K r k ≡ true) q held))
-          (λ (q : kind ≡ other). or-right (K r empty) (K r other) (subst (λ (k : ℕ). K r k ≡ true) q held))
-          (not-alone kind (root-lawful (D .root) .below (word page))
-          (sym (kind-alone (D .root) pos page (derived-no-gap φs G d)) ∙ false-iff (decided-alone D page) .1 n)))
+          (λ (q : class ≡ empty). or-left (K r empty) (K r other) (subst (λ (k : ℕ). K r k ≡ true) q held))
+          (λ (q : class ≡ other). or-right (K r empty) (K r other) (subst (λ (k : ℕ). K r k ≡ true) q held))
+          (not-alone class (root-lawful (D .root) .below (word page))
+          (sym (class-alone (D .root) pos page (derived-no-gap φs G d)) ∙ false-iff (decided-alone D page) .1 n)))

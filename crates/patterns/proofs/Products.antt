@@ -15,7 +15,7 @@ use Rattle.judging.specs.Judgement.{precedes, holdsValue}
 use Rattle.summaries.specs.Proposal.{edge}
 use Rattle.summaries.specs.Summaries.{Summary}
 use Rattle.patterns.specs.Patterns.{flagged, patternOf, flagIn, joinedFlag, join}
-use Rattle.patterns.specs.Morphisms.{Morphism, factMorphism, rootMorphism, kindOf, joinKinds, empty, other}
+use Rattle.patterns.specs.Morphisms.{Morphism, factMorphism, rootMorphism, classOf, joinClasses, empty, other}
 use Rattle.patterns.specs.Given.{Bounded}
 use Rattle.patterns.specs.Rounds.{Set, Sets, only, product, anyBelow, allTake, itemTakes, patterns, itemPatterns}
 use Rattle.patterns.proofs.Tests.{and-both, and-left, and-right, same-test, eqb-same, any-below, below-any}
@@ -159,33 +159,33 @@ module _ (fs : List Fact) (closed : Closed fs) (distinct : Distinct fs) where
 pub clause-monoid : (ψ : Formula) → Monoid (factMorphism (factsOf ψ))
 clause-monoid ψ = facts-monoid (factsOf ψ) (facts-closed ψ) (facts-distinct ψ)
 
--- Kinds.
-kinds-closed : (x y : ℕ) → x < 3 → y < 3 → joinKinds x y < 3
-kinds-closed x y hx hy = go (eqb x empty) (eqb y empty)
+-- Classes.
+classes-closed : (x y : ℕ) → x < 3 → y < 3 → joinClasses x y < 3
+classes-closed x y hx hy = go (eqb x empty) (eqb y empty)
   where
     go : (a b : Bool) → cond a y (cond b x other) < 3
     go true b = hy
     go false true = hx
     go false false = omega arith
 
-kinds-assoc : (x y z : ℕ) → joinKinds (joinKinds x y) z ≡ joinKinds x (joinKinds y z)
-kinds-assoc zero y z = refl
-kinds-assoc (suc x) zero z = simp (eqb·suc-zero x)
-kinds-assoc (suc x) (suc y) zero = simp (eqb·suc-zero x, eqb·suc-zero y)
-kinds-assoc (suc x) (suc y) (suc z) = simp (eqb·suc-zero x, eqb·suc-zero y, eqb·suc-zero z)
+classes-assoc : (x y z : ℕ) → joinClasses (joinClasses x y) z ≡ joinClasses x (joinClasses y z)
+classes-assoc zero y z = refl
+classes-assoc (suc x) zero z = simp (eqb·suc-zero x)
+classes-assoc (suc x) (suc y) zero = simp (eqb·suc-zero x, eqb·suc-zero y)
+classes-assoc (suc x) (suc y) (suc z) = simp (eqb·suc-zero x, eqb·suc-zero y, eqb·suc-zero z)
 
-kinds-right : (x : ℕ) → joinKinds x empty ≡ x
-kinds-right zero = refl
-kinds-right (suc x) = rw (eqb·suc-zero x)
+classes-right : (x : ℕ) → joinClasses x empty ≡ x
+classes-right zero = refl
+classes-right (suc x) = rw (eqb·suc-zero x)
 
 pub root-monoid : (top : ℕ) → Monoid (rootMorphism top)
-unfolding kindOf
+unfolding classOf
 root-monoid top = record {
-  closed = kinds-closed;
-  assoc = kinds-assoc;
+  closed = classes-closed;
+  assoc = classes-assoc;
   unit-below = omega arith;
   unit-left = λ x h. refl;
-  unit-right = λ x h. kinds-right x;
+  unit-right = λ x h. classes-right x;
 }
 
 -- Items have a pattern exactly if every gap in them has something to take, so a set of contents that was worked out tells that too.

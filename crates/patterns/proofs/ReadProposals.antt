@@ -16,11 +16,11 @@ use Rattle.commands.specs.Commands.{byte, strings, allowed, operandsOf, inRange
 use Rattle.commands.specs.Commands as Commands
 use Rattle.pages.specs.Items.{Items}
 use Rattle.pages.specs.RightPages.{_∈_}
-use Rattle.programs.specs.Program.{Act, copyTemplate, setTemplate, copyString, setString, plug, plugString, show, Variable, templates, Statement, step, stop, statementAt}
+use Rattle.programs.specs.Program.{Act, copyTemplate, setTemplate, copyString, setString, plug, plugString, show, Variable, templateVariable, Statement, step, stop, statementAt}
 use Rattle.programs.specs.Program as Program
-use Rattle.summaries.specs.Proposal.{root, edge, string, gapFrom, attributeGapFrom, Fact, claim, anyAt, oneString, anyString, Head}
-use Rattle.summaries.specs.ProposalReading.{factAt, factThere, rank, facts, variableOf, factContext, proposal}
-use Rattle.summaries.specs.Summaries.{Summary, Environment, sameNumbers, saysClaim, held, sameVariable, under, entries}
+use Rattle.summaries.specs.Proposal.{root, edge, string, gapFrom, attributeGapFrom, Holding, claim, anyAt, oneString, anyString, Head}
+use Rattle.summaries.specs.ProposalReading.{holdingAt, holdingThere, rank, holdings, variableOf, holdingContext, proposal}
+use Rattle.summaries.specs.Summaries.{Summary, Environment, sameCode, saysClaim, held, sameVariable, under, entries}
 use Rattle.summaries.specs.Languages.{closedSummary, summaryShown, closedIfShown, statementGraph, graphShown}
 use Rattle.agreement.proofs.Readings.{Gives, gives, refuses, runs-out, gives-when, gives-then}
 use Rattle.patterns.specs.Given.{Bounded}
@@ -28,23 +28,23 @@ use Rattle.patterns.proofs.Tests.{or-cases, and-left, and-right}
 use Rattle.patterns.proofs.Ranges.{Ranged, ranges-of, gives-ranged}
 
 -- An item names templates that are there, and no string outside the named ones.
-abbrev pub NamedFact : Fact → Type 0
-NamedFact (claim (root n)) = Unit {0}
-NamedFact (claim (edge n g m)) = Unit {0}
-NamedFact (claim (string n h s)) = s < strings
-NamedFact (claim (gapFrom g n)) = Unit {0}
-NamedFact (claim (attributeGapFrom h n)) = Unit {0}
-NamedFact (anyAt n h) = Unit {0}
-NamedFact (oneString s) = Unit {0}
-NamedFact anyString = Unit {0}
+abbrev pub NamedHolding : Holding → Type 0
+NamedHolding (claim (root n)) = Unit {0}
+NamedHolding (claim (edge n g m)) = Unit {0}
+NamedHolding (claim (string n h s)) = s < strings
+NamedHolding (claim (gapFrom g n)) = Unit {0}
+NamedHolding (claim (attributeGapFrom h n)) = Unit {0}
+NamedHolding (anyAt n h) = Unit {0}
+NamedHolding (oneString s) = Unit {0}
+NamedHolding anyString = Unit {0}
 
-pub record InRange (count : ℕ) (f : Fact) : Type 0 where
-  pub there : factThere count f ≡ true
-  pub named : NamedFact f
+pub record InRange (count : ℕ) (f : Holding) : Type 0 where
+  pub there : holdingThere count f ≡ true
+  pub named : NamedHolding f
 
-fact-cond : (b : Bool) (f g : Fact) → (b ≡ true → NamedFact f) → NamedFact g → NamedFact (cond b f g)
-fact-cond true f g h k = h refl
-fact-cond false f g h k = k
+holding-cond : (b : Bool) (f g : Holding) → (b ≡ true → NamedHolding f) → NamedHolding g → NamedHolding (cond b f g)
+holding-cond true f g h k = h refl
+holding-cond false f g h k = k
 
 -- `43 n h s` has a named string.
 string-ranged : (x : Context) (s : List ℕ) (at code : ℕ) → Ranged x s at code → eqb code 0x43 ≡ true → byte s (at + 3) < strings
@@ -57,33 +57,33 @@ string-ranged x s at code t e =
     let same : at + 1 + 1 + 1 ≡ at + 3 = omega arith in
     ltb-true (byte s (at + 3)) strings (rw (← same) l)
 
-fact-named : (x : Context) (s : List ℕ) (at code : ℕ) → Ranged x s at code → NamedFact (factAt s at code)
-fact-named x s at code t =
-    fact-cond (eqb code 0x41) _ _ (λ _. tt)
-    (fact-cond (eqb code 0x42) _ _ (λ _. tt)
-    (fact-cond (eqb code 0x43) _ _ (string-ranged x s at code t)
-    (fact-cond (eqb code 0x44) _ _ (λ _. tt)
-    (fact-cond (eqb code 0x45) _ _ (λ _. tt)
-    (fact-cond (eqb code 0x46) _ _ (λ _. tt)
-    (fact-cond (eqb code 0x47) _ _ (λ _. tt) tt))))))
+holding-named : (x : Context) (s : List ℕ) (at code : ℕ) → Ranged x s at code → NamedHolding (holdingAt s at code)
+holding-named x s at code t =
+    holding-cond (eqb code 0x41) _ _ (λ _. tt)
+    (holding-cond (eqb code 0x42) _ _ (λ _. tt)
+    (holding-cond (eqb code 0x43) _ _ (string-ranged x s at code t)
+    (holding-cond (eqb code 0x44) _ _ (λ _. tt)
+    (holding-cond (eqb code 0x45) _ _ (λ _. tt)
+    (holding-cond (eqb code 0x46) _ _ (λ _. tt)
+    (holding-cond (eqb code 0x47) _ _ (λ _. tt) tt))))))
 
 -- All items of a list, and of the heads of a list.
-abbrev pub FactsInRange : ℕ → List Fact → Type 0
-FactsInRange count fs = (f : Fact) → f ∈ fs → InRange count f
+abbrev pub HoldingsInRange : ℕ → List Holding → Type 0
+HoldingsInRange count fs = (f : Holding) → f ∈ fs → InRange count f
 
 abbrev pub HeadsInRange : ℕ → List Head → Type 0
-HeadsInRange count hs = (h : Head) → h ∈ hs → FactsInRange count (h .facts)
+HeadsInRange count hs = (h : Head) → h ∈ hs → HoldingsInRange count (h .holdings)
 
 module _ (count : ℕ) (s : List ℕ) where
-  facts-in-range : (f : ℕ) (x : Context) (least at : ℕ) → Gives (Unit {0}) (λ fs end. FactsInRange count fs) (facts f x count s least at)
-  unfolding facts
-  facts-in-range zero x least at = runs-out tt
-  facts-in-range (suc f) x least at = gives-when (allowed x (byte s at))
-      (λ _ _. gives-ranged x s at λ code next t. gives-when (factThere count (factAt s at code))
+  holdings-in-range : (f : ℕ) (x : Context) (least at : ℕ) → Gives (Unit {0}) (λ fs end. HoldingsInRange count fs) (holdings f x count s least at)
+  unfolding holdings
+  holdings-in-range zero x least at = runs-out tt
+  holdings-in-range (suc f) x least at = gives-when (allowed x (byte s at))
+      (λ _ _. gives-ranged x s at λ code next t. gives-when (holdingThere count (holdingAt s at code))
       (λ _ e. gives-when (leb least (rank s at code))
-      (λ _ _. gives-then (facts-in-range f x (rank s at code + 1) next) λ fs end n.
+      (λ _ _. gives-then (holdings-in-range f x (rank s at code + 1) next) λ fs end n.
       gives (λ g i. ⊎-elim
-      (λ q. subst (InRange count) (sym q) (record { there = e; named = fact-named x s at code t }))
+      (λ q. subst (InRange count) (sym q) (record { there = e; named = holding-named x s at code t }))
       (n g)
       (List·Memᴰ·cases-cons i)))
       (λ _ _. refuses))
@@ -97,14 +97,14 @@ module _ (count : ℕ) (s : List ℕ) where
       (λ _ _. gives (λ h i. absurd (List·Memᴰ·not-nil i)))
       (λ _ _. gives-when (ltb (byte s (at + 1)) points)
       (λ _ _. gives-when (leb least (byte s (at + 1) * 8 + byte s (at + 2)))
-      (λ _ _. gives-then (facts-in-range f (factContext (variableOf (byte s (at + 2)))) 0 next) λ fs after m.
+      (λ _ _. gives-then (holdings-in-range f (holdingContext (variableOf (byte s (at + 2)))) 0 next) λ fs after m.
       gives-then (proposal-in-range points f (byte s (at + 1) * 8 + byte s (at + 2) + 1) after) λ hs end n.
-      gives (λ h i. ⊎-elim (λ q. subst (λ (k : Head). FactsInRange count (k .facts)) (sym q) m) (n h) (List·Memᴰ·cases-cons i)))
+      gives (λ h i. ⊎-elim (λ q. subst (λ (k : Head). HoldingsInRange count (k .holdings)) (sym q) m) (n h) (List·Memᴰ·cases-cons i)))
       (λ _ _. refuses))
       (λ _ _. refuses))
 
 -- What some item of a list says.
-held-by : {A : Type 0} (says : Fact → A → Bool) (fs : List Fact) (a : A) → held says fs a ≡ true → (f : Fact) × (f ∈ fs) × (says f a ≡ true)
+held-by : {A : Type 0} (says : Holding → A → Bool) (fs : List Holding) (a : A) → held says fs a ≡ true → (f : Holding) × (f ∈ fs) × (says f a ≡ true)
 unfolding held
 held-by says [] a e = absurd (false≢true e)
 held-by says (f ∷ fs) a e = ⊎-elim
@@ -112,25 +112,25 @@ held-by says (f ∷ fs) a e = ⊎-elim
     (λ p. let (g, i, q) = held-by says fs a p in (g, List·Memᴰ·tail i, q))
     (or-cases (says f a) (held says fs a) e)
 
-held-same : {A : Type 0} (says : Fact → A → Bool) (fs : List Fact) (a b : A) → ((f : Fact) → f ∈ fs → says f a ≡ says f b)
+held-same : {A : Type 0} (says : Holding → A → Bool) (fs : List Holding) (a b : A) → ((f : Holding) → f ∈ fs → says f a ≡ says f b)
     → held says fs a ≡ held says fs b
 unfolding held
 held-same says [] a b h = refl
 held-same says (f ∷ fs) a b h = ap₂ _||_ (h f (List·Memᴰ·head refl)) (held-same says fs a b (λ g i. h g (List·Memᴰ·tail i)))
 
-under-in-range : (count : ℕ) (hs : List Head) (p : ℕ) (v : Variable) → HeadsInRange count hs → FactsInRange count (under hs p v)
+under-in-range : (count : ℕ) (hs : List Head) (p : ℕ) (v : Variable) → HeadsInRange count hs → HoldingsInRange count (under hs p v)
 unfolding under
 under-in-range count [] p v h = λ f i. absurd (List·Memᴰ·not-nil i)
 under-in-range count (k ∷ hs) p v h =
     go (eqb (k .point) p && sameVariable (k .variable) v) (under-in-range count hs p v (λ l i. h l (List·Memᴰ·tail i)))
   where
-    go : (b : Bool) → FactsInRange count (under hs p v) → FactsInRange count (cond b (k .facts) (under hs p v))
+    go : (b : Bool) → HoldingsInRange count (under hs p v) → HoldingsInRange count (cond b (k .holdings) (under hs p v))
     go true rest = h k (List·Memᴰ·head refl)
     go false rest = rest
 
 module _ (count : ℕ) where
-  root-there : (f : Fact) (r : ℕ) → InRange count f → saysClaim f (root r) ≡ true → r ≤ count
-  unfolding sameNumbers
+  root-there : (f : Holding) (r : ℕ) → InRange count f → saysClaim f (root r) ≡ true → r ≤ count
+  unfolding sameCode
   root-there (claim (root n)) r k e =
       let le = leb-true n count (k .there) in
       let same = eqb-true n r (and-left (eqb n r) true e) in
@@ -143,8 +143,8 @@ module _ (count : ℕ) where
   root-there (oneString s) r k e = absurd (false≢true e)
   root-there anyString r k e = absurd (false≢true e)
 
-  edge-there : (f : Fact) (n g m : ℕ) → InRange count f → saysClaim f (edge n g m) ≡ true → m ≤ count
-  unfolding sameNumbers
+  edge-there : (f : Holding) (n g m : ℕ) → InRange count f → saysClaim f (edge n g m) ≡ true → m ≤ count
+  unfolding sameCode
   edge-there (claim (root n′)) n g m k e = absurd (false≢true e)
   edge-there (claim (edge n′ g′ m′)) n g m k e =
       let le = leb-true m′ count (and-right (leb n′ count) (leb m′ count) (k .there)) in
@@ -159,8 +159,8 @@ module _ (count : ℕ) where
   edge-there (oneString s) n g m k e = absurd (false≢true e)
   edge-there anyString n g m k e = absurd (false≢true e)
 
-  strings-alike : (f : Fact) (n h s : ℕ) → InRange count f → strings ≤ s → saysClaim f (string n h s) ≡ saysClaim f (string n h strings)
-  unfolding sameNumbers
+  strings-alike : (f : Holding) (n h s : ℕ) → InRange count f → strings ≤ s → saysClaim f (string n h s) ≡ saysClaim f (string n h strings)
+  unfolding sameCode
   strings-alike (claim (root n′)) n h s k l = refl
   strings-alike (claim (edge n′ g m)) n h s k l = refl
   strings-alike (claim (string n′ h′ s′)) n h s k l =
@@ -176,7 +176,7 @@ none-is-some : {A : Type 0} {a : A} → none ≡ some a → ⊥
 none-is-some q = let z : _≡_ {A = ℕ} 0 1 = cc in omega arith
 
 -- The closed graph of items in range is bounded.
-closed-bounded : (φs : List Items) (fs : List Fact) → FactsInRange (length φs) fs → Bounded φs (closedSummary (held saysClaim fs))
+closed-bounded : (φs : List Items) (fs : List Holding) → HoldingsInRange (length φs) fs → Bounded φs (closedSummary (held saysClaim fs))
 closed-bounded φs fs h = record { roots = roots; edges = edges; others-alike = alike }
   where
     S : Summary
@@ -208,7 +208,7 @@ shown-bounded φs program hs h p G e = of-statement (statementAt program p) e
     E = entries hs p
 
     of-entry : (x : ℕ) → Bounded φs (closedSummary (E .template x))
-    of-entry x = closed-bounded φs (under hs p (templates x)) (under-in-range (length φs) hs p (templates x) h)
+    of-entry x = closed-bounded φs (under hs p (templateVariable x)) (under-in-range (length φs) hs p (templateVariable x) h)
 
     of-act : (a : Act) → closedIfShown (summaryShown φs a E) ≡ some G → Bounded φs G
     of-act (copyTemplate x x′) q = absurd (none-is-some q)

@@ -91,7 +91,7 @@ module _ (φs : List Items) (G : Summary) where
   worked-out bounded named D = (
     tables,
     record {
-      kinds = exact φs G bounded (rootMorphism (D .root)) (root-lawful (D .root)) (kinds .0) (kinds .2);
+      classes = exact φs G bounded (rootMorphism (D .root)) (root-lawful (D .root)) (classes .0) (classes .2);
       reached = reached-exact φs G bounded yields yields-is (tables .reached) (reach-rounds-sound φs G bounded yields yields-is (reached .0))
           (λ n h e. sym (reached .1 n h) ∙ e);
       contents = contents-exact φs G bounded yields yields-is named (tables .contents)
@@ -101,15 +101,15 @@ module _ (φs : List Items) (G : Summary) where
     },
   )
     where
-      kinds : (t : ℕ) × (t ≤ suc (length φs) * 3) × Settled φs G (rootMorphism (D .root)) (rounds φs G (rootMorphism (D .root)) t)
-      kinds = settles (rootMorphism (D .root))
+      classes : (t : ℕ) × (t ≤ suc (length φs) * 3) × Settled φs G (rootMorphism (D .root)) (rounds φs G (rootMorphism (D .root)) t)
+      classes = settles (rootMorphism (D .root))
 
       yields : Set
-      yields n = anyBelow 3 (rounds φs G (rootMorphism (D .root)) (kinds .0) n)
+      yields n = anyBelow 3 (rounds φs G (rootMorphism (D .root)) (classes .0) n)
 
       yields-is : YieldsExact φs G yields
-      yields-is = yields-exact φs G (rootMorphism (D .root)) (root-lawful (D .root)) (rounds φs G (rootMorphism (D .root)) (kinds .0))
-          (exact φs G bounded (rootMorphism (D .root)) (root-lawful (D .root)) (kinds .0) (kinds .2))
+      yields-is = yields-exact φs G (rootMorphism (D .root)) (root-lawful (D .root)) (rounds φs G (rootMorphism (D .root)) (classes .0))
+          (exact φs G bounded (rootMorphism (D .root)) (root-lawful (D .root)) (classes .0) (classes .2))
 
       reached : (t : ℕ) × ((n : ℕ) → n ≤ length φs → reachRounds φs G yields (suc t) n ≡ reachRounds φs G yields t n)
       reached = reach-settles yields
@@ -119,7 +119,7 @@ module _ (φs : List Items) (G : Summary) where
 
       tables : Tables
       tables = record {
-        kinds = rounds φs G (rootMorphism (D .root)) (kinds .0);
+        classes = rounds φs G (rootMorphism (D .root)) (classes .0);
         reached = reachRounds φs G yields (reached .0);
         contents = contentRounds φs G yields (occurring .0);
         clauses = λ ψ. rounds φs G (factMorphism (factsOf ψ)) (settles (factMorphism (factsOf ψ)) .0);

@@ -18,7 +18,7 @@ pub record Morphism : Type 0 where
 abbrev pub factMorphism : List Fact → Morphism
 factMorphism fs = record { size = 2 ^ length fs; of = patternOf fs []; op = join fs }
 
--- Verdict 11: a word is empty, the root alone, or other.
+-- Verdict 11, by the class of a word: it is empty, the root alone, or other.
 abbrev pub empty : ℕ
 empty = 0
 
@@ -28,13 +28,13 @@ alone = 1
 abbrev pub other : ℕ
 other = 2
 
-unfoldable pub kindOf : ℕ → List ℕ → ℕ
-kindOf root [] = empty
-kindOf root (c ∷ []) = cond (eqb c root) alone other
-kindOf root (c ∷ d ∷ w) = other
+unfoldable pub classOf : ℕ → List ℕ → ℕ
+classOf root [] = empty
+classOf root (c ∷ []) = cond (eqb c root) alone other
+classOf root (c ∷ d ∷ w) = other
 
-abbrev pub joinKinds : ℕ → ℕ → ℕ
-joinKinds x y = cond (eqb x empty) y (cond (eqb y empty) x other)
+abbrev pub joinClasses : ℕ → ℕ → ℕ
+joinClasses x y = cond (eqb x empty) y (cond (eqb y empty) x other)
 
 abbrev pub rootMorphism : ℕ → Morphism
-rootMorphism root = record { size = 3; of = kindOf root; op = joinKinds }
+rootMorphism root = record { size = 3; of = classOf root; op = joinClasses }

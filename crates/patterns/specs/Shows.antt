@@ -50,17 +50,17 @@ unfoldable mutual
   lowestMarkIn p (gap g) = none
   lowestMarkIn p (element e mark δ φ) = lower (onlyIf (p e mark δ φ) mark) (lowestMark p φ)
 
--- What is worked out for a graph: the kinds of the pages of each template, the templates that are reached, the contents that can
+-- What is worked out for a graph: the classes of the pages of each template, the templates that are reached, the contents that can
 -- stand in the pages of each, and the pattern sets of each clause.
 pub record Tables : Type 0 where
-  pub kinds : Sets
+  pub classes : Sets
   pub reached : Set
   pub contents : Sets
   pub clauses : Formula → Sets
 
 -- The tables tell what the pages have; of clauses those that stand in the vocabulary.
 pub record ExactTables (φs : List Items) (G : Summary) (D : Vocabulary) (T : Tables) : Type 0 where
-  pub kinds : Exact φs G (rootMorphism (D .root)) (T .kinds)
+  pub classes : Exact φs G (rootMorphism (D .root)) (T .classes)
   pub reached : ReachedExact φs G (T .reached)
   pub contents : ContentsExact φs G (T .contents)
   pub clauses : (e : ℕ) (r : Rule) (ψ : Formula) → ruleOf (D .rules) e ≡ some r → ψ ∈ r .clauses
@@ -74,7 +74,7 @@ module _ (φs : List Items) (G : Summary) (D : Vocabulary) (T : Tables) where
   -- Verdict 11.
   unfoldable pub lowestRoot : Option ℕ
   unfolding lowestOver
-  lowestRoot = lowestOver (suc (length φs)) (λ r. onlyIf (notRoot G (T .kinds) r) r)
+  lowestRoot = lowestOver (suc (length φs)) (λ r. onlyIf (notRoot G (T .classes) r) r)
 
   -- The lowest element of template n that is wrong in some page.
   unfoldable pub lowestWrongIn : ℕ → Option ℕ

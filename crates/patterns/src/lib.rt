@@ -8,22 +8,30 @@ pub enum Wrong {
     At { template: usize, at: usize },
 }
 
-// The lower of two wrong elements. Where both are the same one, the first stays.
+// The lower of two wrong elements. Where both are the same one, the first stays. The answer is built anew in each arm: where the value
+// of an enum is handed on whole, its padding is copied with it, and that stalls.
 pub fn lower(a: Wrong, b: Wrong) -> Wrong
     ensures { λ r. ⌜ r ≡ lowerWrong a b ⌝ }
 {
-    let Wrong::At { template: _, at } = a else {
-        return b;
-    };
-    let Wrong::At {
-        template: _,
-        at: other,
-    } = b
-    else {
-        return a;
-    };
-    if at <= other {
-        return a;
+    match a {
+        Wrong::Nowhere => match b {
+            Wrong::Nowhere => Wrong::Nowhere,
+            Wrong::At { template, at } => Wrong::At { template, at },
+        },
+        Wrong::At { template, at } => match b {
+            Wrong::Nowhere => Wrong::At { template, at },
+            Wrong::At {
+                template: second,
+                at: other,
+            } => {
+                if at <= other {
+                    return Wrong::At { template, at };
+                }
+                Wrong::At {
+                    template: second,
+                    at: other,
+                }
+            }
+        },
     }
-    b
 }

@@ -9,7 +9,7 @@ use Rattle.sets.specs.Sets.{member}
 use Rattle.sets.proofs.Laws.{member-zero}
 use Rattle.programs.specs.declared.Act.{Act}
 use Rattle.programs.specs.declared.Statement.{Statement}
-use Rattle.programs.specs.Program.{copyTemplate, setTemplate, copyString, setString, anyString, plug, plugString, show, stop, Variable, templates, strings, actNames, statementNames}
+use Rattle.programs.specs.Program.{copyTemplate, setTemplate, copyString, setString, anyString, plug, plugString, show, stop, Variable, templateVariable, stringVariable, actNames, statementNames}
 use Rattle.programs.specs.Promises.{asAct, asStatement, ActFits, StatementFits, numberOf, IsVariable, isTemplate, isString, Adds, Names}
 
 same-shifted : (k y : ℕ) → eqb (4 + k) (4 + y) ≡ eqb k y
@@ -23,15 +23,15 @@ pub adds-template : (x set r : ℕ) → x < 4 → ((k : ℕ) → member r k ≡ 
 adds-template x set r l h = record { holds = adds }
   where
     adds : (v : Variable) → IsVariable v → member r (numberOf v) ≡ (isTemplate x v || member set (numberOf v))
-    adds (templates k) t = h k
-    adds (strings k) t = h (4 + k) ∙ rw (ne-eqb (4 + k) x (λ e. omega arith))
+    adds (templateVariable k) t = h k
+    adds (stringVariable k) t = h (4 + k) ∙ rw (ne-eqb (4 + k) x (λ e. omega arith))
 
 pub adds-string : (y set r : ℕ) → ((k : ℕ) → member r k ≡ (eqb k (4 + y) || member set k)) → Adds (isString y) set r
 adds-string y set r h = record { holds = adds }
   where
     adds : (v : Variable) → IsVariable v → member r (numberOf v) ≡ (isString y v || member set (numberOf v))
-    adds (templates k) t = h k ∙ rw (ne-eqb k (4 + y) (λ e. omega arith))
-    adds (strings k) t = h (4 + k) ∙ rw (same-shifted k y)
+    adds (templateVariable k) t = h k ∙ rw (ne-eqb k (4 + y) (λ e. omega arith))
+    adds (stringVariable k) t = h (4 + k) ∙ rw (same-shifted k y)
 
 -- One, two and three variables, added to the empty set.
 module _ (names p : Variable → Bool) (r : ℕ) where
@@ -53,40 +53,40 @@ statement-fits-as t u e f = rw e at f
 
 -- What each act names.
 pub copy-names : (x y : ℕ) (v : Variable) → (isTemplate x v || isTemplate y v) ≡ actNames (copyTemplate x y) v
-copy-names x y (templates k) = refl
-copy-names x y (strings k) = refl
+copy-names x y (templateVariable k) = refl
+copy-names x y (stringVariable k) = refl
 
 pub set-names : (x y : ℕ) (v : Variable) → isTemplate x v ≡ actNames (setTemplate x y) v
-set-names x y (templates k) = refl
-set-names x y (strings k) = refl
+set-names x y (templateVariable k) = refl
+set-names x y (stringVariable k) = refl
 
 pub copy-string-names : (x y : ℕ) (v : Variable) → (isString x v || isString y v) ≡ actNames (copyString x y) v
-copy-string-names x y (templates k) = refl
-copy-string-names x y (strings k) = refl
+copy-string-names x y (templateVariable k) = refl
+copy-string-names x y (stringVariable k) = refl
 
 pub set-string-names : (x y : ℕ) (v : Variable) → isString x v ≡ actNames (setString x y) v
-set-string-names x y (templates k) = refl
-set-string-names x y (strings k) = refl
+set-string-names x y (templateVariable k) = refl
+set-string-names x y (stringVariable k) = refl
 
 pub any-string-names : (x : ℕ) (v : Variable) → isString x v ≡ actNames (anyString x) v
-any-string-names x (templates k) = refl
-any-string-names x (strings k) = refl
+any-string-names x (templateVariable k) = refl
+any-string-names x (stringVariable k) = refl
 
 pub plug-names : (x y g z : ℕ) (v : Variable) → (isTemplate x v || isTemplate y v || isTemplate z v) ≡ actNames (plug x y g z) v
-plug-names x y g z (templates k) = refl
-plug-names x y g z (strings k) = refl
+plug-names x y g z (templateVariable k) = refl
+plug-names x y g z (stringVariable k) = refl
 
 pub plug-string-names : (x y g z : ℕ) (v : Variable) → (isTemplate x v || isTemplate y v || isString z v) ≡ actNames (plugString x y g z) v
-plug-string-names x y g z (templates k) = rw or-false
-plug-string-names x y g z (strings k) = refl
+plug-string-names x y g z (templateVariable k) = rw or-false
+plug-string-names x y g z (stringVariable k) = refl
 
 pub show-names : (x : ℕ) (v : Variable) → isTemplate x v ≡ actNames (show x) v
-show-names x (templates k) = refl
-show-names x (strings k) = refl
+show-names x (templateVariable k) = refl
+show-names x (stringVariable k) = refl
 
 pub no-names : Names (statementNames stop) 0
 no-names = record { holds = none }
   where
     none : (v : Variable) → IsVariable v → member 0 (numberOf v) ≡ statementNames stop v
-    none (templates k) h = member-zero k
-    none (strings k) h = member-zero (4 + k)
+    none (templateVariable k) h = member-zero k
+    none (stringVariable k) h = member-zero (4 + k)

@@ -28,8 +28,8 @@ statementAt (t ∷ ts) (suc p) = statementAt ts p
 
 -- A variable: template variable 0 to 3, or string variable 0 to 3. `40` numbers them 0 to 7 in this order.
 pub data Variable : Type 0 where
-  templates : ℕ → Variable
-  strings : ℕ → Variable
+  templateVariable : ℕ → Variable
+  stringVariable : ℕ → Variable
 
 -- Whether a statement names a variable, in any operand.
 abbrev pub actNamesTemplate : Act → ℕ → Bool
@@ -53,8 +53,8 @@ actNamesString (plugString x x′ h y) v = eqb v y
 actNamesString (show x) v = false
 
 abbrev pub actNames : Act → Variable → Bool
-actNames a (templates x) = actNamesTemplate a x
-actNames a (strings y) = actNamesString a y
+actNames a (templateVariable x) = actNamesTemplate a x
+actNames a (stringVariable y) = actNamesString a y
 
 abbrev pub statementNames : Statement → Variable → Bool
 statementNames (step a p q) v = actNames a v

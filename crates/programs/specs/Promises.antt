@@ -21,7 +21,7 @@ use Rattle.programs.specs.declared.Act as Acts
 use Rattle.programs.specs.declared.Act.the-variants.{CopyTemplate, SetTemplate, CopyString, SetString, AnyString, Plug, PlugString, Show}
 use Rattle.programs.specs.declared.Statement as Statements
 use Rattle.programs.specs.declared.Statement.the-variants.{Step, Stop}
-use Rattle.programs.specs.Program.{Act, copyTemplate, setTemplate, copyString, setString, anyString, plug, plugString, show, Statement, step, stop, Variable, templates, strings, statementAt, named}
+use Rattle.programs.specs.Program.{Act, copyTemplate, setTemplate, copyString, setString, anyString, plug, plugString, show, Statement, step, stop, Variable, templateVariable, stringVariable, statementAt, named}
 use Rattle.programs.specs.ProgramReading.{Placed, statementRead, templatesThere, mostPoints, statementContext, pointsThere, statements, program}
 
 -- A statement as the code takes it apart.
@@ -60,12 +60,12 @@ StatementFits stop = Unit {0}
 
 -- A variable's number in a set, and which variables there are.
 abbrev pub numberOf : Variable → ℕ
-numberOf (templates x) = x
-numberOf (strings y) = 4 + y
+numberOf (templateVariable x) = x
+numberOf (stringVariable y) = 4 + y
 
 abbrev pub IsVariable : Variable → Type 0
-IsVariable (templates x) = x < 4
-IsVariable (strings y) = y < 4
+IsVariable (templateVariable x) = x < 4
+IsVariable (stringVariable y) = y < 4
 
 -- The set has just the variables that are named.
 pub record Names (names : Variable → Bool) (set : ℕ) : Type 0 where
@@ -104,12 +104,12 @@ abbrev pub testedStatement : ℕ → List ℕ → ℕ → ℕ → Decoded
 testedStatement count s before at = testedHere count s before at (command (statementContext before) s at)
 
 abbrev pub isTemplate : ℕ → Variable → Bool
-isTemplate x (templates k) = eqb k x
-isTemplate x (strings k) = false
+isTemplate x (templateVariable k) = eqb k x
+isTemplate x (stringVariable k) = false
 
 abbrev pub isString : ℕ → Variable → Bool
-isString y (templates k) = false
-isString y (strings k) = eqb k y
+isString y (templateVariable k) = false
+isString y (stringVariable k) = eqb k y
 
 -- The second set has what the first has, and the variable that is meant.
 pub record Adds (is : Variable → Bool) (set r : ℕ) : Type 0 where

@@ -3,7 +3,7 @@ use Prim.Native.Nat.{ℕ, _<_}
 use mathlib.Core.Path.{_≡_, sym, ap, _∙_}
 use mathlib.Core.List.{List}
 use mathlib.Core.Bool.{Bool, true, false, not, _&&_, false≢true}
-use Rattle.sets.specs.Sets.{member, Within}
+use Rattle.sets.specs.Sets.{member, MembersWithin}
 use Rattle.vocabularies.specs.Vocabulary.{isIn}
 use Rattle.pages.specs.Items.{Items}
 use Rattle.pages.specs.RightPages.{names}
@@ -25,7 +25,7 @@ module _ (φs : List Items) (G : Summary) (C : Sets) (n : ℕ) (allowed : List �
   out c = contentsOf φs G C n φ c && not (isIn c allowed)
 
   -- Every content is allowed, or one is not.
-  content-test : (t : Bool) → Within inside held t → contentOutside φs G C allowed n φ ≡ not t
+  content-test : (t : Bool) → MembersWithin inside held t → contentOutside φs G C allowed n φ ≡ not t
   unfolding contentOutside
   content-test true w = failed (anyBelow contents out)
       (λ e.
@@ -35,20 +35,20 @@ module _ (φs : List Items) (G : Summary) (C : Sets) (n : ℕ) (allowed : List �
   content-test false (c, h, p, q) = any-below contents out c h (and-both (sym (is c h) ∙ p) (ap not (sym (is-held c) ∙ q)))
 
 module _ (n at named allowed inside held : ℕ) where
-  pub names-outside : (t : Bool) → Within named allowed t → t ≡ false → TellsOutside n at named allowed inside held (At n at)
+  pub names-outside : (t : Bool) → MembersWithin named allowed t → t ≡ false → TellsOutside n at named allowed inside held (At n at)
   unfolding plainlyUnder
   names-outside t w e φs G C R δ φ c =
       let a : allIn (names δ) (R .attributes) ≡ false = within-lists named allowed (names δ) (R .attributes) (c .has-names) (c .allows) t w ∙ e in
       rw a
 
-  pub content-outside : (t u : Bool) → Within named allowed t → t ≡ true → Within inside held u → u ≡ false → TellsOutside n at named allowed inside held (At n at)
+  pub content-outside : (t u : Bool) → MembersWithin named allowed t → t ≡ true → MembersWithin inside held u → u ≡ false → TellsOutside n at named allowed inside held (At n at)
   unfolding plainlyUnder
   content-outside t u w e v q φs G C R δ φ c =
       let a : allIn (names δ) (R .attributes) ≡ true = within-lists named allowed (names δ) (R .attributes) (c .has-names) (c .allows) t w ∙ e in
       let b : contentOutside φs G C (R .contents) n φ ≡ true = content-test φs G C n (R .contents) φ inside held (c .has-contents) (c .holds) u v ∙ ap not q in
       rw (a, b)
 
-  pub none-outside : (t u : Bool) → Within named allowed t → t ≡ true → Within inside held u → u ≡ true → TellsOutside n at named allowed inside held Nowhere
+  pub none-outside : (t u : Bool) → MembersWithin named allowed t → t ≡ true → MembersWithin inside held u → u ≡ true → TellsOutside n at named allowed inside held Nowhere
   unfolding plainlyUnder
   none-outside t u w e v q φs G C R δ φ c =
       let a : allIn (names δ) (R .attributes) ≡ true = within-lists named allowed (names δ) (R .attributes) (c .has-names) (c .allows) t w ∙ e in

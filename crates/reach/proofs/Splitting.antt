@@ -1,7 +1,6 @@
--- The three tests of an element: it is wrong exactly if it is plainly wrong, or wrong by a clause; so the lowest wrong element is the
--- lower of the two lowest.
+-- The three tests of an element: it is wrong exactly if it is plainly wrong, or wrong by a clause.
 use Prim.Native.Nat.{ℕ}
-use mathlib.Core.Path.{_≡_, refl, _∙_}
+use mathlib.Core.Path.{_≡_, refl}
 use mathlib.Core.List.{List}
 use mathlib.Core.Bool.{_||_}
 use mathlib.Core.Option.{Option, some, none}
@@ -10,10 +9,7 @@ use Rattle.pages.specs.Items.{Attribute, Items}
 use Rattle.summaries.specs.Summaries.{Summary}
 use Rattle.patterns.specs.Rounds.{Sets}
 use Rattle.patterns.specs.Elements.{wrongUnder, wrongBy, wrongElement}
-use Rattle.patterns.specs.Shows.{lower, lowestMark}
-use Rattle.patterns.proofs.Lowest.{mark-either}
 use Rattle.reach.specs.PlainlyWrong.{plainlyUnder, plainlyBy, plainlyWrong, clauseBy, wrongByClause}
-use Rattle.reach.proofs.Marks.{mark-same}
 
 module _ (φs : List Items) (G : Summary) (X : Formula → Sets) (C : Sets) where
   by-split : (o : Option Rule) (n : ℕ) (δ : List Attribute) (φ : Items)
@@ -26,10 +22,3 @@ module _ (φs : List Items) (G : Summary) (X : Formula → Sets) (C : Sets) wher
     pub wrong-split : (e : ℕ) (δ : List Attribute) (φ : Items)
         → wrongElement φs G X C D n e δ φ ≡ (plainlyWrong φs G C D n e δ φ || wrongByClause φs G X D n e δ φ)
     wrong-split e δ φ = by-split (ruleOf (D .rules) e) n δ φ
-
-    pub lowest-split : (ψ : Items) → lowestMark (λ e mark δ φ. wrongElement φs G X C D n e δ φ) ψ
-        ≡ lower (lowestMark (λ e mark δ φ. plainlyWrong φs G C D n e δ φ) ψ) (lowestMark (λ e mark δ φ. wrongByClause φs G X D n e δ φ) ψ)
-    lowest-split ψ =
-        mark-same (λ e mark δ φ. wrongElement φs G X C D n e δ φ) (λ e mark δ φ. plainlyWrong φs G C D n e δ φ || wrongByClause φs G X D n e δ φ)
-        (λ e mark δ φ. wrong-split e δ φ) ψ
-        ∙ mark-either (λ e mark δ φ. plainlyWrong φs G C D n e δ φ) (λ e mark δ φ. wrongByClause φs G X D n e δ φ) ψ

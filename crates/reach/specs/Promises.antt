@@ -17,14 +17,14 @@ use Rattle.patterns.specs.Morphisms.{rootMorphism}
 use Rattle.patterns.specs.Given.{Bounded}
 use Rattle.patterns.specs.Rounds.{Set, Sets, anyBelow}
 use Rattle.patterns.specs.Exactness.{Exact, YieldsExact, ReachedExact, ContentsExact}
-use Rattle.readings.specs.Readings.{Is}
+use Rattle.schemes.specs.Schemes.{Is}
 use Rattle.reach.specs.Closures.{United, Closure}
 use Rattle.reach.specs.Outlines.{Outline}
 
--- The set tells the templates of which pages come, from the kinds of the pages of each.
+-- The set tells the templates of which pages come, from the classes of the pages of each.
 abbrev pub TellsYielding : List (List ℕ) → ℕ → ℕ → Type 0
-TellsYielding kinds count r = (φs : List Items) (G : Summary) (root : ℕ) (K : Sets) → count ≡ length φs → count ≤ 31
-    → ((n : ℕ) → n ≤ length φs → Is (rootMorphism root) (getD kinds n []) (K n)) → Exact φs G (rootMorphism root) K
+TellsYielding classes count r = (φs : List Items) (G : Summary) (root : ℕ) (K : Sets) → count ≡ length φs → count ≤ 31
+    → ((n : ℕ) → n ≤ length φs → Is (rootMorphism root) (getD classes n []) (K n)) → Exact φs G (rootMorphism root) K
     → YieldsExact φs G (member r)
 
 -- The templates to which the gaps of a set lead from template n.

@@ -12,14 +12,12 @@ ghost use Rattle.reach.specs.Walking.{TellsOutside, WalksElement, WalksI
 use commands::Position;
 use graphs::Graph;
 use pages::ItemHere;
+use pages::TEXT;
 use patterns::Wrong;
 
-// Content 0 is text, the others are elements.
-const TEXT: u8 = 0;
-
-// The templates whose set of kinds is not empty.
-pub fn yielding(kinds: [[u64; 4]; 32], count: usize) -> u64
-    ensures { λ r. ⌜ TellsYielding kinds count r ⌝ }
+// The templates whose set of classes is not empty.
+pub fn yielding(classes: [[u64; 4]; 32], count: usize) -> u64
+    ensures { λ r. ⌜ TellsYielding classes count r ⌝ }
 {
     let mut yields: u64 = 0;
     let mut n: u8 = 0;
@@ -28,7 +26,7 @@ pub fn yielding(kinds: [[u64; 4]; 32], count: usize) -> u64
         if count < t {
             return yields;
         }
-        yields = sets::with_if(yields, n, !pattern_sets::is_empty(kinds[t]));
+        yields = sets::with_if(yields, n, !pattern_sets::is_empty(classes[t]));
         n += 1;
     }
     yields

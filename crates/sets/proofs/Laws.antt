@@ -11,7 +11,7 @@ use lib.Bits.{bitAnd, bitOr, bitXor, differ, and-step, or-step, xor-step, and-sh
 use lib.Dec.{eqb, ltb, lit<}
 use lib.Pow.{pow-mono, pow-lt, pow-add, shl-shr, shl-exact, shr-shr, shr-lt}
 use borrow.Author.Tests.{eq-eqb, ne-eqb, eqb-true, eqb-false, ltb-true, ltb-false}
-use Rattle.sets.specs.Sets.{member, Within}
+use Rattle.sets.specs.Sets.{member, MembersWithin}
 
 -- ---- one bit
 
@@ -181,7 +181,7 @@ inside : (t u : Bool) → (t && u) ≡ t → t ≡ true → u ≡ true
 inside true u e h = e
 inside false u e h = absurd (false≢true h)
 
-pub within : (a b : ℕ) → a < 2 ^ 64 → b < 2 ^ 64 → (t : Bool) → eqb (bitAnd a b) a ≡ t → Within a b t
+pub within : (a b : ℕ) → a < 2 ^ 64 → b < 2 ^ 64 → (t : Bool) → eqb (bitAnd a b) a ≡ t → MembersWithin a b t
 within a b p q true e = λ k h. inside (member a k) (member b k) (sym (member-and a b k) ∙ ap (λ (n : ℕ). member n k) (eqb-true (bitAnd a b) a e)) h
 within a b p q false e = elim (find (λ k. member a k && not (member b k)) 64) [
   | inl w ↦ (w .0, w .1, lacks a b (w .0) (w .2) .0, lacks a b (w .0) (w .2) .1)

@@ -12,9 +12,9 @@ unfoldable pub member : ℕ → ℕ → Bool
 member set i = eqb (set / 2 ^ i % 2) 1
 
 -- By the answer: every member of a is one of b; or a has a member that b lacks.
-abbrev pub Within : ℕ → ℕ → Bool → Type 0
-Within a b true = (k : ℕ) → member a k ≡ true → member b k ≡ true
-Within a b false = (k : ℕ) × (k < wordSize) × (member a k ≡ true) × (member b k ≡ false)
+abbrev pub MembersWithin : ℕ → ℕ → Bool → Type 0
+MembersWithin a b true = (k : ℕ) → member a k ≡ true → member b k ≡ true
+MembersWithin a b false = (k : ℕ) × (k < wordSize) × (member a k ≡ true) × (member b k ≡ false)
 
 -- The first member of a word at a place or after it, or 64 where there is none.
 pub record FirstMember (word from first : ℕ) : Type 0 where

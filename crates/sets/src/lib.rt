@@ -3,7 +3,7 @@ ghost use mathlib.Core.Path.{_≡_};
 ghost use mathlib.Core.Bool.{not, _&&_, _||_};
 ghost use Prim.Native.Nat.{ℕ, _<_};
 ghost use lib.Dec.{eqb};
-ghost use Rattle.sets.specs.Sets.{member, Within, FirstMember};
+ghost use Rattle.sets.specs.Sets.{member, MembersWithin, FirstMember};
 
 pub fn has(set: u64, i: u8) -> bool
     requires { ⌜ i < 64 ⌝ }
@@ -60,7 +60,7 @@ pub fn without(a: u64, b: u64) -> u64
 
 // Whether every member of `a` is one of `b`.
 pub fn is_within(a: u64, b: u64) -> bool
-    ensures { λ r. ⌜ Within a b r ⌝ }
+    ensures { λ r. ⌜ MembersWithin a b r ⌝ }
 {
     a & b == a
 }

@@ -26,10 +26,10 @@ module _ (π : Script) (E : ℕ → Environment) (read : GivenShows π E) (p : �
     (exact : ExactTables (π .templates) G (π .vocabulary) T) (count : ℕ) (count-is : count ≡ length (π .templates)) where
   -- ---- 11
 
-  module _ (roots : ℕ) (kinds : List (List ℕ)) (r : OtherRoot) (found : LowestRoot roots kinds count r)
-      (same : (n : ℕ) → n ≤ count → isOther roots (getD kinds n []) n ≡ notRoot G (T .kinds) n) where
+  module _ (roots : ℕ) (classes : List (List ℕ)) (r : OtherRoot) (found : LowestRoot roots classes count r)
+      (same : (n : ℕ) → n ≤ count → isOther roots (getD classes n []) n ≡ notRoot G (T .classes) n) where
     abbrev Other : ℕ → Type 0
-    Other n = (n ≤ count) × (notRoot G (T .kinds) n ≡ true)
+    Other n = (n ≤ count) × (notRoot G (T .classes) n ≡ true)
 
     code-least : Least Other (otherRoot r)
     code-least = least-iff (λ n. (λ (l, e). (l, sym (same n l) ∙ e), λ (l, e). (l, same n l ∙ e))) found
@@ -37,12 +37,12 @@ module _ (π : Script) (E : ℕ → Environment) (read : GivenShows π E) (p : �
     root-is : otherRoot r ≡ lowestRoot (π .templates) G (π .vocabulary) T
     unfolding lowestRoot
     root-is = least-unique code-least (least-iff (λ n. (to n, back n))
-        (least-over (suc (length (π .templates))) (λ i n. (i ≡ n) × (notRoot G (T .kinds) i ≡ true)) _ (λ i h. least-test (notRoot G (T .kinds) i) i)))
+        (least-over (suc (length (π .templates))) (λ i n. (i ≡ n) × (notRoot G (T .classes) i ≡ true)) _ (λ i h. least-test (notRoot G (T .classes) i) i)))
       where
-        to : (n : ℕ) → (i : ℕ) × (i < suc (length (π .templates))) × ((i ≡ n) × (notRoot G (T .kinds) i ≡ true)) → Other n
-        to n (i, h, (e, t)) = (omega arith, subst (λ (k : ℕ). notRoot G (T .kinds) k ≡ true) e t)
+        to : (n : ℕ) → (i : ℕ) × (i < suc (length (π .templates))) × ((i ≡ n) × (notRoot G (T .classes) i ≡ true)) → Other n
+        to n (i, h, (e, t)) = (omega arith, subst (λ (k : ℕ). notRoot G (T .classes) k ≡ true) e t)
 
-        back : (n : ℕ) → Other n → (i : ℕ) × (i < suc (length (π .templates))) × ((i ≡ n) × (notRoot G (T .kinds) i ≡ true))
+        back : (n : ℕ) → Other n → (i : ℕ) × (i < suc (length (π .templates))) × ((i ≡ n) × (notRoot G (T .classes) i ≡ true))
         back n (l, e) = (n, omega arith, (refl, e))
 
     pub found-other : (t : ℕ) → r ≡ At t → ShowFound π E p (NotRoot t)

@@ -52,15 +52,15 @@ module _ (s : List ℕ) (rules : Tables) (templates : TemplateTables) (count : �
   rules-stand : RulesStand s (j .script .vocabulary) (rules .declared) (rules .clauses)
   rules-stand = record { declares = A .vocabulary .declares; stands = λ e r q. A .vocabulary .rule e r q .stands }
 
-  module _ (T : Decided.Tables) (exact : ExactTables (j .script .templates) (A .shown) (j .script .vocabulary) T) (kinds : List (List ℕ))
-      (sets : SetsAre (j .script .templates) (rootMorphism (j .script .vocabulary .root)) (T .kinds) kinds)
-      (yields : ℕ) (tells-yields : TellsYielding kinds count yields)
+  module _ (T : Decided.Tables) (exact : ExactTables (j .script .templates) (A .shown) (j .script .vocabulary) T) (classes : List (List ℕ))
+      (sets : SetsAre (j .script .templates) (rootMorphism (j .script .vocabulary .root)) (T .classes) classes)
+      (yields : ℕ) (tells-yields : TellsYielding classes count yields)
       (reached : ℕ) (tells-reached : TellsReached graph (templates .gaps) count yields reached)
       (within : List ℕ) (tells-contents : TellsContents graph (templates .contents) (templates .outer) count yields within)
       (plain : Wrong) (tells-plain : TellsPlainlyWrong s (rules .attributes) (rules .contents) starts count graph within reached plain)
       (by-clause : Wrong) (searches : SearchesRules s (rules .declared) (rules .clauses) (templates .standing) graph starts count reached by-clause) where
     yielding : YieldsExact (j .script .templates) (A .shown) (member yields)
-    yielding = tells-yields (j .script .templates) (A .shown) (j .script .vocabulary .root) (T .kinds) (A .located .counted) (A .few) sets (exact .kinds)
+    yielding = tells-yields (j .script .templates) (A .shown) (j .script .vocabulary .root) (T .classes) (A .located .counted) (A .few) sets (exact .classes)
 
     is-reached : (n : ℕ) → n ≤ length (j .script .templates) → member reached n ≡ T .reached n
     is-reached = tells-reached (j .script .templates) (A .shown) graph-kept (A .tabled .gaps) yielding (T .reached) (exact .reached)

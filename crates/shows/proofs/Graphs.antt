@@ -16,8 +16,8 @@ use Rattle.patterns.specs.Shows.{ExactTables, notRoot}
 use Rattle.patterns.specs.Shows as Decided
 use Rattle.patterns.proofs.ReadVocabularies.{Bytes}
 use Rattle.patterns.proofs.Settling.{worked-out}
-use Rattle.readings.specs.declared.Reading.{Reading}
-use Rattle.readings.specs.Readings.{Reads}
+use Rattle.schemes.specs.declared.Scheme.{Scheme}
+use Rattle.schemes.specs.Schemes.{StandsFor}
 use Rattle.languages.specs.Tables.{SetsAre, of-root, Lent}
 use Rattle.languages.specs.Promises.{Settles}
 use Rattle.languages.proofs.Settling.{settled-exact}
@@ -37,26 +37,26 @@ module _ (s : List ℕ) (rules : Tables) (templates : TemplateTables) (count : �
   tables = worked-out (j .script .templates) (A .shown) (bounded s rules templates count starts graph j p A bytes)
       (given s rules templates count starts graph j p A bytes .script .templates) (j .script .vocabulary)
 
-  module _ (r : Reading) (reads : Reads r (rootMorphism (rules .root))) (made : ℕ) (kinds : List (List ℕ))
-      (settles : Settles r s graph starts count made kinds) (roots : ℕ) (roots-are : (n : ℕ) → member roots n ≡ holds graph (root n))
-      (other-root : OtherRoot) (found : LowestRoot roots kinds count other-root) where
+  module _ (r : Scheme) (reads : StandsFor r (rootMorphism (rules .root))) (made : ℕ) (classes : List (List ℕ))
+      (settles : Settles r s graph starts count made classes) (roots : ℕ) (roots-are : (n : ℕ) → member roots n ≡ holds graph (root n))
+      (other-root : OtherRoot) (found : LowestRoot roots classes count other-root) where
     lent : Lent r graph (j .script .templates) (A .shown) (rootMorphism (j .script .vocabulary .root))
     lent = record {
       used = of-root (j .script .vocabulary .root);
-      reads = subst (λ (e : ℕ). Reads r (rootMorphism e)) (A .vocabulary .names-root) reads;
+      reads = subst (λ (e : ℕ). StandsFor r (rootMorphism e)) (A .vocabulary .names-root) reads;
       bounded = bounded s rules templates count starts graph j p A bytes;
       keeps = A .keeps;
     }
 
-    sets : SetsAre (j .script .templates) (rootMorphism (j .script .vocabulary .root)) (tables .0 .kinds) kinds
+    sets : SetsAre (j .script .templates) (rootMorphism (j .script .vocabulary .root)) (tables .0 .classes) classes
     sets =
         let few = A .few in
         let counts = A .located .counted in
-        settled-exact lent made kinds
+        settled-exact lent made classes
         (settles (j .script .templates) (A .shown) (rootMorphism (j .script .vocabulary .root)) (record { lent = lent; few = omega arith; stand = A .stand }) counts)
-        (tables .0 .kinds) (tables .1 .kinds)
+        (tables .0 .classes) (tables .1 .classes)
 
-    same-root : (n : ℕ) → n ≤ count → isOther roots (getD kinds n []) n ≡ notRoot (A .shown) (tables .0 .kinds) n
+    same-root : (n : ℕ) → n ≤ count → isOther roots (getD classes n []) n ≡ notRoot (A .shown) (tables .0 .classes) n
     same-root n l =
         let counts = A .located .counted in
         let row = sets n (omega arith) in
@@ -65,12 +65,12 @@ module _ (s : List ℕ) (rules : Tables) (templates : TemplateTables) (count : �
     pub root-found : (t : ℕ) → other-root ≡ At t → ShowFound (j .script) (entries (j .proposal)) p (NotRoot t)
     root-found =
         found-other (j .script) (entries (j .proposal)) (given s rules templates count starts graph j p A bytes) p (A .shown) (A .shows) (tables .0) (tables .1) count (A .located .counted)
-        roots kinds other-root found same-root
+        roots classes other-root found same-root
 
-    pub element-found : other-root ≡ Nowhere → (w : Wrongs.Wrong) → WrongElements s rules templates count starts graph kinds w
+    pub element-found : other-root ≡ Nowhere → (w : Wrongs.Wrong) → WrongElements s rules templates count starts graph classes w
         → (x : Shown) → x ≡ shownOf w → ShowFound (j .script) (entries (j .proposal)) p x
     element-found z w wrong x is =
         rw is (found-wrong (j .script) (entries (j .proposal)) (given s rules templates count starts graph j p A bytes) p (A .shown) (A .shows) (tables .0) (tables .1) count (A .located .counted)
         (no-other (j .script) (entries (j .proposal)) (given s rules templates count starts graph j p A bytes) p (A .shown) (A .shows) (tables .0) (tables .1) count (A .located .counted)
-        roots kinds other-root found same-root z)
+        roots classes other-root found same-root z)
         (wrong j p A (tables .0) (tables .1) sets))

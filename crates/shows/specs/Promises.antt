@@ -2,7 +2,7 @@
 use Prim.Native.Nat.{ℕ, _≤_, _<_}
 use mathlib.Core.Path.{_≡_}
 use mathlib.Core.List.{List, []}
-use mathlib.Core.Bool.{Bool, true, false, _&&_, _||_}
+use mathlib.Core.Bool.{Bool, true, _&&_, _||_}
 use mathlib.Core.Option.{Option, some, none}
 use lib.ListN.{length, getD}
 use Rattle.sets.specs.Sets.{member}
@@ -15,7 +15,7 @@ use Rattle.pages.specs.Gaps.{StartsAt, GapsTable}
 use Rattle.pages.specs.Promises.{Located}
 use Rattle.programs.specs.Program.{statementAt}
 use Rattle.summaries.specs.Summaries.{Summary, Environment, entries}
-use Rattle.summaries.specs.Languages.{graphShown}
+use Rattle.summaries.specs.Languages.{closedSummary, graphShown}
 use Rattle.jobs.specs.Job.{Script, Job, job}
 use Rattle.jobs.specs.JobVerdict.{ShowHolds, NotRootAt, WrongIn}
 use Rattle.graphs.specs.Graphs.{Keeps, nothing}
@@ -30,6 +30,8 @@ use Rattle.patterns.specs.Shows as Decided
 use Rattle.patterns.specs.LowestWrong.{LowestWrong}
 use Rattle.languages.specs.Tables.{SetsAre}
 use Rattle.shows.specs.declared.TemplateTables.{TemplateTables}
+use Rattle.shows.specs.declared.Showing.{Showing}
+use Rattle.shows.specs.declared.Showing.the-variants.{Nothing, Variable}
 use Rattle.shows.specs.declared.Shown.{Shown}
 use Rattle.shows.specs.declared.Shown.the-variants.{Right, NotRoot, Wrong}
 use Rattle.shows.specs.declared.OtherRoot.{OtherRoot}
@@ -63,10 +65,15 @@ pub record PointStands (s heads : List ℕ) (place p : ℕ) (j : Job) : Type 0 w
 abbrev pub shownAt : Job → ℕ → Option Summary
 shownAt j p = graphShown (j .script .templates) (j .script .program) (entries (j .proposal)) p
 
--- By the answer, the point shows something, which a graph that held nothing then holds; or it shows nothing.
-abbrev pub ShowsGraph : List ℕ → List ℕ → ℕ → ℕ → List ℕ → List ℕ → Bool → Type 0
-ShowsGraph s heads place p before after true = (j : Job) → PointStands s heads place p j → (G : Summary) × (shownAt j p ≡ some G) × (Keeps before nothing → Keeps after G)
-ShowsGraph s heads place p before after false = (j : Job) → PointStands s heads place p j → shownAt j p ≡ none
+-- What the points with the statement at an offset show.
+abbrev pub ShowsAt : List ℕ → ℕ → Showing → Type 0
+ShowsAt s place Nothing = (heads : List ℕ) (p : ℕ) (j : Job) → PointStands s heads place p j → shownAt j p ≡ none
+ShowsAt s place (Variable x) = (heads : List ℕ) (p : ℕ) (j : Job) → PointStands s heads place p j → (x < 4) × (shownAt j p ≡ some (closedSummary (entries (j .proposal) p .template x)))
+
+-- A graph that held nothing holds what a show of a variable at a point shows.
+abbrev pub HoldsShown : List ℕ → List ℕ → ℕ → ℕ → List ℕ → List ℕ → Type 0
+HoldsShown s heads p x before after =
+    (j : Job) → p < 32 → x < 4 → EntriesAt s heads (j .proposal) p → Keeps before nothing → Keeps after (closedSummary (entries (j .proposal) p .template x))
 
 -- What is worked out of the templates of a job, once for all its shows: the gaps of each, at any depth, its outline, and the templates
 -- in which each element stands.
@@ -97,7 +104,7 @@ DecidesShow s rules templates count starts graph r = (j : Job) (p : ℕ) → Sho
 
 -- The steps on the way. Whether a template is a root, and some page of it is empty or other than the root alone.
 abbrev pub isOther : ℕ → List ℕ → ℕ → Bool
-isOther roots kinds n = member roots n && (holds kinds empty || holds kinds other)
+isOther roots classes n = member roots n && (holds classes empty || holds classes other)
 
 -- The lowest of the templates up to `count` that is such.
 abbrev pub otherRoot : OtherRoot → Option ℕ
@@ -105,14 +112,14 @@ otherRoot OtherRoots.the-variants.Nowhere = none
 otherRoot (OtherRoots.the-variants.At t) = some t
 
 abbrev pub LowestRoot : ℕ → List (List ℕ) → ℕ → OtherRoot → Type 0
-LowestRoot roots kinds count r = Least (λ n. (n ≤ count) × (isOther roots (getD kinds n []) n ≡ true)) (otherRoot r)
+LowestRoot roots classes count r = Least (λ n. (n ≤ count) × (isOther roots (getD classes n []) n ≡ true)) (otherRoot r)
 
 abbrev pub shownOf : Wrongs.Wrong → Shown
 shownOf Wrongs.the-variants.Nowhere = Right
 shownOf (Wrongs.the-variants.At t at) = Wrong t at
 
--- The lowest element that is wrong in some page, where the kinds of the pages of each template are given.
+-- The lowest element that is wrong in some page, where the classes of the pages of each template are given.
 abbrev pub WrongElements : List ℕ → Tables → TemplateTables → ℕ → List ℕ → List ℕ → List (List ℕ) → Wrongs.Wrong → Type 0
-WrongElements s rules templates count starts graph kinds r = (j : Job) (p : ℕ) (A : ShowAt s rules templates count starts graph j p)
-    (T : Decided.Tables) → ExactTables (j .script .templates) (A .shown) (j .script .vocabulary) T → SetsAre (j .script .templates) (rootMorphism (j .script .vocabulary .root)) (T .kinds) kinds
+WrongElements s rules templates count starts graph classes r = (j : Job) (p : ℕ) (A : ShowAt s rules templates count starts graph j p)
+    (T : Decided.Tables) → ExactTables (j .script .templates) (A .shown) (j .script .vocabulary) T → SetsAre (j .script .templates) (rootMorphism (j .script .vocabulary .root)) (T .classes) classes
     → LowestWrong (WrongIn (j .script) (entries (j .proposal)) p) r

@@ -1,16 +1,22 @@
 // The shows of a job (document 01, "Verdicts", 11 and 12): what a point shows, and what is wrong in the pages of its language.
 ghost use mathlib.Core.Path.{_≡_};
 ghost use Prim.Native.Nat.{_<_};
-ghost use Rattle.shows.specs.Promises.{ShowsGraph, TabledBy, DecidesShow, isOther, LowestRoot, shownOf, WrongElements};
+ghost use Rattle.shows.specs.Promises.{ShowsAt, HoldsShown, TabledBy, DecidesShow, isOther, LowestRoot, shownOf, WrongElements};
 use commands::Position;
 use graphs::Graph;
 use pages::MOST_TEMPLATES;
 use patterns::Wrong;
 use programs::Act;
 use programs::Statement;
-use readings::EMPTY;
-use readings::OTHER;
+use schemes::EMPTY;
+use schemes::OTHER;
 use vocabularies::Tables;
+
+// What a point shows: nothing, or the value of a template variable.
+pub enum Showing {
+    Nothing,
+    Variable(u8),
+}
 
 // What is found at a show: nothing; a root template with a page that is not exactly the root element (11); or an element that is
 // wrong in some page (12), by its template and the offset of its `23`.
@@ -35,16 +41,9 @@ enum OtherRoot {
     At(usize),
 }
 
-// Whether the point, whose statement stands at an offset, shows something. The graph, which is lent empty, then holds what is shown:
-// the entry of the shown variable there, closed.
-pub fn shown_graph(
-    s: &[u8],
-    heads: &[usize; 256],
-    place: usize,
-    p: usize,
-    graph: &mut Graph,
-) -> bool
-    ensures { λ r. ⌜ ShowsGraph (now (s .entry)) (now (heads .entry)) place p (now (graph .entry)) (now (graph .exit)) r ⌝ }
+// What the statement that stands at an offset shows.
+pub fn showing_at(s: &[u8], place: usize) -> Showing
+    ensures { λ r. ⌜ ShowsAt (now (s .entry)) place r ⌝ }
 {
     let statement = programs::statement_at(s, Position::new(place));
     let Statement::Step {
@@ -53,22 +52,26 @@ pub fn shown_graph(
         second: _,
     } = statement
     else {
-        return false;
+        return Showing::Nothing;
     };
     match act {
-        Act::Show(x) => {
-            entries::load(s, covering::template_head(heads, p, x as usize), graph);
-            graphs::close(graph);
-            true
-        }
-        Act::CopyTemplate(_, _) => false,
-        Act::SetTemplate(_, _) => false,
-        Act::CopyString(_, _) => false,
-        Act::SetString(_, _) => false,
-        Act::AnyString(_) => false,
-        Act::Plug(_, _, _, _) => false,
-        Act::PlugString(_, _, _, _) => false,
+        Act::Show(x) => Showing::Variable(x),
+        Act::CopyTemplate(_, _) => Showing::Nothing,
+        Act::SetTemplate(_, _) => Showing::Nothing,
+        Act::CopyString(_, _) => Showing::Nothing,
+        Act::SetString(_, _) => Showing::Nothing,
+        Act::AnyString(_) => Showing::Nothing,
+        Act::Plug(_, _, _, _) => Showing::Nothing,
+        Act::PlugString(_, _, _, _) => Showing::Nothing,
     }
+}
+
+// The graph, which is lent empty, then holds what a show of the variable at the point shows: its entry there, closed.
+pub fn shown_graph(s: &[u8], heads: &[usize; 256], p: usize, x: u8, graph: &mut Graph)
+    ensures { λ _. ⌜ HoldsShown (now (s .entry)) (now (heads .entry)) p x (now (graph .entry)) (now (graph .exit)) ⌝ }
+{
+    entries::load(s, covering::template_head(heads, p, x as usize), graph);
+    graphs::close(graph);
 }
 
 // What is worked out of the templates, whose gaps are given, once for all shows.
@@ -87,28 +90,28 @@ pub fn tables_of(s: &[u8], gaps: [u64; 32], starts: &[usize; 32], count: usize) 
     }
 }
 
-// Whether a template with pages of these kinds is a root, and some page of it is not the root element alone.
-fn is_other(roots: u64, kinds: [u64; 4], t: usize) -> bool
+// Whether a template with pages of these classes is a root, and some page of it is not the root element alone.
+fn is_other(roots: u64, classes: [u64; 4], t: usize) -> bool
     requires { ⌜ t < 32 ⌝ }
-    ensures { λ r. ⌜ r ≡ isOther roots kinds t ⌝ }
+    ensures { λ r. ⌜ r ≡ isOther roots classes t ⌝ }
 {
     if !sets::has(roots, t as u8) {
         return false;
     }
-    if pattern_sets::has(kinds, EMPTY) {
+    if pattern_sets::has(classes, EMPTY) {
         return true;
     }
-    pattern_sets::has(kinds, OTHER)
+    pattern_sets::has(classes, OTHER)
 }
 
 // 11: the lowest such template.
-fn lowest_root(roots: u64, kinds: [[u64; 4]; 32], count: usize) -> OtherRoot
+fn lowest_root(roots: u64, classes: [[u64; 4]; 32], count: usize) -> OtherRoot
     requires { ⌜ count < 32 ⌝ }
-    ensures { λ r. ⌜ LowestRoot roots kinds count r ⌝ }
+    ensures { λ r. ⌜ LowestRoot roots classes count r ⌝ }
 {
     let mut t: usize = 0;
     while t <= count {
-        if is_other(roots, kinds[t], t) {
+        if is_other(roots, classes[t], t) {
             return OtherRoot::At(t);
         }
         t += 1;
@@ -124,9 +127,9 @@ fn wrong_elements(
     count: usize,
     starts: &[usize; 32],
     graph: &Graph,
-    kinds: [[u64; 4]; 32],
+    classes: [[u64; 4]; 32],
 ) -> Wrong
-    ensures { λ r. ⌜ WrongElements (now (s .entry)) rules templates count (now (starts .entry)) (now (graph .entry)) kinds r ⌝ }
+    ensures { λ r. ⌜ WrongElements (now (s .entry)) rules templates count (now (starts .entry)) (now (graph .entry)) classes r ⌝ }
 {
     let gaps = templates.gaps;
     let contents = templates.contents;
@@ -134,7 +137,7 @@ fn wrong_elements(
     let standing = templates.standing;
     let attributes = rules.attributes;
     let held = rules.contents;
-    let yields = reach::yielding(kinds, count);
+    let yields = reach::yielding(classes, count);
     let reached = reach::reached(graph, &gaps, count, yields);
     let within = reach::contents_of(graph, &contents, &outer, count, yields);
     let plain = reach::plainly_wrong(
@@ -174,18 +177,12 @@ pub fn decide(
     if MOST_TEMPLATES < count {
         return Shown::Right;
     }
-    let mut rounds: usize = 0;
-    let kinds = languages::settle(
-        s,
-        readings::root_reading(rules.root),
-        graph,
-        starts,
-        count,
-        &mut rounds,
-    );
-    let other = lowest_root(graphs::roots(graph), kinds, count);
+    let mut classes = [[0u64; 4]; 32];
+    let root = schemes::root_scheme(rules.root);
+    languages::settle(s, root, graph, starts, count, &mut classes);
+    let other = lowest_root(graphs::roots(graph), classes, count);
     if let OtherRoot::At(t) = other {
         return Shown::NotRoot(t);
     }
-    shown_of(wrong_elements(s, rules, templates, count, starts, graph, kinds))
+    shown_of(wrong_elements(s, rules, templates, count, starts, graph, classes))
 }

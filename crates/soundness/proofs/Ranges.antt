@@ -13,15 +13,15 @@ use Rattle.verdicts.specs.declared.Form.the-variants.{TooMany, Missing}
 use Rattle.commands.specs.Commands.{byte, operandsOf, allInRange}
 use Rattle.commands.specs.Reading.{Read, whole, refused, andThen, when}
 use Rattle.commands.proofs.Laws.{moved, andThen-whole, onCommand-whole, when-whole}
-use Rattle.programs.specs.Program.{copyTemplate, setTemplate, copyString, setString, anyString, plug, plugString, show, Statement, step, stop, Variable, templates, strings, statementNames, named}
+use Rattle.programs.specs.Program.{copyTemplate, setTemplate, copyString, setString, anyString, plug, plugString, show, Statement, step, stop, Variable, templateVariable, stringVariable, statementNames, named}
 use Rattle.programs.specs.ProgramReading.{Placed, statementOf, statementRead, statementContext, statements, strayed, unlessStrayed, program, templatesThere, mostPoints}
 use Rattle.soundness.proofs.Tests.{or-cases}
 use Rattle.soundness.proofs.Run.{InRange}
 
 -- A variable's number: which of the two sorts does not matter here.
 abbrev number : Variable → ℕ
-number (templates x) = x
-number (strings y) = y
+number (templateVariable x) = x
+number (stringVariable y) = y
 
 and-left : (a b : Bool) → (a && b) ≡ true → a ≡ true
 and-left true b e = refl
@@ -76,46 +76,46 @@ module _ (s : List ℕ) (at : ℕ) where
 
     show-bounded : allInRange (operandsOf 0x37) s (at + 1) ≡ true → Bounded (step (show (o 1)) (o 2) (o 3))
     unfolding allInRange operandsOf
-    show-bounded h (templates x) e = same x (o 1) e (and-left _ true h)
-    show-bounded h (strings y) e = absurd (false≢true e)
+    show-bounded h (templateVariable x) e = same x (o 1) e (and-left _ true h)
+    show-bounded h (stringVariable y) e = absurd (false≢true e)
 
     copy-template-bounded : allInRange (operandsOf 0x30) s (at + 1) ≡ true → Bounded (step (copyTemplate (o 1) (o 2)) (o 3) (o 4))
     unfolding allInRange operandsOf
-    copy-template-bounded h (templates x) e = either-of x (o 1) (o 2) e (and-left _ _ h) (operand-2 true h)
-    copy-template-bounded h (strings y) e = absurd (false≢true e)
+    copy-template-bounded h (templateVariable x) e = either-of x (o 1) (o 2) e (and-left _ _ h) (operand-2 true h)
+    copy-template-bounded h (stringVariable y) e = absurd (false≢true e)
 
     set-template-bounded : allInRange (operandsOf 0x31) s (at + 1) ≡ true → Bounded (step (setTemplate (o 1) (o 2)) (o 3) (o 4))
     unfolding allInRange operandsOf
-    set-template-bounded h (templates x) e = same x (o 1) e (and-left _ _ h)
-    set-template-bounded h (strings y) e = absurd (false≢true e)
+    set-template-bounded h (templateVariable x) e = same x (o 1) e (and-left _ _ h)
+    set-template-bounded h (stringVariable y) e = absurd (false≢true e)
 
     copy-string-bounded : allInRange (operandsOf 0x32) s (at + 1) ≡ true → Bounded (step (copyString (o 1) (o 2)) (o 3) (o 4))
     unfolding allInRange operandsOf
-    copy-string-bounded h (templates x) e = absurd (false≢true e)
-    copy-string-bounded h (strings y) e = either-of y (o 1) (o 2) e (and-left _ _ h) (operand-2 true h)
+    copy-string-bounded h (templateVariable x) e = absurd (false≢true e)
+    copy-string-bounded h (stringVariable y) e = either-of y (o 1) (o 2) e (and-left _ _ h) (operand-2 true h)
 
     set-string-bounded : allInRange (operandsOf 0x33) s (at + 1) ≡ true → Bounded (step (setString (o 1) (o 2)) (o 3) (o 4))
     unfolding allInRange operandsOf
-    set-string-bounded h (templates x) e = absurd (false≢true e)
-    set-string-bounded h (strings y) e = same y (o 1) e (and-left _ _ h)
+    set-string-bounded h (templateVariable x) e = absurd (false≢true e)
+    set-string-bounded h (stringVariable y) e = same y (o 1) e (and-left _ _ h)
 
     any-string-bounded : allInRange (operandsOf 0x34) s (at + 1) ≡ true → Bounded (step (anyString (o 1)) (o 2) (o 3))
     unfolding allInRange operandsOf
-    any-string-bounded h (templates x) e = absurd (false≢true e)
-    any-string-bounded h (strings y) e = same y (o 1) e (and-left _ true h)
+    any-string-bounded h (templateVariable x) e = absurd (false≢true e)
+    any-string-bounded h (stringVariable y) e = same y (o 1) e (and-left _ true h)
 
     plug-bounded : allInRange (operandsOf 0x35) s (at + 1) ≡ true → Bounded (step (plug (o 1) (o 2) (o 3) (o 4)) (o 5) (o 6))
     unfolding allInRange operandsOf
-    plug-bounded h (templates x) e = ⊎-elim
+    plug-bounded h (templateVariable x) e = ⊎-elim
         (λ (q : (eqb x (o 1) || eqb x (o 2)) ≡ true). either-of x (o 1) (o 2) q (and-left _ _ h) (operand-2 _ h))
         (λ (q : eqb x (o 4) ≡ true). same x (o 4) q (operand-4 (leb (byte s (at + 1 + 1)) 3) (leb (byte s (at + 1 + 1 + 1)) 7) true h))
         (or-cases (eqb x (o 1) || eqb x (o 2)) (eqb x (o 4)) e)
-    plug-bounded h (strings y) e = absurd (false≢true e)
+    plug-bounded h (stringVariable y) e = absurd (false≢true e)
 
     plug-string-bounded : allInRange (operandsOf 0x36) s (at + 1) ≡ true → Bounded (step (plugString (o 1) (o 2) (o 3) (o 4)) (o 5) (o 6))
     unfolding allInRange operandsOf
-    plug-string-bounded h (templates x) e = either-of x (o 1) (o 2) e (and-left _ _ h) (operand-2 _ h)
-    plug-string-bounded h (strings y) e = same y (o 4) e (operand-4 (leb (byte s (at + 1 + 1)) 3) (leb (byte s (at + 1 + 1 + 1)) 7) true h)
+    plug-string-bounded h (templateVariable x) e = either-of x (o 1) (o 2) e (and-left _ _ h) (operand-2 _ h)
+    plug-string-bounded h (stringVariable y) e = same y (o 4) e (operand-4 (leb (byte s (at + 1 + 1)) 3) (leb (byte s (at + 1 + 1 + 1)) 7) true h)
 
     statement-bounded : Bounded (statementOf code o)
     statement-bounded =
@@ -187,7 +187,7 @@ statements-bounded (suc f) count s before at ts end e =
 
 in-range : {ts : List Statement} → AllBounded ts → InRange ts
 unfolding AllBounded
-in-range b = record { template = λ x e. b (templates x) e; string = λ y e. b (strings y) e }
+in-range b = record { template = λ x e. b (templateVariable x) e; string = λ y e. b (stringVariable y) e }
 
 not-strayed : (o : Option ℕ) (us : List Statement) (next : ℕ) (ts : List Statement) (end : ℕ) → unlessStrayed o (whole us next) ≡ whole ts end → AllBounded us → InRange ts
 not-strayed none us next ts end e b = let q : us ≡ ts = cc in in-range (subst AllBounded q b)

@@ -10,7 +10,7 @@ use borrow.Author.Tests.{lt-ltb, le-ltb, eq-eqb}
 use lib.Dec.{eqb, ltb}
 use Rattle.pages.specs.Items.{Items, none}
 use Rattle.pages.specs.RightPages.{Right, _∈_}
-use Rattle.programs.specs.Program.{Act, copyTemplate, setTemplate, copyString, setString, anyString, plug, plugString, show, Statement, step, stop, Variable, templates, strings, actNames, statementNames, named, statementAt}
+use Rattle.programs.specs.Program.{Act, copyTemplate, setTemplate, copyString, setString, anyString, plug, plugString, show, Statement, step, stop, Variable, templateVariable, stringVariable, actNames, statementNames, named, statementAt}
 use Rattle.programs.specs.Runs.{Choice, State, start, actTemplates, actStrings, actPages, after, stepped, runFrom, shown, closed}
 use Rattle.summaries.specs.ProposalReading.{variableOf}
 use Rattle.summaries.specs.Summaries.{Summary, Strings, Environment, transferTemplate, transferString, transfer, fragment}
@@ -25,8 +25,8 @@ use Rattle.soundness.proofs.Shows.{shown-in-language, template-zero}
 
 -- Variables that a statement of the program names are 0 to 3.
 pub record InRange (ts : List Statement) : Type 0 where
-  pub template : (x : ℕ) → named ts (templates x) ≡ true → x < 4
-  pub string : (y : ℕ) → named ts (strings y) ≡ true → y < 4
+  pub template : (x : ℕ) → named ts (templateVariable x) ≡ true → x < 4
+  pub string : (y : ℕ) → named ts (stringVariable y) ≡ true → y < 4
 
 -- What a statement of the program names, the program names.
 names-of : (ts : List Statement) (p : ℕ) (v : Variable) → statementNames (statementAt ts p) v ≡ true → named ts v ≡ true
@@ -42,37 +42,37 @@ module _ {A B : Type 0} (R : A → B → Type 0) where
 
 -- What one statement does, to the variables that the program names.
 module _ (φs : List Items) (E : Environment) (X : ℕ → Items) (Y : ℕ → ℕ) (N : Variable → Bool)
-    (hX : (x : ℕ) → N (templates x) ≡ true → Holds (E .template x) φs (X x))
-    (hY : (y : ℕ) → N (strings y) ≡ true → E .string y (Y y) ≡ true) where
+    (hX : (x : ℕ) → N (templateVariable x) ≡ true → Holds (E .template x) φs (X x))
+    (hY : (y : ℕ) → N (stringVariable y) ≡ true → E .string y (Y y) ≡ true) where
   abbrev R : Summary → Items → Type 0
   R S v = Holds S φs v
 
   abbrev Q : Strings → ℕ → Type 0
   Q S s = S s ≡ true
 
-  act-templates : (a : Act) → ((v : Variable) → actNames a v ≡ true → N v ≡ true) → (k : ℕ) → N (templates k) ≡ true
+  act-templates : (a : Act) → ((v : Variable) → actNames a v ≡ true → N v ≡ true) → (k : ℕ) → N (templateVariable k) ≡ true
       → Holds (transferTemplate φs a E k) φs (actTemplates φs a X Y k)
-  act-templates (copyTemplate x x′) n k e = cond-both R (eqb k x) (hX x′ (n (templates x′) (or-right (eqb x′ x) (eqb x′ x′) (eq-eqb x′ x′ refl)))) (hX k e)
+  act-templates (copyTemplate x x′) n k e = cond-both R (eqb k x) (hX x′ (n (templateVariable x′) (or-right (eqb x′ x) (eqb x′ x′) (eq-eqb x′ x′ refl)))) (hX k e)
   act-templates (setTemplate x t) n k e = cond-both R (eqb k x) (set-template φs t) (hX k e)
   act-templates (copyString y y′) n k e = hX k e
   act-templates (setString y s) n k e = hX k e
   act-templates (anyString y) n k e = hX k e
   act-templates (plug x x′ g x″) n k e = cond-both R (eqb k x)
       (plug-holds g
-      (hX x′ (n (templates x′) (or-left (eqb x′ x || eqb x′ x′) (eqb x′ x″) (or-right (eqb x′ x) (eqb x′ x′) (eq-eqb x′ x′ refl)))))
-      (hX x″ (n (templates x″) (or-right (eqb x″ x || eqb x″ x′) (eqb x″ x″) (eq-eqb x″ x″ refl)))))
+      (hX x′ (n (templateVariable x′) (or-left (eqb x′ x || eqb x′ x′) (eqb x′ x″) (or-right (eqb x′ x) (eqb x′ x′) (eq-eqb x′ x′ refl)))))
+      (hX x″ (n (templateVariable x″) (or-right (eqb x″ x || eqb x″ x′) (eqb x″ x″) (eq-eqb x″ x″ refl)))))
       (hX k e)
   act-templates (plugString x x′ h y) n k e = cond-both R (eqb k x)
-      (plug-string-holds h (E .string y) (Y y) (hY y (n (strings y) (eq-eqb y y refl)))
-      (hX x′ (n (templates x′) (or-right (eqb x′ x) (eqb x′ x′) (eq-eqb x′ x′ refl)))))
+      (plug-string-holds h (E .string y) (Y y) (hY y (n (stringVariable y) (eq-eqb y y refl)))
+      (hX x′ (n (templateVariable x′) (or-right (eqb x′ x) (eqb x′ x′) (eq-eqb x′ x′ refl)))))
       (hX k e)
   act-templates (show x) n k e = hX k e
 
-  act-strings : (a : Act) (s : ℕ) → ((v : Variable) → actNames a v ≡ true → N v ≡ true) → (k : ℕ) → N (strings k) ≡ true
+  act-strings : (a : Act) (s : ℕ) → ((v : Variable) → actNames a v ≡ true → N v ≡ true) → (k : ℕ) → N (stringVariable k) ≡ true
       → transferString a E k (actStrings a s Y k) ≡ true
   act-strings (copyTemplate x x′) s n k e = hY k e
   act-strings (setTemplate x t) s n k e = hY k e
-  act-strings (copyString y y′) s n k e = cond-both Q (eqb k y) (hY y′ (n (strings y′) (or-right (eqb y′ y) (eqb y′ y′) (eq-eqb y′ y′ refl)))) (hY k e)
+  act-strings (copyString y y′) s n k e = cond-both Q (eqb k y) (hY y′ (n (stringVariable y′) (or-right (eqb y′ y) (eqb y′ y′) (eq-eqb y′ y′ refl)))) (hY k e)
   act-strings (setString y t) s n k e = cond-both Q (eqb k y) (eq-eqb t t refl) (hY k e)
   act-strings (anyString y) s n k e = cond-both Q (eqb k y) refl (hY k e)
   act-strings (plug x x′ g x″) s n k e = hY k e
@@ -82,14 +82,14 @@ module _ (φs : List Items) (E : Environment) (X : ℕ → Items) (Y : ℕ → �
 module _ (π : Script) (E : ℕ → Environment) (in-range : InRange (π .program)) (covered : AllCovered π E) (shows : (p : ℕ) → ShowHolds π E p) where
   -- What holds at each point of a run.
   pub record Invariant (σ : State) : Type 0 where
-    pub template : (x : ℕ) → named (π .program) (templates x) ≡ true → Holds (E (σ .point) .template x) (π .templates) (σ .template x)
-    pub string : (y : ℕ) → named (π .program) (strings y) ≡ true → E (σ .point) .string y (σ .string y) ≡ true
+    pub template : (x : ℕ) → named (π .program) (templateVariable x) ≡ true → Holds (E (σ .point) .template x) (π .templates) (σ .template x)
+    pub string : (y : ℕ) → named (π .program) (stringVariable y) ≡ true → E (σ .point) .string y (σ .string y) ≡ true
     pub pages : (page : Items) → page ∈ (σ .pages) → Right (π .vocabulary) page
 
-  template-number : (x : ℕ) → x < 4 → variableOf x ≡ templates x
+  template-number : (x : ℕ) → x < 4 → variableOf x ≡ templateVariable x
   template-number x h = rw (lt-ltb x 4 h)
 
-  string-number : (y : ℕ) → y < 4 → variableOf (y + 4) ≡ strings y
+  string-number : (y : ℕ) → y < 4 → variableOf (y + 4) ≡ stringVariable y
   string-number y h =
       let e : ltb (y + 4) 4 ≡ false = le-ltb (y + 4) 4 (omega arith) in
       let q : y + 4 - 4 ≡ y = omega arith in
@@ -121,7 +121,7 @@ module _ (π : Script) (E : ℕ → Environment) (in-range : InRange (π .progra
         → StepCovered (π .templates) (π .program) E (σ .point) a (cond second q′ q) (variableOf n)
     covers second n h = subst (λ (t : Statement). StatementHolds π E (σ .point) t second n) at (covered .steps (σ .point) second n h)
 
-    next-template : (second : Bool) (x : ℕ) → named (π .program) (templates x) ≡ true
+    next-template : (second : Bool) (x : ℕ) → named (π .program) (templateVariable x) ≡ true
         → Holds (E (cond second q′ q) .template x) (π .templates) (actTemplates (π .templates) a (σ .template) (σ .string) x)
     next-template second x n = within-holds
         (subst (λ (v : Variable). named (π .program) v ≡ true
@@ -129,7 +129,7 @@ module _ (π : Script) (E : ℕ → Environment) (in-range : InRange (π .progra
         (template-number x (in-range .template x n)) (covers second x (omega (arith, in-range .template x n))) n)
         (act-templates (π .templates) (E (σ .point)) (σ .template) (σ .string) (named (π .program)) (i .template) (i .string) a names x n)
 
-    next-string : (second : Bool) (s y : ℕ) → named (π .program) (strings y) ≡ true
+    next-string : (second : Bool) (s y : ℕ) → named (π .program) (stringVariable y) ≡ true
         → E (cond second q′ q) .string y (actStrings a s (σ .string) y) ≡ true
     next-string second s y n =
         subst (λ (v : Variable). named (π .program) v ≡ true
@@ -153,7 +153,7 @@ module _ (π : Script) (E : ℕ → Environment) (in-range : InRange (π .progra
         go (show x) e m = subst (Right (π .vocabulary)) (sym (List·Memᴰ·eq-of-singleton m))
             (shows (σ .point) (closedSummary (E (σ .point) .template x))
             (graph-at (σ .point) x e) (closed (σ .template x))
-            (shown-in-language (i .template x (names-of (π .program) (σ .point) (templates x) (rw e (eq-eqb x x refl))))))
+            (shown-in-language (i .template x (names-of (π .program) (σ .point) (templateVariable x) (rw e (eq-eqb x x refl))))))
 
   keeps : (c : Choice) (σ : State) (t : Statement) → statementAt (π .program) (σ .point) ≡ t → Invariant σ → Invariant (after (π .templates) t c σ)
   keeps c σ stop e i = i

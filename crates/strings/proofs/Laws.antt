@@ -7,7 +7,7 @@ use native.Mathlib.Nat.{eq-or-lt-of-le, le-of-suc-le-suc}
 use native.Mathlib.Omega.{arith}
 use lib.Dec.{eqb, ltb, lit<}
 use borrow.Author.Tests.{ltb-true, ltb-false, eqb-true, eqb-false}
-use Rattle.sets.specs.Sets.{member, Within, FirstMember}
+use Rattle.sets.specs.Sets.{member, MembersWithin, FirstMember}
 use Rattle.sets.proofs.Laws.{member-high}
 use Rattle.strings.specs.declared.StringSet.{StringSet}
 use Rattle.strings.specs.declared.Values.{Values}
@@ -42,7 +42,7 @@ all-strings s = go (ltb s strings) refl
 pub outside : (set : StringSet) → set .word < 2 ^ 64 → (s : ℕ) → strings ≤ s → hasString set s ≡ false
 outside set b s l = member-high 64 (set .word) s b l
 
-pub strings-within : (a b : StringSet) (t : Bool) → Within (a .word) (b .word) t → StringsWithin a b t
+pub strings-within : (a b : StringSet) (t : Bool) → MembersWithin (a .word) (b .word) t → StringsWithin a b t
 strings-within a b true h = h
 strings-within a b false h = h
 

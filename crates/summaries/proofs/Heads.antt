@@ -21,19 +21,19 @@ use Rattle.commands.specs.Commands.{byte, allowed, command, operandsOf}
 use Rattle.commands.specs.Reading.{Read, whole, refused, andThen, onDecoded, when, enough}
 use Rattle.commands.specs.Parts.{AgreesAs, Enough, partOf}
 use Rattle.commands.proofs.Laws.{MovedOver, moved}
-use Rattle.programs.specs.Program.{templates, strings}
+use Rattle.programs.specs.Program.{templateVariable, stringVariable}
 use Rattle.programs.proofs.Laws.{nth, entry-low, WholeAs, agrees-map, agrees-whole, agrees-refused, enough-enough, enough-after, fewer-left, Stay}
-use Rattle.summaries.specs.Proposal.{Fact, Head}
-use Rattle.summaries.specs.ProposalReading.{facts, variableOf, factContext, proposal}
+use Rattle.summaries.specs.Proposal.{Holding, Head}
+use Rattle.summaries.specs.ProposalReading.{holdings, variableOf, holdingContext, proposal}
 use Rattle.summaries.specs.Summaries.{sameVariable, under}
-use Rattle.summaries.specs.Promises.{Stand, Kept, ProposalReads, FactsRead, testedHead, headHere}
+use Rattle.summaries.specs.Promises.{Stand, Kept, ProposalReads, HoldingsRead, testedHead, headHere}
 use Rattle.summaries.proofs.Here.{HeadStands}
-use Rattle.summaries.proofs.Reading.{facts-same}
+use Rattle.summaries.proofs.Reading.{holdings-same}
 
 -- Two heads are of one point and variable where their numbers are the same.
 module _ (a b : ℕ) where
   by-sorts : (c d : Bool) → ltb a 4 ≡ c → ltb b 4 ≡ d
-      → sameVariable (cond c (templates a) (strings (a - 4))) (cond d (templates b) (strings (b - 4))) ≡ eqb a b
+      → sameVariable (cond c (templateVariable a) (stringVariable (a - 4))) (cond d (templateVariable b) (stringVariable (b - 4))) ≡ eqb a b
   by-sorts true true e e′ = refl
   by-sorts true false e e′ = sym (ne-eqb a b λ q. let l = ltb-true a 4 e in let l′ = ltb-false b 4 e′ in omega arith)
   by-sorts false true e e′ = sym (ne-eqb a b λ q. let l = ltb-false a 4 e in let l′ = ltb-true b 4 e′ in omega arith)
@@ -72,8 +72,8 @@ unwritten-after least n at heads l u = record { zero-at = λ k h. getD-set-other
 
 module _ (count points : ℕ) (s : List ℕ) (least at : ℕ) where
   -- The reading goes by what is read here.
-  abbrev made : List Fact → Head
-  made φs = record { point = byte s (at + 1); variable = variableOf (byte s (at + 2)); facts = φs }
+  abbrev made : List Holding → Head
+  made φs = record { point = byte s (at + 1); variable = variableOf (byte s (at + 2)); holdings = φs }
 
   abbrev number : ℕ
   number = byte s (at + 1) * 8 + byte s (at + 2)
@@ -81,7 +81,7 @@ module _ (count points : ℕ) (s : List ℕ) (least at : ℕ) where
   abbrev onHead : ℕ → Decoded → Read (List Head)
   onHead f d = onDecoded d λ code next. when (eqb code 0x4F)
       (λ _. whole [] next)
-      (λ _. andThen (facts f (factContext (variableOf (byte s (at + 2)))) count s 0 next) λ φs after.
+      (λ _. andThen (holdings f (holdingContext (variableOf (byte s (at + 2)))) count s 0 next) λ φs after.
       andThen (proposal f count points s (number + 1) after) λ hs end. whole (made φs ∷ hs) end)
 
   by-tests : (f code : ℕ) (next : Position) (b₁ b₂ b₃ : Bool)
@@ -90,7 +90,7 @@ module _ (count points : ℕ) (s : List ℕ) (least at : ℕ) where
       (λ _. whole [] (next .at))
       (λ _. when b₂
       (λ _. when b₃
-      (λ _. andThen (facts f (factContext (variableOf (byte s (at + 2)))) count s 0 (next .at)) λ φs after.
+      (λ _. andThen (holdings f (holdingContext (variableOf (byte s (at + 2)))) count s 0 (next .at)) λ φs after.
       andThen (proposal f count points s (number + 1) after) λ hs end. whole (made φs ∷ hs) end)
       (λ _. refused NotRising at))
       (λ _. refused Missing at))
@@ -108,7 +108,7 @@ module _ (count points : ℕ) (s : List ℕ) (least at : ℕ) where
           (λ _. whole [] next)
           (λ _. when (ltb (byte s (at + 1)) points)
           (λ _. when (leb least (byte s (at + 1) * 8 + byte s (at + 2)))
-          (λ _. andThen (facts f (factContext (variableOf (byte s (at + 2)))) count s 0 next) λ φs after.
+          (λ _. andThen (holdings f (holdingContext (variableOf (byte s (at + 2)))) count s 0 next) λ φs after.
           andThen (proposal f count points s (number + 1) after) λ hs end. whole (made φs ∷ hs) end)
           (λ _. refused NotRising at))
           (λ _. refused Missing at))) ≡ onHead f (testedHead points s least at d)
@@ -136,16 +136,16 @@ module _ (count points : ℕ) (s : List ℕ) (least at : ℕ) where
 
   module _ (d : Decoded) (code : ℕ) (next : Position) (d-is : d ≡ headHere points s least at) (e : d ≡ Moved code next) (on : code ≡ 0x4F → ⊥) (m : HeadStands points s least at code next) where
     reads-items : (f : ℕ) → proposal (suc f) count points s least at
-        ≡ (andThen (facts f (factContext (variableOf (byte s (at + 2)))) count s 0 (next .at)) λ φs after.
+        ≡ (andThen (holdings f (holdingContext (variableOf (byte s (at + 2)))) count s 0 (next .at)) λ φs after.
         andThen (proposal f count points s (number + 1) after) λ hs end. whole (made φs ∷ hs) end)
     reads-items f = reads-here f ∙ rw (← d-is, e, ne-eqb code 0x4F on)
 
-    pub items-refused : (part : Part) (form : Form) (n : ℕ) (heads : List ℕ) → FactsRead (factContext (variableOf (byte s (at + 2)))) count s 0 (next .at) part
+    pub items-refused : (part : Part) (form : Form) (n : ℕ) (heads : List ℕ) → HoldingsRead (holdingContext (variableOf (byte s (at + 2)))) count s 0 (next .at) part
         → part ≡ Parts.Refused form n → ProposalReads count points s least at heads part
     items-refused part form n heads read q zero h = absurd (omega arith)
     items-refused part form n heads read q (suc f) h =
         rw (reads-items f)
-        (agrees-refused (λ φs end. next .at ≤ end) (λ hs end. Kept count s least heads hs) (facts f (factContext (variableOf (byte s (at + 2)))) count s 0 (next .at))
+        (agrees-refused (λ φs end. next .at ≤ end) (λ hs end. Kept count s least heads hs) (holdings f (holdingContext (variableOf (byte s (at + 2)))) count s 0 (next .at))
         (λ φs after. andThen (proposal f count points s (number + 1) after) λ hs end. whole (made φs ∷ hs) end) part form n q
         (read f (enough-after Heads s at code next (m .read) f h)))
 
@@ -168,12 +168,12 @@ module _ (points : ℕ) (s : List ℕ) (least at code : ℕ) (next : Position) (
   variable-there = entry-low s at (byte s at) 0x40 1 2 (byte s (at + 2)) (over .ranges) is-head refl refl refl
 
 -- What stands under the first head, and under the others.
-module _ (p a : ℕ) (φs : List Fact) (hs : List Head) (la : a < 8) (q b : ℕ) (lb : b < 8) where
-  under-first : q * 8 + b ≡ p * 8 + a → under (record { point = p; variable = variableOf a; facts = φs } ∷ hs) q (variableOf b) ≡ φs
+module _ (p a : ℕ) (φs : List Holding) (hs : List Head) (la : a < 8) (q b : ℕ) (lb : b < 8) where
+  under-first : q * 8 + b ≡ p * 8 + a → under (record { point = p; variable = variableOf a; holdings = φs } ∷ hs) q (variableOf b) ≡ φs
   unfolding under
   under-first e = rw (same-number p a q b la lb, eq-eqb (p * 8 + a) (q * 8 + b) (sym e))
 
-  under-other : (q * 8 + b ≡ p * 8 + a → ⊥) → under (record { point = p; variable = variableOf a; facts = φs } ∷ hs) q (variableOf b) ≡ under hs q (variableOf b)
+  under-other : (q * 8 + b ≡ p * 8 + a → ⊥) → under (record { point = p; variable = variableOf a; holdings = φs } ∷ hs) q (variableOf b) ≡ under hs q (variableOf b)
   unfolding under
   under-other n = rw (same-number p a q b la lb, ne-eqb (p * 8 + a) (q * 8 + b) (λ e. n (sym e)))
 
@@ -183,11 +183,11 @@ stand-as count s hs hs′ p v o e S = record {
   some = λ q f h. (S .some q f h .0, rw e (S .some q f h .1));
 }
 
-module _ (count : ℕ) (s : List ℕ) (least p a at : ℕ) (φs : List Fact) (hs : List Head) (heads : List ℕ) (la : a < 8) (rises : least ≤ p * 8 + a)
+module _ (count : ℕ) (s : List ℕ) (least p a at : ℕ) (φs : List Holding) (hs : List Head) (heads : List ℕ) (la : a < 8) (rises : least ≤ p * 8 + a)
     (here : getD heads (p * 8 + a) 0 ≡ at) (past : 0 < at) (passed : (k : ℕ) → least ≤ k → k < p * 8 + a → getD heads k 0 ≡ 0)
-    (items : (f : ℕ) → Enough s at f → (end : ℕ) × (facts f (factContext (variableOf a)) count s 0 at ≡ whole φs end)) (K : Kept count s (p * 8 + a + 1) heads hs) where
+    (items : (f : ℕ) → Enough s at f → (end : ℕ) × (holdings f (holdingContext (variableOf a)) count s 0 at ≡ whole φs end)) (K : Kept count s (p * 8 + a + 1) heads hs) where
   abbrev more : List Head
-  more = record { point = p; variable = variableOf a; facts = φs } ∷ hs
+  more = record { point = p; variable = variableOf a; holdings = φs } ∷ hs
 
   module _ (q b : ℕ) (lb : b < 8) where
     stands-here : q * 8 + b ≡ p * 8 + a → Stand count s more q b at
@@ -219,19 +219,19 @@ module _ (count : ℕ) (s : List ℕ) (least p a at : ℕ) (φs : List Fact) (hs
 
 module _ (count points : ℕ) (s : List ℕ) (least at : ℕ) (d : Decoded) (code : ℕ) (next : Position) (d-is : d ≡ headHere points s least at) (e : d ≡ Moved code next)
     (on : code ≡ 0x4F → ⊥) (m : HeadStands points s least at code next) (v : ℕ) (v-is : v ≡ byte s (at + 2))
-    (x : Context) (x-is : x ≡ factContext (variableOf v)) (part : Part) (read : FactsRead x count s 0 (next .at) part) where
+    (x : Context) (x-is : x ≡ holdingContext (variableOf v)) (part : Part) (read : HoldingsRead x count s 0 (next .at) part) where
   abbrev context : Context
-  context = factContext (variableOf (byte s (at + 2)))
+  context = holdingContext (variableOf (byte s (at + 2)))
 
-  read-there : FactsRead context count s 0 (next .at) part
+  read-there : HoldingsRead context count s 0 (next .at) part
   read-there = rw (x-is, v-is) at read
 
   pub items-refuse : (form : Form) (k : ℕ) (heads : List ℕ) → part ≡ Parts.Refused form k → ProposalReads count points s least at heads part
   items-refuse form k heads q = items-refused count points s least at d code next d-is e on m part form k heads read-there q
 
   module _ (after : Position) (is-whole : part ≡ Parts.Whole after) where
-    items : (f : ℕ) → Enough s (next .at) f → WholeAs (λ φs end. next .at ≤ end) (facts f context count s 0 (next .at)) after
-    items f h = agrees-whole (λ φs end. next .at ≤ end) (facts f context count s 0 (next .at)) part after is-whole (read-there f h)
+    items : (f : ℕ) → Enough s (next .at) f → WholeAs (λ φs end. next .at ≤ end) (holdings f context count s 0 (next .at)) after
+    items f h = agrees-whole (λ φs end. next .at ≤ end) (holdings f context count s 0 (next .at)) part after is-whole (read-there f h)
 
     forward : next .at ≤ after .at
     forward = let W = items (enough s) (enough-enough s (next .at)) in let l = W .holds in let l′ = W .ends in omega arith
@@ -247,7 +247,7 @@ module _ (count points : ℕ) (s : List ℕ) (least at : ℕ) (d : Decoded) (cod
       passed : (k : ℕ) → least ≤ k → k < n → getD heads′ k 0 ≡ 0
       passed k l h = (stay .same k (omega arith) ∙ getD-set-other heads n k (next .at) 0 (λ q. omega arith)) ∙ unwritten .zero-at k l
 
-      kept-more : (φs : List Fact) → ((f : ℕ) → Enough s (next .at) f → (end : ℕ) × (facts f context count s 0 (next .at) ≡ whole φs end))
+      kept-more : (φs : List Holding) → ((f : ℕ) → Enough s (next .at) f → (end : ℕ) × (holdings f context count s 0 (next .at) ≡ whole φs end))
           → (hs : List Head) → Kept count s (n + 1) heads′ hs → Kept count s least heads′ (made count points s least at φs ∷ hs)
       kept-more φs stand hs K =
           kept-first count s least (byte s (at + 1)) (byte s (at + 2)) (next .at) φs hs heads′ (variable-there points s least at code next m on) (m .rises)
@@ -264,7 +264,7 @@ module _ (count points : ℕ) (s : List ℕ) (least at : ℕ) (d : Decoded) (cod
           rw (reads-items count points s least at d code next d-is e on m f, W .reads)
           (agrees-map (λ hs end. Kept count s (n + 1) heads′ hs) (λ hs end. Kept count s least heads′ hs) (λ hs. made count points s least at (W .tree) ∷ hs)
           (proposal f count points s (byte s (at + 1) * 8 + byte s (at + 2) + 1) (W .end)) r
-          (λ hs end. kept-more (W .tree) (λ g k. (W .end, facts-same context count s 0 (next .at) g f k fuel ∙ W .reads)) hs) rest)
+          (λ hs end. kept-more (W .tree) (λ g k. (W .end, holdings-same context count s 0 (next .at) g f k fuel ∙ W .reads)) hs) rest)
 
 pub number-low : (points : ℕ) (s : List ℕ) (least at code : ℕ) (next : Position) (n : ℕ) → HeadStands points s least at code next → (code ≡ 0x4F → ⊥) → points ≤ 32
     → n ≡ byte s (at + 1) * 8 + byte s (at + 2) → n < 256

@@ -14,67 +14,67 @@ use Rattle.commands.specs.declared.Position.{Position}
 use Rattle.commands.specs.declared.Decoded.{Decoded}
 use Rattle.commands.specs.declared.Decoded.the-variants.{Moved, Refused}
 use Rattle.commands.specs.Commands.{byte, command}
-use Rattle.summaries.specs.ProposalReading.{factAt, factThere, rank}
+use Rattle.summaries.specs.ProposalReading.{holdingAt, holdingThere, rank}
 use Rattle.summaries.specs.Promises.{Ranked, testedHead, headHere}
 
 -- An item with what is tested on it alone, in document 01's order: 8 before 5.
-abbrev pub testedFact : ℕ → List ℕ → ℕ → ℕ → Decoded → Decoded
-testedFact count s least at (Moved code next) =
-    cond (factThere count (factAt s at code))
+abbrev pub testedHolding : ℕ → List ℕ → ℕ → ℕ → Decoded → Decoded
+testedHolding count s least at (Moved code next) =
+    cond (holdingThere count (holdingAt s at code))
     (cond (leb least (rank s at code)) (Moved code next) (Refused NotRising at))
     (Refused Missing at)
-testedFact count s least at (Refused form n) = Refused form n
+testedHolding count s least at (Refused form n) = Refused form n
 
-abbrev pub factHere : Context → ℕ → List ℕ → ℕ → ℕ → Decoded
-factHere x count s least at = testedFact count s least at (command x s at)
+abbrev pub holdingHere : Context → ℕ → List ℕ → ℕ → ℕ → Decoded
+holdingHere x count s least at = testedHolding count s least at (command x s at)
 
 never-moves : {A : Type 0} (f : Form) (n code : ℕ) (next : Position) → Refused f n ≡ Moved code next → A
 never-moves f n code next e = absurd (let z : _≡_ {A = ℕ} 0 1 = cc in omega arith)
 
 module _ (x : Context) (count : ℕ) (s : List ℕ) (least at : ℕ) (d : Decoded) (d-is : d ≡ command x s at) where
-  told : testedFact count s least at d ≡ factHere x count s least at
+  told : testedHolding count s least at d ≡ holdingHere x count s least at
   told = rw d-is
 
-  pub fact-refused : (form : Form) (n : ℕ) → d ≡ Refused form n → d ≡ factHere x count s least at
-  fact-refused form n e = (e ∙ sym (ap (testedFact count s least at) e)) ∙ told
+  pub holding-refused : (form : Form) (n : ℕ) → d ≡ Refused form n → d ≡ holdingHere x count s least at
+  holding-refused form n e = (e ∙ sym (ap (testedHolding count s least at) e)) ∙ told
 
-  module _ (code : ℕ) (next : Position) (e : d ≡ Moved code next) (b : Bool) (b-is : b ≡ factThere count (factAt s at code)) where
-    goes : testedFact count s least at (Moved code next) ≡ factHere x count s least at
-    goes = sym (ap (testedFact count s least at) e) ∙ told
+  module _ (code : ℕ) (next : Position) (e : d ≡ Moved code next) (b : Bool) (b-is : b ≡ holdingThere count (holdingAt s at code)) where
+    goes : testedHolding count s least at (Moved code next) ≡ holdingHere x count s least at
+    goes = sym (ap (testedHolding count s least at) e) ∙ told
 
-    pub fact-missing : not b ≡ true → Refused Missing at ≡ factHere x count s least at
-    fact-missing h = let f : factThere count (factAt s at code) ≡ false = sym b-is ∙ not-true b h in sym (rw f) ∙ goes
+    pub holding-missing : not b ≡ true → Refused Missing at ≡ holdingHere x count s least at
+    holding-missing h = let f : holdingThere count (holdingAt s at code) ≡ false = sym b-is ∙ not-true b h in sym (rw f) ∙ goes
 
     module _ (h : not b ≡ false) (r : ℕ) (ranks : Ranked s at code r) where
-      there : factThere count (factAt s at code) ≡ true
+      there : holdingThere count (holdingAt s at code) ≡ true
       there = sym b-is ∙ not-false b h
 
-      pub fact-not-rising : r < least → Refused NotRising at ≡ factHere x count s least at
-      fact-not-rising l = let o : leb least (rank s at code) ≡ false = lt-leb _ _ (rw (ranks .is) at l) in sym (rw (there, o)) ∙ goes
+      pub holding-not-rising : r < least → Refused NotRising at ≡ holdingHere x count s least at
+      holding-not-rising l = let o : leb least (rank s at code) ≡ false = lt-leb _ _ (rw (ranks .is) at l) in sym (rw (there, o)) ∙ goes
 
-      pub fact-moves : least ≤ r → Moved code next ≡ factHere x count s least at
-      fact-moves l = let o : leb least (rank s at code) ≡ true = le-leb _ _ (rw (ranks .is) at l) in sym (rw (there, o)) ∙ goes
+      pub holding-moves : least ≤ r → Moved code next ≡ holdingHere x count s least at
+      holding-moves l = let o : leb least (rank s at code) ≡ true = le-leb _ _ (rw (ranks .is) at l) in sym (rw (there, o)) ∙ goes
 
 -- An item that may stand at an offset.
-pub record FactStands (x : Context) (count : ℕ) (s : List ℕ) (least at code : ℕ) (next : Position) : Type 0 where
+pub record HoldingStands (x : Context) (count : ℕ) (s : List ℕ) (least at code : ℕ) (next : Position) : Type 0 where
   pub read : command x s at ≡ Moved code next
-  pub there : factThere count (factAt s at code) ≡ true
+  pub there : holdingThere count (holdingAt s at code) ≡ true
   pub rises : least ≤ rank s at code
 
 module _ (x : Context) (count : ℕ) (s : List ℕ) (least at : ℕ) where
-  by-fact-tests : (code code′ : ℕ) (next next′ : Position) (b₁ b₂ : Bool) → factThere count (factAt s at code) ≡ b₁ → leb least (rank s at code) ≡ b₂
+  by-holding-tests : (code code′ : ℕ) (next next′ : Position) (b₁ b₂ : Bool) → holdingThere count (holdingAt s at code) ≡ b₁ → leb least (rank s at code) ≡ b₂
       → cond b₁ (cond b₂ (Moved code next) (Refused NotRising at)) (Refused Missing at) ≡ Moved code′ next′
-      → command x s at ≡ Moved code next → FactStands x count s least at code′ next′
-  by-fact-tests code code′ next next′ true true e₁ e₂ e r =
+      → command x s at ≡ Moved code next → HoldingStands x count s least at code′ next′
+  by-holding-tests code code′ next next′ true true e₁ e₂ e r =
       let q : code ≡ code′ = cc in record { read = r ∙ e; there = rw q at e₁; rises = leb-true _ _ (rw q at e₂) }
-  by-fact-tests code code′ next next′ true false e₁ e₂ e r = never-moves _ _ _ _ e
-  by-fact-tests code code′ next next′ false b₂ e₁ e₂ e r = never-moves _ _ _ _ e
+  by-holding-tests code code′ next next′ true false e₁ e₂ e r = never-moves _ _ _ _ e
+  by-holding-tests code code′ next next′ false b₂ e₁ e₂ e r = never-moves _ _ _ _ e
 
-  pub fact-stands : (d : Decoded) (code : ℕ) (next : Position) → d ≡ factHere x count s least at → d ≡ Moved code next → FactStands x count s least at code next
-  fact-stands d code next d-is e = by-decoded (command x s at) refl (sym d-is ∙ e)
+  pub holding-stands : (d : Decoded) (code : ℕ) (next : Position) → d ≡ holdingHere x count s least at → d ≡ Moved code next → HoldingStands x count s least at code next
+  holding-stands d code next d-is e = by-decoded (command x s at) refl (sym d-is ∙ e)
     where
-      by-decoded : (d : Decoded) → command x s at ≡ d → testedFact count s least at d ≡ Moved code next → FactStands x count s least at code next
-      by-decoded (Moved code′ next′) r q = by-fact-tests code′ code next′ next (factThere count (factAt s at code′)) (leb least (rank s at code′)) refl refl q r
+      by-decoded : (d : Decoded) → command x s at ≡ d → testedHolding count s least at d ≡ Moved code next → HoldingStands x count s least at code next
+      by-decoded (Moved code′ next′) r q = by-holding-tests code′ code next′ next (holdingThere count (holdingAt s at code′)) (leb least (rank s at code′)) refl refl q r
       by-decoded (Refused form n) r q = never-moves form n code next q
 
 module _ (points : ℕ) (s : List ℕ) (least at : ℕ) (d : Decoded) (d-is : d ≡ command Heads s at) where

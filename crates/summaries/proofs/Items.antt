@@ -7,19 +7,19 @@ use lib.Dec.{eqb}
 use borrow.Author.Tests.{ne-eqb}
 use Rattle.commands.specs.Commands.{byte, operandBytes}
 use Rattle.summaries.specs.Proposal.{oneString, anyString}
-use Rattle.summaries.specs.ProposalReading.{factAt, factThere, rank}
+use Rattle.summaries.specs.ProposalReading.{holdingAt, holdingThere, rank}
 use Rattle.summaries.specs.Promises.{presentAt}
 
 -- The command is none of `41` to `46`, as a match has it.
 abbrev pub NoneOfThese : ℕ → Type 0
 NoneOfThese code = ((((((Unit {0}) × (code ≡ 0x41 → ⊥)) × (code ≡ 0x42 → ⊥)) × (code ≡ 0x43 → ⊥)) × (code ≡ 0x44 → ⊥)) × (code ≡ 0x45 → ⊥)) × (code ≡ 0x46 → ⊥)
 
-pub no-template : (count : ℕ) (s : List ℕ) (at code : ℕ) → NoneOfThese code → true ≡ factThere count (factAt s at code)
+pub no-template : (count : ℕ) (s : List ℕ) (at code : ℕ) → NoneOfThese code → true ≡ holdingThere count (holdingAt s at code)
 no-template count s at code n =
     rw (ne-eqb code 0x41 (n .0 .0 .0 .0 .0 .1), ne-eqb code 0x42 (n .0 .0 .0 .0 .1), ne-eqb code 0x43 (n .0 .0 .0 .1), ne-eqb code 0x44 (n .0 .0 .1), ne-eqb code 0x45 (n .0 .1), ne-eqb code 0x46 (n .1))
     (both (eqb code 0x47))
   where
-    both : (b : Bool) → true ≡ factThere count (cond b (oneString (byte s (at + 1))) anyString)
+    both : (b : Bool) → true ≡ holdingThere count (cond b (oneString (byte s (at + 1))) anyString)
     both true = refl
     both false = refl
 

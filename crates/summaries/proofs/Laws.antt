@@ -1,4 +1,4 @@
 -- What the layers above cite.
-pub use Rattle.summaries.proofs.Here.{FactStands}
-pub use Rattle.summaries.proofs.Reading.{facts-same, FirstFact, no-fact, first-fact}
+pub use Rattle.summaries.proofs.Here.{HoldingStands}
+pub use Rattle.summaries.proofs.Reading.{holdings-same, FirstHolding, no-holding, first-holding}
 pub use Rattle.summaries.proofs.Heads.{zeros}

@@ -20,43 +20,43 @@ use Rattle.commands.specs.Reading.{Read, whole, refused, andThen, onDecoded, wh
 use Rattle.commands.specs.Parts.{Enough, partOf}
 use Rattle.commands.proofs.Laws.{andThen-whole, onDecoded-whole}
 use Rattle.programs.proofs.Laws.{agrees-map, enough-after, fewer-left}
-use Rattle.summaries.specs.Proposal.{Fact}
-use Rattle.summaries.specs.ProposalReading.{factAt, factThere, rank, facts}
-use Rattle.summaries.specs.Promises.{Ranked, FactsRead}
-use Rattle.summaries.proofs.Here.{testedFact, factHere, fact-refused, fact-missing, fact-not-rising, fact-moves, FactStands, fact-stands}
+use Rattle.summaries.specs.Proposal.{Holding}
+use Rattle.summaries.specs.ProposalReading.{holdingAt, holdingThere, rank, holdings}
+use Rattle.summaries.specs.Promises.{Ranked, HoldingsRead}
+use Rattle.summaries.proofs.Here.{testedHolding, holdingHere, holding-refused, holding-missing, holding-not-rising, holding-moves, HoldingStands, holding-stands}
 
 module _ (x : Context) (count : ℕ) (s : List ℕ) (least at : ℕ) where
   -- The reading goes by what is read here.
-  abbrev onFact : ℕ → Decoded → Read (List Fact)
-  onFact f d = onDecoded d λ code next. andThen (facts f x count s (rank s at code + 1) next) λ φs end. whole (factAt s at code ∷ φs) end
+  abbrev onHolding : ℕ → Decoded → Read (List Holding)
+  onHolding f d = onDecoded d λ code next. andThen (holdings f x count s (rank s at code + 1) next) λ φs end. whole (holdingAt s at code ∷ φs) end
 
   by-tests : (f code : ℕ) (next : Position) (b₁ b₂ : Bool)
       → when b₁
       (λ _. when b₂
-      (λ _. andThen (facts f x count s (rank s at code + 1) (next .at)) λ φs end. whole (factAt s at code ∷ φs) end)
+      (λ _. andThen (holdings f x count s (rank s at code + 1) (next .at)) λ φs end. whole (holdingAt s at code ∷ φs) end)
       (λ _. refused NotRising at))
       (λ _. refused Missing at)
-      ≡ onFact f (cond b₁ (cond b₂ (Moved code next) (Refused NotRising at)) (Refused Missing at))
+      ≡ onHolding f (cond b₁ (cond b₂ (Moved code next) (Refused NotRising at)) (Refused Missing at))
   by-tests f code next true true = refl
   by-tests f code next true false = refl
   by-tests f code next false b₂ = refl
 
-  reads-here : (f : ℕ) → facts (suc f) x count s least at ≡ when (allowed x (byte s at)) (λ _. onFact f (factHere x count s least at)) (λ _. whole [] at)
-  unfolding facts
-  reads-here f = ap (λ (r : Read (List Fact)). when (allowed x (byte s at)) (λ _. r) (λ _. whole [] at)) (by-decoded (command x s at))
+  reads-here : (f : ℕ) → holdings (suc f) x count s least at ≡ when (allowed x (byte s at)) (λ _. onHolding f (holdingHere x count s least at)) (λ _. whole [] at)
+  unfolding holdings
+  reads-here f = ap (λ (r : Read (List Holding)). when (allowed x (byte s at)) (λ _. r) (λ _. whole [] at)) (by-decoded (command x s at))
     where
-      by-decoded : (d : Decoded) → onDecoded d (λ code next. when (factThere count (factAt s at code))
+      by-decoded : (d : Decoded) → onDecoded d (λ code next. when (holdingThere count (holdingAt s at code))
           (λ _. when (leb least (rank s at code))
-          (λ _. andThen (facts f x count s (rank s at code + 1) next) λ φs end. whole (factAt s at code ∷ φs) end)
+          (λ _. andThen (holdings f x count s (rank s at code + 1) next) λ φs end. whole (holdingAt s at code ∷ φs) end)
           (λ _. refused NotRising at))
-          (λ _. refused Missing at)) ≡ onFact f (testedFact count s least at d)
-      by-decoded (Moved code next) = by-tests f code next (factThere count (factAt s at code)) (leb least (rank s at code))
+          (λ _. refused Missing at)) ≡ onHolding f (testedHolding count s least at d)
+      by-decoded (Moved code next) = by-tests f code next (holdingThere count (holdingAt s at code)) (leb least (rank s at code))
       by-decoded (Refused form n) = refl
 
   -- A command that is no item ends them.
-  pub facts-end : (b : Bool) (code : ℕ) (here : Position) → here .at ≡ at → code ≡ byte s at → b ≡ allowed x code → not b ≡ true → FactsRead x count s least at (Parts.Whole here)
-  facts-end b code here h c-is b-is n zero e = absurd (omega arith)
-  facts-end b code here h c-is b-is n (suc f) e =
+  pub holdings-end : (b : Bool) (code : ℕ) (here : Position) → here .at ≡ at → code ≡ byte s at → b ≡ allowed x code → not b ≡ true → HoldingsRead x count s least at (Parts.Whole here)
+  holdings-end b code here h c-is b-is n zero e = absurd (omega arith)
+  holdings-end b code here h c-is b-is n (suc f) e =
       let no-item : allowed x (byte s at) ≡ false = rw c-is at (sym b-is ∙ not-true b n) in
       rw (reads-here f, no-item) (h, le-refl at)
 
@@ -64,77 +64,77 @@ module _ (x : Context) (count : ℕ) (s : List ℕ) (least at : ℕ) where
     an-item : allowed x (byte s at) ≡ true
     an-item = rw c-is at (sym b-is ∙ not-false b item)
 
-    reads-refusal : (form : Form) (n : ℕ) → Refused form n ≡ factHere x count s least at → FactsRead x count s least at (Parts.Refused form n)
+    reads-refusal : (form : Form) (n : ℕ) → Refused form n ≡ holdingHere x count s least at → HoldingsRead x count s least at (Parts.Refused form n)
     reads-refusal form n e zero h = absurd (omega arith)
     reads-refusal form n e (suc f) h = rw (reads-here f, an-item, ← e) (refl, refl)
 
     module _ (d : Decoded) (d-is : d ≡ command x s at) where
-      pub facts-refused : (form : Form) (n : ℕ) (part : Part) → d ≡ Refused form n → part ≡ partOf d → FactsRead x count s least at part
-      facts-refused form n part e p = rw (p, e) (reads-refusal form n (sym e ∙ fact-refused x count s least at d d-is form n e))
+      pub holdings-refused : (form : Form) (n : ℕ) (part : Part) → d ≡ Refused form n → part ≡ partOf d → HoldingsRead x count s least at part
+      holdings-refused form n part e p = rw (p, e) (reads-refusal form n (sym e ∙ holding-refused x count s least at d d-is form n e))
 
-      module _ (code : ℕ) (next : Position) (e : d ≡ Moved code next) (b′ : Bool) (there : b′ ≡ factThere count (factAt s at code)) where
-        pub facts-missing : not b′ ≡ true → FactsRead x count s least at (Parts.Refused Missing at)
-        facts-missing h = reads-refusal Missing at (fact-missing x count s least at d d-is code next e b′ there h)
+      module _ (code : ℕ) (next : Position) (e : d ≡ Moved code next) (b′ : Bool) (there : b′ ≡ holdingThere count (holdingAt s at code)) where
+        pub holdings-missing : not b′ ≡ true → HoldingsRead x count s least at (Parts.Refused Missing at)
+        holdings-missing h = reads-refusal Missing at (holding-missing x count s least at d d-is code next e b′ there h)
 
         module _ (h : not b′ ≡ false) (r : ℕ) (ranks : Ranked s at code r) where
-          pub facts-fall : r < least → FactsRead x count s least at (Parts.Refused NotRising at)
-          facts-fall l = reads-refusal NotRising at (fact-not-rising x count s least at d d-is code next e b′ there h r ranks l)
+          pub holdings-fall : r < least → HoldingsRead x count s least at (Parts.Refused NotRising at)
+          holdings-fall l = reads-refusal NotRising at (holding-not-rising x count s least at d d-is code next e b′ there h r ranks l)
 
-          pub facts-go-on : least ≤ r → (part : Part) → FactsRead x count s (r + 1) (next .at) part → FactsRead x count s least at part
-          facts-go-on l part later zero n = absurd (omega arith)
-          facts-go-on l part later (suc f) n =
-              rw (reads-here f, an-item, ← fact-moves x count s least at d d-is code next e b′ there h r ranks l, ← (ranks .is))
-              (agrees-map (λ φs end. next .at ≤ end) (λ φs end. at ≤ end) (λ φs. factAt s at code ∷ φs) (facts f x count s (r + 1) (next .at)) part
+          pub holdings-go-on : least ≤ r → (part : Part) → HoldingsRead x count s (r + 1) (next .at) part → HoldingsRead x count s least at part
+          holdings-go-on l part later zero n = absurd (omega arith)
+          holdings-go-on l part later (suc f) n =
+              rw (reads-here f, an-item, ← holding-moves x count s least at d d-is code next e b′ there h r ranks l, ← (ranks .is))
+              (agrees-map (λ φs end. next .at ≤ end) (λ φs end. at ≤ end) (λ φs. holdingAt s at code ∷ φs) (holdings f x count s (r + 1) (next .at)) part
               (λ φs end l. let w = fewer-left x s at code next (sym d-is ∙ e) in omega arith)
               (later f (enough-after x s at code next (sym d-is ∙ e) f n)))
 
 -- Two fuels that are enough read the same.
 module _ (x : Context) (count : ℕ) (s : List ℕ) (least at f g : ℕ) where
-  same-here : (d : Decoded) → d ≡ factHere x count s least at
-      → ((code : ℕ) (next : Position) → FactStands x count s least at code next → facts f x count s (rank s at code + 1) (next .at) ≡ facts g x count s (rank s at code + 1) (next .at))
-      → onFact x count s least at f d ≡ onFact x count s least at g d
-  same-here (Moved code next) e same = rw (same code next (fact-stands x count s least at (Moved code next) code next e refl))
+  same-here : (d : Decoded) → d ≡ holdingHere x count s least at
+      → ((code : ℕ) (next : Position) → HoldingStands x count s least at code next → holdings f x count s (rank s at code + 1) (next .at) ≡ holdings g x count s (rank s at code + 1) (next .at))
+      → onHolding x count s least at f d ≡ onHolding x count s least at g d
+  same-here (Moved code next) e same = rw (same code next (holding-stands x count s least at (Moved code next) code next e refl))
   same-here (Refused form n) e same = refl
 
-pub facts-same : (x : Context) (count : ℕ) (s : List ℕ) (least at f g : ℕ) → Enough s at f → Enough s at g → facts f x count s least at ≡ facts g x count s least at
-facts-same x count s least at zero g h h′ = absurd (omega arith)
-facts-same x count s least at (suc f) zero h h′ = absurd (omega arith)
-facts-same x count s least at (suc f) (suc g) h h′ =
+pub holdings-same : (x : Context) (count : ℕ) (s : List ℕ) (least at f g : ℕ) → Enough s at f → Enough s at g → holdings f x count s least at ≡ holdings g x count s least at
+holdings-same x count s least at zero g h h′ = absurd (omega arith)
+holdings-same x count s least at (suc f) zero h h′ = absurd (omega arith)
+holdings-same x count s least at (suc f) (suc g) h h′ =
     (reads-here x count s least at f
-    ∙ ap (λ (r : Read (List Fact)). when (allowed x (byte s at)) (λ _. r) (λ _. whole [] at))
-    (same-here x count s least at f g (factHere x count s least at) refl λ code next m.
-    facts-same x count s (rank s at code + 1) (next .at) f g (enough-after x s at code next (m .read) f h) (enough-after x s at code next (m .read) g h′)))
+    ∙ ap (λ (r : Read (List Holding)). when (allowed x (byte s at)) (λ _. r) (λ _. whole [] at))
+    (same-here x count s least at f g (holdingHere x count s least at) refl λ code next m.
+    holdings-same x count s (rank s at code + 1) (next .at) f g (enough-after x s at code next (m .read) f h) (enough-after x s at code next (m .read) g h′)))
     ∙ sym (reads-here x count s least at g)
 
 -- Items that were read whole: there is none, or there is a first, and the rest is read on.
-pub record FirstFact (x : Context) (count : ℕ) (s : List ℕ) (least at f : ℕ) (φs : List Fact) (end : ℕ) : Type 0 where
+pub record FirstHolding (x : Context) (count : ℕ) (s : List ℕ) (least at f : ℕ) (φs : List Holding) (end : ℕ) : Type 0 where
   pub code : ℕ
   pub next : Position
   pub fuel : ℕ
-  pub rest : List Fact
+  pub rest : List Holding
   pub fuel-is : f ≡ suc fuel
-  pub stands : FactStands x count s least at code next
-  pub is : φs ≡ factAt s at code ∷ rest
-  pub more : facts fuel x count s (rank s at code + 1) (next .at) ≡ whole rest end
+  pub stands : HoldingStands x count s least at code next
+  pub is : φs ≡ holdingAt s at code ∷ rest
+  pub more : holdings fuel x count s (rank s at code + 1) (next .at) ≡ whole rest end
 
-module _ (x : Context) (count : ℕ) (s : List ℕ) (least at : ℕ) (φs : List Fact) (end : ℕ) where
-  out-of-fuel : {A : Type 0} → facts zero x count s least at ≡ whole φs end → A
-  unfolding facts
+module _ (x : Context) (count : ℕ) (s : List ℕ) (least at : ℕ) (φs : List Holding) (end : ℕ) where
+  out-of-fuel : {A : Type 0} → holdings zero x count s least at ≡ whole φs end → A
+  unfolding holdings
   out-of-fuel e = absurd (let z : _≡_ {A = ℕ} 0 1 = cc in omega arith)
 
-  pub no-fact : (f : ℕ) → facts f x count s least at ≡ whole φs end → allowed x (byte s at) ≡ false → (φs ≡ []) × (end ≡ at)
-  no-fact zero e n = out-of-fuel e
-  no-fact (suc f) e n =
+  pub no-holding : (f : ℕ) → holdings f x count s least at ≡ whole φs end → allowed x (byte s at) ≡ false → (φs ≡ []) × (end ≡ at)
+  no-holding zero e n = out-of-fuel e
+  no-holding (suc f) e n =
       let q : whole [] at ≡ whole φs end = sym (reads-here x count s least at f ∙ rw n) ∙ e in
       (cc, cc)
 
-  pub first-fact : (f : ℕ) → facts f x count s least at ≡ whole φs end → allowed x (byte s at) ≡ true → FirstFact x count s least at f φs end
-  first-fact zero e a = out-of-fuel e
-  first-fact (suc f) e a =
-      let here : onFact x count s least at f (factHere x count s least at) ≡ whole φs end = sym (reads-here x count s least at f ∙ rw a) ∙ e in
-      let d = onDecoded-whole (factHere x count s least at) _ φs end here in
-      let m = andThen-whole (facts f x count s (rank s at (d .0) + 1) (d .1 .at)) (λ φs end. whole (factAt s at (d .0) ∷ φs) end) φs end (d .3) in
-      let q : whole (factAt s at (d .0) ∷ m .0) (m .1) ≡ whole φs end = m .3 in
+  pub first-holding : (f : ℕ) → holdings f x count s least at ≡ whole φs end → allowed x (byte s at) ≡ true → FirstHolding x count s least at f φs end
+  first-holding zero e a = out-of-fuel e
+  first-holding (suc f) e a =
+      let here : onHolding x count s least at f (holdingHere x count s least at) ≡ whole φs end = sym (reads-here x count s least at f ∙ rw a) ∙ e in
+      let d = onDecoded-whole (holdingHere x count s least at) _ φs end here in
+      let m = andThen-whole (holdings f x count s (rank s at (d .0) + 1) (d .1 .at)) (λ φs end. whole (holdingAt s at (d .0) ∷ φs) end) φs end (d .3) in
+      let q : whole (holdingAt s at (d .0) ∷ m .0) (m .1) ≡ whole φs end = m .3 in
       let same : m .1 ≡ end = cc in
       record {
         code = d .0;
@@ -142,7 +142,7 @@ module _ (x : Context) (count : ℕ) (s : List ℕ) (least at : ℕ) (φs : List
         fuel = f;
         rest = m .0;
         fuel-is = refl;
-        stands = fact-stands x count s least at (factHere x count s least at) (d .0) (d .1) refl (d .2);
+        stands = holding-stands x count s least at (holdingHere x count s least at) (d .0) (d .1) refl (d .2);
         is = cc;
         more = rw same at (m .2);
       }

@@ -9,12 +9,12 @@ use lib.ListN.{length}
 use lib.Dec.{eqb, leb}
 use borrow.Author.Tests.{ne-eqb, eqb-true, leb-true}
 use Rattle.commands.specs.declared.Context.{Context}
-use Rattle.commands.specs.declared.Context.the-variants.{TemplateFacts, StringFacts}
+use Rattle.commands.specs.declared.Context.the-variants.{TemplateHoldings, StringHoldings}
 use Rattle.commands.specs.declared.Position.{Position}
 use Rattle.commands.specs.Commands.{byte, allowed, operandBytes, operandsOf}
 use Rattle.commands.proofs.Laws.{byte-past}
-use Rattle.summaries.specs.Proposal.{Fact, oneString, anyString}
-use Rattle.summaries.specs.ProposalReading.{factOf}
+use Rattle.summaries.specs.Proposal.{Holding, oneString, anyString}
+use Rattle.summaries.specs.ProposalReading.{holdingOf}
 use Rattle.summaries.specs.declared.Claim as Declared
 use Rattle.summaries.specs.declared.Claim.the-variants.{Root, Edge, String, AnyString, GapFrom, AttributeGapFrom}
 use Rattle.summaries.specs.declared.ClaimHere.{ClaimHere}
@@ -22,7 +22,7 @@ use Rattle.summaries.specs.declared.ClaimHere.the-variants.{Item, End}
 use Rattle.summaries.specs.declared.StringHere.{StringHere}
 use Rattle.summaries.specs.declared.StringHere.the-variants.{One, Any}
 use Rattle.summaries.specs.declared.StringHere.the-variants as Strings
-use Rattle.summaries.specs.Listed.{FactFits, ItemAt, over, Listed, meaningOf, claimOf, claimHere, stringOf, stringHere, onFrom, Moves}
+use Rattle.summaries.specs.Listed.{HoldingFits, ItemAt, over, Listed, meaningOf, claimOf, claimHere, stringOf, stringHere, onFrom, Moves}
 
 -- What the code finds at an offset.
 module _ (s : List ℕ) (at : ℕ) where
@@ -46,11 +46,11 @@ module _ (s : List ℕ) (at : ℕ) where
     pub string-none : (code ≡ 0x47 → ⊥) → (code ≡ 0x48 → ⊥) → Strings.End ≡ stringHere s at
     string-none n₇ n₈ = rw (← code-is, ne-eqb code 0x47 n₇, ne-eqb code 0x48 n₈)
 
-  pub moves-on : (y : Fact) (n : ℕ) → 0 < n → at < length s → (next : Position) → next ≡ onFrom at n → FactFits y → Moves s at y next
+  pub moves-on : (y : Holding) (n : ℕ) → 0 < n → at < length s → (next : Position) → next ≡ onFrom at n → HoldingFits y → Moves s at y next
   moves-on y n l inside next e f = record { inside = inside; forward = rw e (omega arith); fits = f }
 
 -- The commands of the items of a template variable.
-by-claim : (P : ℕ → Type 0) (c : ℕ) → allowed TemplateFacts c ≡ true → P 0x41 → P 0x42 → P 0x43 → P 0x44 → P 0x45 → P 0x46 → P c
+by-claim : (P : ℕ → Type 0) (c : ℕ) → allowed TemplateHoldings c ≡ true → P 0x41 → P 0x42 → P 0x43 → P 0x44 → P 0x45 → P 0x46 → P c
 unfolding allowed
 by-claim P c a p₁ p₂ p₃ p₄ p₅ p₆ =
     let l : 0x41 ≤ c = leb-true _ _ (and-left _ _ a) in
@@ -81,9 +81,9 @@ record Told (code : ℕ) (o : ℕ → ℕ) (at : ℕ) : Type 0 where
   next : Position
   is : claimOf code o (onFrom at) ≡ Item item next
   after : next .at ≡ at + 1 + operandBytes code
-  means : FactFits (factOf code o) → meaningOf item ≡ factOf code o
+  means : HoldingFits (holdingOf code o) → meaningOf item ≡ holdingOf code o
 
-told : (code : ℕ) (o : ℕ → ℕ) (at : ℕ) → allowed TemplateFacts code ≡ true → Told code o at
+told : (code : ℕ) (o : ℕ → ℕ) (at : ℕ) → allowed TemplateHoldings code ≡ true → Told code o at
 unfolding operandBytes operandsOf
 told code o at a = by-claim (λ k. Told k o at) code a
     (record { item = Root (o 1 % 32); next = onFrom at 2; is = refl; after = omega arith; means = λ f. let q : o 1 % 32 ≡ o 1 = omega arith in rw q })
@@ -140,26 +140,26 @@ told code o at a = by-claim (λ k. Told k o at) code a
           rw (q, r);
     })
 
-no-claim : (code : ℕ) (o : ℕ → ℕ) (onto : ℕ → Position) → allowed TemplateFacts code ≡ false → claimOf code o onto ≡ End
+no-claim : (code : ℕ) (o : ℕ → ℕ) (onto : ℕ → Position) → allowed TemplateHoldings code ≡ false → claimOf code o onto ≡ End
 unfolding allowed
 no-claim code o onto a =
     rw (ne-eqb code 0x41 (other 0x41 refl), ne-eqb code 0x42 (other 0x42 refl), ne-eqb code 0x43 (other 0x43 refl), ne-eqb code 0x44 (other 0x44 refl), ne-eqb code 0x45 (other 0x45 refl), ne-eqb code 0x46 (other 0x46 refl))
   where
-    other : (k : ℕ) → allowed TemplateFacts k ≡ true → code ≡ k → ⊥
-    other k is e = false≢true (sym a ∙ (ap (allowed TemplateFacts) e ∙ is))
+    other : (k : ℕ) → allowed TemplateHoldings k ≡ true → code ≡ k → ⊥
+    other k is e = false≢true (sym a ∙ (ap (allowed TemplateHoldings) e ∙ is))
 
 module _ (s : List ℕ) (at : ℕ) where
   abbrev o : ℕ → ℕ
   o i = byte s (at + i)
 
   -- The item that the code takes off is the first of those that stand here.
-  pub record First (x : Context) (y : Fact) (next : Position) (ys : List Fact) : Type 0 where
-    pub rest : List Fact
+  pub record First (x : Context) (y : Holding) (next : Position) (ys : List Holding) : Type 0 where
+    pub rest : List Holding
     pub is-more : ys ≡ y ∷ rest
     pub stand : Listed x s (next .at) rest
 
-  pub claims-first : (ys : List Fact) → Listed TemplateFacts s at ys → (r : ClaimHere) → r ≡ claimHere s at → (c : Declared.Claim) (next : Position) → r ≡ Item c next
-      → First TemplateFacts (meaningOf c) next ys
+  pub claims-first : (ys : List Holding) → Listed TemplateHoldings s at ys → (r : ClaimHere) → r ≡ claimHere s at → (c : Declared.Claim) (next : Position) → r ≡ Item c next
+      → First TemplateHoldings (meaningOf c) next ys
   unfolding Listed
   claims-first [] l r is c next e =
       let q : Item c next ≡ End = sym e ∙ (is ∙ no-claim (byte s at) o (onFrom at) l) in
@@ -172,7 +172,7 @@ module _ (s : List ℕ) (at : ℕ) where
       let means : meaningOf (t .item) ≡ y = t .means (rw (← l .0 .is) (l .0 .fits)) ∙ sym (l .0 .is) in
       record { rest = ys; is-more = rw (same, means); stand = rw (same-next, t .after) (l .1) }
 
-  pub claims-end : (ys : List Fact) → Listed TemplateFacts s at ys → (r : ClaimHere) → r ≡ claimHere s at → r ≡ End → ys ≡ []
+  pub claims-end : (ys : List Holding) → Listed TemplateHoldings s at ys → (r : ClaimHere) → r ≡ claimHere s at → r ≡ End → ys ≡ []
   unfolding Listed
   claims-end [] l r is e = refl
   claims-end (y ∷ ys) l r is e =
@@ -187,14 +187,14 @@ module _ (s : List ℕ) (at : ℕ) where
   any-is : byte s at ≡ 0x48 → stringHere s at ≡ Any (onFrom at 1)
   any-is e = rw e
 
-  none-is : allowed StringFacts (byte s at) ≡ false → stringHere s at ≡ Strings.End
+  none-is : allowed StringHoldings (byte s at) ≡ false → stringHere s at ≡ Strings.End
   unfolding allowed
   none-is a = rw (ne-eqb (byte s at) 0x47 (other 0x47 refl), ne-eqb (byte s at) 0x48 (other 0x48 refl))
     where
-      other : (k : ℕ) → allowed StringFacts k ≡ true → byte s at ≡ k → ⊥
-      other k is e = false≢true (sym a ∙ (ap (allowed StringFacts) e ∙ is))
+      other : (k : ℕ) → allowed StringHoldings k ≡ true → byte s at ≡ k → ⊥
+      other k is e = false≢true (sym a ∙ (ap (allowed StringHoldings) e ∙ is))
 
-  either-of : allowed StringFacts (byte s at) ≡ true → (byte s at ≡ 0x47) ⊎ (byte s at ≡ 0x48)
+  either-of : allowed StringHoldings (byte s at) ≡ true → (byte s at ≡ 0x47) ⊎ (byte s at ≡ 0x48)
   unfolding allowed
   either-of a = go (eqb (byte s at) 0x47) refl (eqb (byte s at) 0x48) refl a
     where
@@ -203,23 +203,23 @@ module _ (s : List ℕ) (at : ℕ) where
       go false e true f h = inr (eqb-true _ _ f)
       go false e false f h = absurd (false≢true h)
 
-  module _ (ys : List Fact) (l : Listed StringFacts s at ys) (r : StringHere) (is : r ≡ stringHere s at) where
-    strings-as : (y : Fact) (next : Position) → ((z : Fact) → ItemAt StringFacts s at z → (z ≡ y) × (next .at ≡ over s at)) → (allowed StringFacts (byte s at) ≡ false → ⊥)
-        → First StringFacts y next ys
+  module _ (ys : List Holding) (l : Listed StringHoldings s at ys) (r : StringHere) (is : r ≡ stringHere s at) where
+    strings-as : (y : Holding) (next : Position) → ((z : Holding) → ItemAt StringHoldings s at z → (z ≡ y) × (next .at ≡ over s at)) → (allowed StringHoldings (byte s at) ≡ false → ⊥)
+        → First StringHoldings y next ys
     unfolding Listed
     strings-as y next h n = go ys l
       where
-        go : (zs : List Fact) → Listed StringFacts s at zs → First StringFacts y next zs
+        go : (zs : List Holding) → Listed StringHoldings s at zs → First StringHoldings y next zs
         go [] m = absurd (n m)
         go (z ∷ zs) m =
             let w = h z (m .0) in
             record { rest = zs; is-more = rw (w .0); stand = rw (w .1) (m .1) }
 
-    pub strings-one : (t : ℕ) (next : Position) → r ≡ One t next → First StringFacts (oneString t) next ys
+    pub strings-one : (t : ℕ) (next : Position) → r ≡ One t next → First StringHoldings (oneString t) next ys
     unfolding operandBytes operandsOf
     strings-one t next e = strings-as (oneString t) next told-one (λ n. let q : One t next ≡ Strings.End = sym e ∙ (is ∙ none-is n) in let z : _≡_ {A = ℕ} 0 1 = cc in omega arith)
       where
-        told-one : (z : Fact) → ItemAt StringFacts s at z → (z ≡ oneString t) × (next .at ≡ over s at)
+        told-one : (z : Holding) → ItemAt StringHoldings s at z → (z ≡ oneString t) × (next .at ≡ over s at)
         told-one z i = elim (either-of (i .permitted)) [
           | inl b ↦
               let q : One t next ≡ One (o 1 % 64) (onFrom at 2) = sym e ∙ (is ∙ one-is b) in
@@ -232,11 +232,11 @@ module _ (s : List ℕ) (at : ℕ) where
           | inr b ↦ let q : One t next ≡ Any (onFrom at 1) = sym e ∙ (is ∙ any-is b) in absurd (let z : _≡_ {A = ℕ} 0 1 = cc in omega arith)
         ]
 
-    pub strings-any : (next : Position) → r ≡ Any next → First StringFacts anyString next ys
+    pub strings-any : (next : Position) → r ≡ Any next → First StringHoldings anyString next ys
     unfolding operandBytes operandsOf
     strings-any next e = strings-as anyString next told-any (λ n. let q : Any next ≡ Strings.End = sym e ∙ (is ∙ none-is n) in let z : _≡_ {A = ℕ} 0 1 = cc in omega arith)
       where
-        told-any : (z : Fact) → ItemAt StringFacts s at z → (z ≡ anyString) × (next .at ≡ over s at)
+        told-any : (z : Holding) → ItemAt StringHoldings s at z → (z ≡ anyString) × (next .at ≡ over s at)
         told-any z i = elim (either-of (i .permitted)) [
           | inl b ↦ let q : Any next ≡ One (o 1 % 64) (onFrom at 2) = sym e ∙ (is ∙ one-is b) in absurd (let z : _≡_ {A = ℕ} 0 1 = cc in omega arith)
           | inr b ↦
@@ -249,7 +249,7 @@ module _ (s : List ℕ) (at : ℕ) where
     unfolding Listed
     strings-end e = go ys l
       where
-        go : (zs : List Fact) → Listed StringFacts s at zs → zs ≡ []
+        go : (zs : List Holding) → Listed StringHoldings s at zs → zs ≡ []
         go [] m = refl
         go (z ∷ zs) m = elim (either-of (m .0 .permitted)) [
           | inl b ↦ let q : Strings.End ≡ One (o 1 % 64) (onFrom at 2) = sym e ∙ (is ∙ one-is b) in absurd (let z : _≡_ {A = ℕ} 0 1 = cc in omega arith)

@@ -9,13 +9,13 @@ use lib.Dec.{eqb}
 use Rattle.commands.specs.Commands.{emptyString}
 use Rattle.pages.specs.Items.{Items}
 use Rattle.pages.specs.Items as Items
-use Rattle.programs.specs.Program.{Act, Statement, Variable, templates, strings, named}
+use Rattle.programs.specs.Program.{Act, Statement, Variable, templateVariable, stringVariable, named}
 use Rattle.summaries.specs.Summaries.{Environment, Within, fragment, transfer}
 
 -- One variable's entry lies within another environment's.
 abbrev pub WithinAt : Variable → Environment → Environment → Type 0
-WithinAt (templates x) E F = Within (E .template x) (F .template x)
-WithinAt (strings y) E F = Within (E .string y) (F .string y)
+WithinAt (templateVariable x) E F = Within (E .template x) (F .template x)
+WithinAt (stringVariable y) E F = Within (E .string y) (F .string y)
 
 -- At the start each template variable is the empty template 0, each string variable string 0.
 abbrev pub startEnvironment : Environment

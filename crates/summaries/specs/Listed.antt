@@ -9,8 +9,8 @@ use lib.Dec.{eqb}
 use Rattle.commands.specs.declared.Context.{Context}
 use Rattle.commands.specs.declared.Position.{Position}
 use Rattle.commands.specs.Commands.{strings, byte, allowed, operandBytes}
-use Rattle.summaries.specs.Proposal.{Claim, root, edge, string, gapFrom, attributeGapFrom, Fact, claim, anyAt, oneString, anyString}
-use Rattle.summaries.specs.ProposalReading.{factAt}
+use Rattle.summaries.specs.Proposal.{Claim, root, edge, string, gapFrom, attributeGapFrom, Holding, claim, anyAt, oneString, anyString}
+use Rattle.summaries.specs.ProposalReading.{holdingAt}
 use Rattle.summaries.specs.declared.Claim as Declared
 use Rattle.summaries.specs.declared.Claim.the-variants.{Root, Edge, String, AnyString, GapFrom, AttributeGapFrom}
 use Rattle.summaries.specs.declared.ClaimHere.{ClaimHere}
@@ -27,28 +27,28 @@ ClaimFits (string n h s) = (n < 32) × (h < 8) × (s < strings)
 ClaimFits (gapFrom g n) = (g < 8) × (n < 32)
 ClaimFits (attributeGapFrom h n) = (h < 8) × (n < 32)
 
-abbrev pub FactFits : Fact → Type 0
-FactFits (claim c) = ClaimFits c
-FactFits (anyAt n h) = (n < 32) × (h < 8)
-FactFits (oneString s) = s < strings
-FactFits anyString = Unit {0}
+abbrev pub HoldingFits : Holding → Type 0
+HoldingFits (claim c) = ClaimFits c
+HoldingFits (anyAt n h) = (n < 32) × (h < 8)
+HoldingFits (oneString s) = s < strings
+HoldingFits anyString = Unit {0}
 
-pub record ItemAt (x : Context) (s : List ℕ) (at : ℕ) (y : Fact) : Type 0 where
+pub record ItemAt (x : Context) (s : List ℕ) (at : ℕ) (y : Holding) : Type 0 where
   pub permitted : allowed x (byte s at) ≡ true
-  pub is : y ≡ factAt s at (byte s at)
-  pub fits : FactFits y
+  pub is : y ≡ holdingAt s at (byte s at)
+  pub fits : HoldingFits y
 
 -- The offset after the command at an offset.
 abbrev pub over : List ℕ → ℕ → ℕ
 over s at = at + 1 + operandBytes (byte s at)
 
 -- The items from an offset on, up to the first command that is none of them.
-unfoldable pub Listed : Context → List ℕ → ℕ → List Fact → Type 0
+unfoldable pub Listed : Context → List ℕ → ℕ → List Holding → Type 0
 Listed x s at [] = allowed x (byte s at) ≡ false
 Listed x s at (y ∷ ys) = ItemAt x s at y × Listed x s (over s at) ys
 
 -- What an item says, as the code takes it apart.
-abbrev pub meaningOf : Declared.Claim → Fact
+abbrev pub meaningOf : Declared.Claim → Holding
 meaningOf (Root n) = claim (root n)
 meaningOf (Edge n g m) = claim (edge n g m)
 meaningOf (String n h s) = claim (string n h s)
@@ -85,10 +85,10 @@ abbrev pub stringHere : List ℕ → ℕ → StringHere
 stringHere s at = stringOf (byte s at) (λ i. byte s (at + i)) (onFrom at)
 
 -- It stands inside the bytes, the position moves on, and its numbers are in range.
-pub record Moves (s : List ℕ) (at : ℕ) (y : Fact) (next : Position) : Type 0 where
+pub record Moves (s : List ℕ) (at : ℕ) (y : Holding) (next : Position) : Type 0 where
   pub inside : at < length s
   pub forward : at < next .at
-  pub fits : FactFits y
+  pub fits : HoldingFits y
 
 abbrev pub ClaimMoves : List ℕ → ℕ → ClaimHere → Type 0
 ClaimMoves s at (Item c next) = Moves s at (meaningOf c) next

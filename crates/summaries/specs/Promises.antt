@@ -15,14 +15,14 @@ use Rattle.commands.specs.Commands.{byte, command}
 use Rattle.commands.specs.Reading.{whole}
 use Rattle.commands.specs.Parts.{AgreesAs, Enough}
 use Rattle.summaries.specs.Proposal.{Head}
-use Rattle.summaries.specs.ProposalReading.{rank, facts, variableOf, factContext, proposal}
+use Rattle.summaries.specs.ProposalReading.{rank, holdings, variableOf, holdingContext, proposal}
 use Rattle.summaries.specs.Summaries.{under}
 
 -- The items under the head of a variable at a point stand at an offset; 0: it has no head.
 pub record Stand (count : ℕ) (s : List ℕ) (hs : List Head) (p v offset : ℕ) : Type 0 where
   pub none : offset ≡ 0 → under hs p (variableOf v) ≡ []
   pub some : (offset ≡ 0 → ⊥) → (f : ℕ) → Enough s offset f
-      → (end : ℕ) × (facts f (factContext (variableOf v)) count s 0 offset ≡ whole (under hs p (variableOf v)) end)
+      → (end : ℕ) × (holdings f (holdingContext (variableOf v)) count s 0 offset ≡ whole (under hs p (variableOf v)) end)
 
 -- The heads that are at least `least`, as p * 8 + v, stand where they are kept; there are no others.
 pub record Kept (count : ℕ) (s : List ℕ) (least : ℕ) (heads : List ℕ) (hs : List Head) : Type 0 where
@@ -42,8 +42,8 @@ pub record Ranked (s : List ℕ) (at code r : ℕ) : Type 0 where
   pub is : r ≡ rank s at code
   pub low : r < 2 ^ 32
 
-abbrev pub FactsRead : Context → ℕ → List ℕ → ℕ → ℕ → Part → Type 0
-FactsRead x count s least at r = (f : ℕ) → Enough s at f → AgreesAs (λ φs end. at ≤ end) (facts f x count s least at) r
+abbrev pub HoldingsRead : Context → ℕ → List ℕ → ℕ → ℕ → Part → Type 0
+HoldingsRead x count s least at r = (f : ℕ) → Enough s at f → AgreesAs (λ φs end. at ≤ end) (holdings f x count s least at) r
 
 -- A head, or `4F`, with what is tested on it alone, in document 01's order: 8 before 5.
 abbrev pub testedHead : ℕ → List ℕ → ℕ → ℕ → Decoded → Decoded

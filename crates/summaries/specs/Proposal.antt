@@ -12,15 +12,16 @@ pub data Claim : Type 0 where
   gapFrom : ℕ → ℕ → Claim
   attributeGapFrom : ℕ → ℕ → Claim
 
--- An item under a head: a claim; any string at a template's attribute gap; one string, or any, of a string variable.
-pub data Fact : Type 0 where
-  claim : Claim → Fact
-  anyAt : ℕ → ℕ → Fact
-  oneString : ℕ → Fact
-  anyString : Fact
+-- A holding, which document 01 calls an item of the proposal: a claim; any string at a template's attribute gap; one string, or any,
+-- of a string variable.
+pub data Holding : Type 0 where
+  claim : Claim → Holding
+  anyAt : ℕ → ℕ → Holding
+  oneString : ℕ → Holding
+  anyString : Holding
 
 -- `40 p v` and what stands under it: what is claimed of a variable at the entry of a point.
 pub record Head : Type 0 where
   pub point : ℕ
   pub variable : Variable
-  pub facts : List Fact
+  pub holdings : List Holding

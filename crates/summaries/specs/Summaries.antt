@@ -7,9 +7,9 @@ use mathlib.Core.List.{List, [], _∷_}
 use mathlib.Core.Bool.{Bool, true, false, cond, _&&_, _||_}
 use lib.Dec.{eqb}
 use Rattle.pages.specs.Items.{Items, gapIn, attributeGapIn}
-use Rattle.programs.specs.Program.{Act, copyTemplate, setTemplate, copyString, setString, anyString, plug, plugString, show, Variable, templates, strings, templateAt}
+use Rattle.programs.specs.Program.{Act, copyTemplate, setTemplate, copyString, setString, anyString, plug, plugString, show, Variable, templateVariable, stringVariable, templateAt}
 use Rattle.programs.specs.Runs.{update}
-use Rattle.summaries.specs.Proposal.{Claim, root, edge, string, gapFrom, attributeGapFrom, Fact, claim, anyAt, oneString, Head}
+use Rattle.summaries.specs.Proposal.{Claim, root, edge, string, gapFrom, attributeGapFrom, Holding, claim, anyAt, oneString, Head}
 use Rattle.summaries.specs.Proposal as Proposal
 
 abbrev pub Summary : Type 0
@@ -79,18 +79,18 @@ abbrev pub transfer : List Items → Act → Environment → Environment
 transfer φs a E = record { template = transferTemplate φs a E; string = transferString a E }
 
 -- A claim as numbers, by which two are compared.
-abbrev pub numbersOf : Claim → List ℕ
-numbersOf (root n) = 1 ∷ n ∷ []
-numbersOf (edge n g m) = 2 ∷ n ∷ g ∷ m ∷ []
-numbersOf (string n h s) = 3 ∷ n ∷ h ∷ s ∷ []
-numbersOf (gapFrom g n) = 4 ∷ g ∷ n ∷ []
-numbersOf (attributeGapFrom h n) = 5 ∷ h ∷ n ∷ []
+abbrev pub claimCode : Claim → List ℕ
+claimCode (root n) = 1 ∷ n ∷ []
+claimCode (edge n g m) = 2 ∷ n ∷ g ∷ m ∷ []
+claimCode (string n h s) = 3 ∷ n ∷ h ∷ s ∷ []
+claimCode (gapFrom g n) = 4 ∷ g ∷ n ∷ []
+claimCode (attributeGapFrom h n) = 5 ∷ h ∷ n ∷ []
 
-unfoldable pub sameNumbers : List ℕ → List ℕ → Bool
-sameNumbers [] [] = true
-sameNumbers [] (b ∷ bs) = false
-sameNumbers (a ∷ ns) [] = false
-sameNumbers (a ∷ ns) (b ∷ bs) = eqb a b && sameNumbers ns bs
+unfoldable pub sameCode : List ℕ → List ℕ → Bool
+sameCode [] [] = true
+sameCode [] (b ∷ bs) = false
+sameCode (a ∷ ns) [] = false
+sameCode (a ∷ ns) (b ∷ bs) = eqb a b && sameCode ns bs
 
 abbrev pub isStringAt : ℕ → ℕ → Claim → Bool
 isStringAt n h (root m) = false
@@ -100,35 +100,35 @@ isStringAt n h (gapFrom g m) = false
 isStringAt n h (attributeGapFrom k m) = false
 
 -- What an item says: of a template variable, and of a string variable.
-abbrev pub saysClaim : Fact → Claim → Bool
-saysClaim (claim c) d = sameNumbers (numbersOf c) (numbersOf d)
+abbrev pub saysClaim : Holding → Claim → Bool
+saysClaim (claim c) d = sameCode (claimCode c) (claimCode d)
 saysClaim (anyAt n h) d = isStringAt n h d
 saysClaim (oneString s) d = false
 saysClaim Proposal.anyString d = false
 
-abbrev pub saysString : Fact → ℕ → Bool
+abbrev pub saysString : Holding → ℕ → Bool
 saysString (claim c) s = false
 saysString (anyAt n h) s = false
 saysString (oneString t) s = eqb s t
 saysString Proposal.anyString s = true
 
 -- What some item of a list says.
-unfoldable pub held : {A : Type 0} → (Fact → A → Bool) → List Fact → A → Bool
+unfoldable pub held : {A : Type 0} → (Holding → A → Bool) → List Holding → A → Bool
 held says [] a = false
 held says (x ∷ xs) a = says x a || held says xs a
 
 abbrev pub sameVariable : Variable → Variable → Bool
-sameVariable (templates x) (templates y) = eqb x y
-sameVariable (templates x) (strings y) = false
-sameVariable (strings x) (templates y) = false
-sameVariable (strings x) (strings y) = eqb x y
+sameVariable (templateVariable x) (templateVariable y) = eqb x y
+sameVariable (templateVariable x) (stringVariable y) = false
+sameVariable (stringVariable x) (templateVariable y) = false
+sameVariable (stringVariable x) (stringVariable y) = eqb x y
 
 -- What stands under the head of a variable at a point; no head: nothing.
-unfoldable pub under : List Head → ℕ → Variable → List Fact
+unfoldable pub under : List Head → ℕ → Variable → List Holding
 under [] p v = []
-under (h ∷ hs) p v = cond (eqb (h .point) p && sameVariable (h .variable) v) (h .facts) (under hs p v)
+under (h ∷ hs) p v = cond (eqb (h .point) p && sameVariable (h .variable) v) (h .holdings) (under hs p v)
 
 -- The entries of all variables at a point.
 unfoldable pub entries : List Head → ℕ → Environment
 unfolding held under
-entries hs p = record { template = λ x. held saysClaim (under hs p (templates x)); string = λ y. held saysString (under hs p (strings y)) }
+entries hs p = record { template = λ x. held saysClaim (under hs p (templateVariable x)); string = λ y. held saysString (under hs p (stringVariable y)) }

@@ -4,9 +4,9 @@ ghost use Prim.Native.Nat.{_+_, _*_, _≤_, _<_};
 ghost use lib.ListN.{replicate};
 ghost use lib.Dec.{leb};
 ghost use Rattle.commands.specs.Commands.{byte};
-ghost use Rattle.summaries.specs.ProposalReading.{factAt, factThere, variableOf, factContext};
+ghost use Rattle.summaries.specs.ProposalReading.{holdingAt, holdingThere, variableOf, holdingContext};
 ghost use Rattle.summaries.specs.Listed.{claimHere, ClaimMoves, stringHere, StringMoves};
-ghost use Rattle.summaries.specs.Promises.{presentAt, Ranked, headHere, FactsRead, ProposalReads};
+ghost use Rattle.summaries.specs.Promises.{presentAt, Ranked, headHere, HoldingsRead, ProposalReads};
 use commands::Context;
 use commands::Decoded;
 use commands::Part;
@@ -102,8 +102,8 @@ fn is_there(s: &[u8], here: Position, i: usize, templates: usize) -> bool
 }
 
 // Whether the templates that an item names are there.
-fn fact_there(s: &[u8], here: Position, code: u8, templates: usize) -> bool
-    ensures { λ r. ⌜ r ≡ factThere templates (factAt (now (s .entry)) (here .at) code) ⌝ }
+fn holding_there(s: &[u8], here: Position, code: u8, templates: usize) -> bool
+    ensures { λ r. ⌜ r ≡ holdingThere templates (holdingAt (now (s .entry)) (here .at) code) ⌝ }
 {
     match code {
         0x41 => is_there(s, here, 1, templates),
@@ -117,8 +117,8 @@ fn fact_there(s: &[u8], here: Position, code: u8, templates: usize) -> bool
 }
 
 // The items under a head, up to the first command that is none of them.
-fn read_facts(s: &[u8], here: Position, context: Context, templates: usize) -> Part
-    ensures { λ r. ⌜ FactsRead context templates (now (s .entry)) 0 (here .at) r ⌝ }
+fn read_holdings(s: &[u8], here: Position, context: Context, templates: usize) -> Part
+    ensures { λ r. ⌜ HoldingsRead context templates (now (s .entry)) 0 (here .at) r ⌝ }
 {
     let mut at = here;
     let mut least = 0;
@@ -130,7 +130,7 @@ fn read_facts(s: &[u8], here: Position, context: Context, templates: usize) -> P
         let Decoded::Moved(code, next) = d else {
             return d.part();
         };
-        if !fact_there(s, at, code, templates) {
+        if !holding_there(s, at, code, templates) {
             return Part::Refused(Form::Missing, at.at);
         }
         let place = rank(s, at, code);
@@ -171,12 +171,12 @@ fn head_here(s: &[u8], here: Position, points: usize, least: usize) -> Decoded
 
 // The items that may stand under a head.
 fn context_of(v: u8) -> Context
-    ensures { λ r. ⌜ r ≡ factContext (variableOf v) ⌝ }
+    ensures { λ r. ⌜ r ≡ holdingContext (variableOf v) ⌝ }
 {
     if v < 4 {
-        return Context::TemplateFacts;
+        return Context::TemplateHoldings;
     }
-    Context::StringFacts
+    Context::StringHoldings
 }
 
 // The proposal from here on, up to `4F`, of a job with these numbers of templates and points. An array that is lent with zeros gets,
@@ -204,7 +204,7 @@ pub fn read_proposal(
         }
         let number = head_number(s, at);
         heads[number] = next.at;
-        let items = read_facts(s, next, context_of(at.operand(s, 2)), templates);
+        let items = read_holdings(s, next, context_of(at.operand(s, 2)), templates);
         let Part::Whole(after) = items else {
             return items;
         };

@@ -1,12 +1,12 @@
 -- Clauses: what each makes of the reading, where they end, and what code that reads them does.
-use Prim.Native.Nat.{ℕ, zero, suc, _+_, _-_, _≤_, _<_, min}
-use mathlib.Core.Path.{_≡_, refl, sym, _∙_}
+use Prim.Native.Nat.{ℕ, zero, suc, _+_, _-_, _≤_, _<_}
+use mathlib.Core.Path.{_≡_, refl, sym, ap, _∙_}
 use mathlib.Core.List.{List, [], _∷_}
 use mathlib.Core.Bool.{Bool, true, false}
 use native.Mathlib.Omega.{arith}
 use lib.ListN.{length}
-use lib.Dec.{leb, eqb}
-use borrow.Author.Tests.{le-leb, lt-leb, eq-eqb, ne-eqb, eqb-true, eqb-false, leb-true, leb-false}
+use lib.Dec.{leb, ltb, eqb}
+use borrow.Author.Tests.{le-leb, lt-leb, eq-eqb, ne-eqb, eqb-true, eqb-false, leb-true, leb-false, ltb-true, ltb-false}
 use Rattle.verdicts.specs.declared.Form.{Form}
 use Rattle.verdicts.specs.declared.Form.the-variants.{TooManyFacts}
 use Rattle.commands.specs.declared.Position.{Position}
@@ -16,14 +16,12 @@ use Rattle.commands.specs.Commands.{byte}
 use Rattle.commands.specs.Reading.{Read, whole, refused, unfinished, andThen, when}
 use Rattle.commands.specs.declared.Past.{Past}
 use Rattle.commands.specs.declared.Past.the-variants.{Over, Other}
-use Rattle.commands.specs.Parts.{Agrees, AgreesAs, Enough, past}
+use Rattle.commands.specs.Parts.{Agrees, Enough, past}
 use Rattle.commands.proofs.Laws.{byte-past, past-over, past-other, andThen-whole}
-use Rattle.vocabularies.specs.declared.Facts.{Facts}
-use Rattle.vocabularies.specs.declared.FormulaRead.{FormulaRead}
 use Rattle.vocabularies.specs.Vocabulary.{Formula}
 use Rattle.vocabularies.specs.Facts.{factsOf}
 use Rattle.vocabularies.specs.VocabularyReading.{formula, mostFacts, clauses}
-use Rattle.vocabularies.specs.Promises.{Represents, FactsWith, FormulaReads, ClausesRead}
+use Rattle.vocabularies.specs.Promises.{FormulaReads, ManyFacts, ClausesRead}
 use Rattle.vocabularies.proofs.Parts.{agrees-whole, agrees-refused, last-agrees, last-whole, Finished, last-finishes, andThen-finishes}
 use Rattle.vocabularies.proofs.Formulas.{formula-ends, formula-fuel, formula-finishes, formula-moved}
 
@@ -159,45 +157,49 @@ module _ (s : List ℕ) (start : ℕ) (place : Position) (on : ClausesContinue s
     here : byte s (place .at) ≡ 0x04
     here = o .1
 
-    module _ (none : Facts) (empty : Represents none []) (r : FormulaRead) (read : FormulaReads s 0 (first .at) none r) where
+    module _ (r : Part) (read : FormulaReads s 0 (first .at) r) where
       -- What is read behind the `04`.
-      reads : (f : ℕ) → Enough s (place .at) (suc f) → AgreesAs (λ ψ end. FactsWith none ψ (r .facts)) (formula f s 0 (place .at + 1)) (r .part)
+      reads : (f : ℕ) → Enough s (place .at) (suc f) → Agrees (formula f s 0 (place .at + 1)) r
       reads f h = rw (o .2) at (read f (omega (arith, o .0, o .2)))
 
-      pub clauses-refused : (i : Form) (n : ℕ) → r .part ≡ Refused i n → ClausesRead s start (r .part)
-      clauses-refused i n q = on .continues (r .part) λ f h. agrees f h
+      pub clauses-refused : (i : Form) (n : ℕ) → r ≡ Refused i n → ClausesRead s start r
+      clauses-refused i n q = on .continues r λ f h. agrees f h
         where
-          agrees : (f : ℕ) → Enough s (place .at) f → Agrees (clauses f s (place .at)) (r .part)
+          agrees : (f : ℕ) → Enough s (place .at) f → Agrees (clauses f s (place .at)) r
           agrees zero h = absurd (omega arith)
           agrees (suc f) h =
-              rw (q, step f s (place .at) here, agrees-refused (λ ψ end. FactsWith none ψ (r .facts)) (formula f s 0 (place .at + 1)) i n (rw q at (reads f h))) (refl, refl)
+              rw (q, step f s (place .at) here, agrees-refused (λ ψ end. Unit {0}) (formula f s 0 (place .at + 1)) i n (rw q at (reads f h))) (refl, refl)
 
-      module _ (next : Position) (q : r .part ≡ Whole next) where
-        -- The formula at a fuel that is enough, and the count of its facts.
-        formed : (f : ℕ) → Enough s (place .at) (suc f) → (ψ : Formula) × (formula f s 0 (place .at + 1) ≡ whole ψ (next .at)) × (r .facts .count ≡ min 9 (length (factsOf ψ)))
-        formed f h =
-            let a = agrees-whole (λ ψ end. FactsWith none ψ (r .facts)) (formula f s 0 (place .at + 1)) next (rw q at (reads f h)) in
-            (a .0, a .1, a .2 [] empty .counts)
-
-        pub clauses-many : 8 < r .facts .count → ClausesRead s start (Refused TooManyFacts (place .at))
-        clauses-many l = on .continues (Refused TooManyFacts (place .at)) λ f h. agrees f h
-          where
-            agrees : (f : ℕ) → Enough s (place .at) f → Agrees (clauses f s (place .at)) (Refused TooManyFacts (place .at))
-            agrees zero h = absurd (omega arith)
-            agrees (suc f) h =
-                let a = formed f h in
-                rw (step f s (place .at) here, a .1, many f s (place .at) (a .0) (next .at) (omega arith)) (refl, refl)
-
-        pub clauses-more : r .facts .count ≤ 8 → ClausesContinue s start (next .at)
-        clauses-more l = record { continues = λ p h. on .continues p λ f n. agrees p h f n }
-          where
-            agrees : (p : Part) → ClausesRead s (next .at) p → (f : ℕ) → Enough s (place .at) f → Agrees (clauses f s (place .at)) p
-            agrees p h zero n = absurd (omega arith)
-            agrees p h (suc f) n =
-                let a = formed f n in
-                let z = formula-ends f s 0 (place .at + 1) (a .0) (next .at) (a .1) in
-                rw (step f s (place .at) here, a .1, few f s (place .at) (a .0) (next .at) (omega arith))
-                (last-agrees (clauses f s (next .at)) (_∷_ (a .0)) p (h f (omega (arith, o .0))))
-
+      module _ (next : Position) (q : r ≡ Whole next) where
         pub clause-falls : length s - next .at < length s - place .at
-        clause-falls = let n = formula-moved s 0 (first .at) none r read next q in omega (arith, o .0, o .2)
+        clause-falls = let n = formula-moved s 0 (first .at) r read next q in omega (arith, o .0, o .2)
+
+        pub clause-stands : first .at ≤ next .at
+        clause-stands = let n = formula-moved s 0 (first .at) r read next q in omega arith
+
+        module _ (t : Bool) (facts : ManyFacts s (first .at) (next .at) t) where
+          -- The formula at a fuel that is enough, and whether it has too many facts.
+          formed : (f : ℕ) → Enough s (place .at) (suc f) → (ψ : Formula) × (formula f s 0 (place .at + 1) ≡ whole ψ (next .at)) × (t ≡ ltb mostFacts (length (factsOf ψ)))
+          formed f h =
+              let a = agrees-whole (λ ψ end. Unit {0}) (formula f s 0 (place .at + 1)) next (rw q at (reads f h)) in
+              (a .0, a .1, facts f 0 (a .0) (ap (formula f s 0) (o .2) ∙ a .1))
+
+          pub clauses-many : t ≡ true → ClausesRead s start (Refused TooManyFacts (place .at))
+          clauses-many l = on .continues (Refused TooManyFacts (place .at)) λ f h. agrees f h
+            where
+              agrees : (f : ℕ) → Enough s (place .at) f → Agrees (clauses f s (place .at)) (Refused TooManyFacts (place .at))
+              agrees zero h = absurd (omega arith)
+              agrees (suc f) h =
+                  let a = formed f h in
+                  rw (step f s (place .at) here, a .1, many f s (place .at) (a .0) (next .at) (ltb-true _ _ (sym (a .2) ∙ l))) (refl, refl)
+
+          pub clauses-more : t ≡ false → ClausesContinue s start (next .at)
+          clauses-more l = record { continues = λ p h. on .continues p λ f n. agrees p h f n }
+            where
+              agrees : (p : Part) → ClausesRead s (next .at) p → (f : ℕ) → Enough s (place .at) f → Agrees (clauses f s (place .at)) p
+              agrees p h zero n = absurd (omega arith)
+              agrees p h (suc f) n =
+                  let a = formed f n in
+                  let z = formula-ends f s 0 (place .at + 1) (a .0) (next .at) (a .1) in
+                  rw (step f s (place .at) here, a .1, few f s (place .at) (a .0) (next .at) (ltb-false _ _ (sym (a .2) ∙ l)))
+                  (last-agrees (clauses f s (next .at)) (_∷_ (a .0)) p (h f (omega (arith, o .0))))

@@ -17,15 +17,12 @@ use Rattle.commands.specs.declared.Part.{Part}
 use Rattle.commands.specs.declared.Part.the-variants.{Whole, Refused}
 use Rattle.commands.specs.Commands.{command}
 use Rattle.commands.specs.Reading.{Read, whole, refused, unfinished, andThen, when}
-use Rattle.commands.specs.Parts.{AgreesAs, Enough, partOf}
+use Rattle.commands.specs.Parts.{Agrees, Enough, partOf}
 use Rattle.commands.proofs.Laws.{moved, MovedOver}
-use Rattle.vocabularies.specs.declared.Facts.{Facts}
-use Rattle.vocabularies.specs.declared.FormulaRead.{FormulaRead}
-use Rattle.vocabularies.specs.Facts.{Fact, withFacts}
 use Rattle.vocabularies.specs.Vocabulary.{Formula, conj, disj, neg, truth, attr, content, order, value}
 use Rattle.vocabularies.specs.VocabularyReading.{Shape, binary, unary, leaf, shapeAt, formulaNesting, formula}
-use Rattle.vocabularies.specs.Promises.{FactsWith, LeafAdds, FormulaReads}
-use Rattle.vocabularies.proofs.Parts.{agrees-whole, agrees-refused, last-agrees-as, last-whole, plenty, is-plenty, Finished, last-finishes, andThen-finishes, when-finishes}
+use Rattle.vocabularies.specs.Promises.{FormulaReads}
+use Rattle.vocabularies.proofs.Parts.{agrees-whole, agrees-refused, last-agrees, last-whole, plenty, is-plenty, Finished, last-finishes, andThen-finishes, when-finishes}
 
 -- What a formula's first command, of a given shape, makes of the reading.
 unfoldable pub shaped : ℕ → List ℕ → ℕ → ℕ → ℕ → Shape → Read Formula
@@ -58,21 +55,12 @@ and-shape s at code e = rw e
 pub or-shape : (s : List ℕ) (at code : ℕ) → code ≡ 0x11 → shapeAt s at code ≡ binary disj
 or-shape s at code e = rw e
 
--- The facts of a formula of two are those of both.
-pub record Two (s : List ℕ) (at code : ℕ) : Type 0 where
-  pub made : Formula → Formula → Formula
-  pub shape : shapeAt s at code ≡ binary made
-  pub joins : (ψ₁ ψ₂ : Formula) (xs : List Fact) → withFacts (made ψ₁ ψ₂) xs ≡ withFacts ψ₂ (withFacts ψ₁ xs)
-
-pub two-shape : (s : List ℕ) (at code : ℕ) → 0x10 ≤ code → code < 0x12 → Two s at code
-unfolding withFacts
+pub two-shape : (s : List ℕ) (at code : ℕ) → 0x10 ≤ code → code < 0x12 → (made : Formula → Formula → Formula) × (shapeAt s at code ≡ binary made)
 two-shape s at code l h = go (eqb code 0x10) refl
   where
-    go : (b : Bool) → eqb code 0x10 ≡ b → Two s at code
-    go true e = record { made = conj; shape = rw e; joins = λ ψ₁ ψ₂ xs. refl }
-    go false e =
-        let n : code ≡ 0x10 → ⊥ = eqb-false code 0x10 e in
-        record { made = disj; shape = rw (e, eq-eqb code 0x11 (omega arith)); joins = λ ψ₁ ψ₂ xs. refl }
+    go : (b : Bool) → eqb code 0x10 ≡ b → (made : Formula → Formula → Formula) × (shapeAt s at code ≡ binary made)
+    go true e = (conj, rw e)
+    go false e = let n : code ≡ 0x10 → ⊥ = eqb-false code 0x10 e in (disj, rw (e, eq-eqb code 0x11 (omega arith)))
 
 pub leaf-shape : (s : List ℕ) (at code : ℕ) → (0x10 ≤ code → code ≤ 0x12 → ⊥) → (ψ : Formula) × (shapeAt s at code ≡ leaf ψ)
 leaf-shape s at code h =
@@ -255,11 +243,10 @@ formula-raised (suc f) g s depth at ψ end e =
     go up (Decodeds.Refused i n) c = absurd (not-formed s depth at ψ end (suc f) e i n c)
 
 -- What code that reads a formula does at each return.
-module _ (s : List ℕ) (depth at : ℕ) (t : Facts) where
-  pub formula-refused : (d : Decoded) (i : Form) (n : ℕ) (p : Part) (u : Facts) → d ≡ command Formulas s at → d ≡ Decodeds.Refused i n → p ≡ partOf d
-      → FormulaReads s depth at t (record { part = p; facts = u })
-  formula-refused d i n p u c e q zero h = absurd (omega arith)
-  formula-refused d i n p u c e q (suc f) h = rw (q, e, step-refused f s depth at i n (sym c ∙ e)) (refl, refl)
+module _ (s : List ℕ) (depth at : ℕ) where
+  pub formula-refused : (d : Decoded) (i : Form) (n : ℕ) (p : Part) → d ≡ command Formulas s at → d ≡ Decodeds.Refused i n → p ≡ partOf d → FormulaReads s depth at p
+  formula-refused d i n p c e q zero h = absurd (omega arith)
+  formula-refused d i n p c e q (suc f) h = rw (q, e, step-refused f s depth at i n (sym c ∙ e)) (refl, refl)
 
   module _ (d : Decoded) (code : ℕ) (next : Position) (c : d ≡ command Formulas s at) (e : d ≡ Decodeds.Moved code next) where
     m : MovedOver Formulas s at code next
@@ -268,75 +255,73 @@ module _ (s : List ℕ) (depth at : ℕ) (t : Facts) where
     stepped : (f : ℕ) (shape : Shape) → shapeAt s at code ≡ shape → formula (suc f) s depth at ≡ shaped f s depth at (next .at) shape
     stepped f shape q = rw (step f s depth at code next (sym c ∙ e), q)
 
-    module _ (u : Facts) (adds : LeafAdds s at code t u) where
-      formula-leaf : (0x10 ≤ code → code ≤ 0x12 → ⊥) → FormulaReads s depth at t (record { part = Whole next; facts = u })
-      unfolding shaped
-      formula-leaf l zero h = absurd (omega arith)
-      formula-leaf l (suc f) h = let q = leaf-shape s at code l in rw (stepped f (leaf (q .0)) (q .1)) (refl, adds (q .0) (q .1))
-
-      pub formula-low : code < 0x10 → FormulaReads s depth at t (record { part = Whole next; facts = u })
-      formula-low l = formula-leaf (λ a b. omega arith)
-
-      pub formula-high : 0x12 ≤ code → (code ≡ 0x12 → ⊥) → FormulaReads s depth at t (record { part = Whole next; facts = u })
-      formula-high l n = formula-leaf (λ a b. n (omega arith))
-
-    pub formula-deep-one : (u : Facts) → code ≡ 0x12 → formulaNesting ≤ depth → FormulaReads s depth at t (record { part = Refused TooMany at; facts = u })
+    formula-leaf : (0x10 ≤ code → code ≤ 0x12 → ⊥) → FormulaReads s depth at (Whole next)
     unfolding shaped
-    formula-deep-one u k deep zero h = absurd (omega arith)
-    formula-deep-one u k deep (suc f) h = rw (stepped f (unary neg) (one-shape s at code k), le-ltb depth formulaNesting deep) (refl, refl)
+    formula-leaf l zero h = absurd (omega arith)
+    formula-leaf l (suc f) h = let q = leaf-shape s at code l in rw (stepped f (leaf (q .0)) (q .1)) (refl, tt)
 
-    pub formula-deep-two : (u : Facts) → 0x10 ≤ code → code < 0x12 → formulaNesting ≤ depth → FormulaReads s depth at t (record { part = Refused TooMany at; facts = u })
+    pub formula-low : code < 0x10 → FormulaReads s depth at (Whole next)
+    formula-low l = formula-leaf (λ a b. omega arith)
+
+    pub formula-high : 0x12 ≤ code → (code ≡ 0x12 → ⊥) → FormulaReads s depth at (Whole next)
+    formula-high l n = formula-leaf (λ a b. n (omega arith))
+
+    pub formula-deep-one : code ≡ 0x12 → formulaNesting ≤ depth → FormulaReads s depth at (Refused TooMany at)
     unfolding shaped
-    formula-deep-two u l k deep zero h = absurd (omega arith)
-    formula-deep-two u l k deep (suc f) h = let w = two-shape s at code l k in rw (stepped f (binary (w .made)) (w .shape), le-ltb depth formulaNesting deep) (refl, refl)
+    formula-deep-one k deep zero h = absurd (omega arith)
+    formula-deep-one k deep (suc f) h = rw (stepped f (unary neg) (one-shape s at code k), le-ltb depth formulaNesting deep) (refl, refl)
+
+    pub formula-deep-two : 0x10 ≤ code → code < 0x12 → formulaNesting ≤ depth → FormulaReads s depth at (Refused TooMany at)
+    unfolding shaped
+    formula-deep-two l k deep zero h = absurd (omega arith)
+    formula-deep-two l k deep (suc f) h = let w = two-shape s at code l k in rw (stepped f (binary (w .0)) (w .1), le-ltb depth formulaNesting deep) (refl, refl)
 
     module _ (shallow : depth < formulaNesting) where
-      pub formula-one : code ≡ 0x12 → (r : FormulaRead) → FormulaReads s (depth + 1) (next .at) t r → FormulaReads s depth at t r
-      unfolding shaped withFacts
+      pub formula-one : code ≡ 0x12 → (r : Part) → FormulaReads s (depth + 1) (next .at) r → FormulaReads s depth at r
+      unfolding shaped
       formula-one k r x zero h = absurd (omega arith)
       formula-one k r x (suc f) h =
           rw (stepped f (unary neg) (one-shape s at code k), lt-ltb depth formulaNesting shallow)
-          (last-agrees-as (λ ψ end. FactsWith t ψ (r .facts)) (λ ψ end. FactsWith t ψ (r .facts)) (formula f s (depth + 1) (next .at)) neg (r .part) (λ ψ end g. g) (x f (omega (arith, m))))
+          (last-agrees (formula f s (depth + 1) (next .at)) neg r (x f (omega (arith, m))))
 
-      module _ (l : 0x10 ≤ code) (k : code < 0x12) (first : FormulaRead) (x : FormulaReads s (depth + 1) (next .at) t first) where
-        pub formula-first : (i : Form) (n : ℕ) → first .part ≡ Refused i n → FormulaReads s depth at t first
+      module _ (l : 0x10 ≤ code) (k : code < 0x12) (first : Part) (x : FormulaReads s (depth + 1) (next .at) first) where
+        pub formula-first : (i : Form) (n : ℕ) → first ≡ Refused i n → FormulaReads s depth at first
         unfolding shaped
         formula-first i n q zero h = absurd (omega arith)
         formula-first i n q (suc f) h =
             let w = two-shape s at code l k in
-            let y = agrees-refused (λ ψ end. FactsWith t ψ (first .facts)) (formula f s (depth + 1) (next .at)) i n (rw q at (x f (omega (arith, m)))) in
-            rw (q, stepped f (binary (w .made)) (w .shape), lt-ltb depth formulaNesting shallow, y) (refl, refl)
+            let y = agrees-refused (λ ψ end. Unit {0}) (formula f s (depth + 1) (next .at)) i n (rw q at (x f (omega (arith, m)))) in
+            rw (q, stepped f (binary (w .0)) (w .1), lt-ltb depth formulaNesting shallow, y) (refl, refl)
 
-        pub formula-two : (middle : Position) (r : FormulaRead) → first .part ≡ Whole middle → FormulaReads s (depth + 1) (middle .at) (first .facts) r → FormulaReads s depth at t r
+        pub formula-two : (middle : Position) (r : Part) → first ≡ Whole middle → FormulaReads s (depth + 1) (middle .at) r → FormulaReads s depth at r
         unfolding shaped
         formula-two middle r q y zero h = absurd (omega arith)
         formula-two middle r q y (suc f) h =
             let w = two-shape s at code l k in
-            let a = agrees-whole (λ ψ end. FactsWith t ψ (first .facts)) (formula f s (depth + 1) (next .at)) middle (rw q at (x f (omega (arith, m)))) in
+            let a = agrees-whole (λ ψ end. Unit {0}) (formula f s (depth + 1) (next .at)) middle (rw q at (x f (omega (arith, m)))) in
             let z = formula-ends f s (depth + 1) (next .at) (a .0) (middle .at) (a .1) in
-            rw (stepped f (binary (w .made)) (w .shape), lt-ltb depth formulaNesting shallow, a .1)
-            (last-agrees-as (λ ψ end. FactsWith (first .facts) ψ (r .facts)) (λ ψ end. FactsWith t ψ (r .facts)) (formula f s (depth + 1) (middle .at)) (w .made (a .0)) (r .part)
-            (λ ψ end g xs rep. rw (w .joins (a .0) ψ xs) (g (withFacts (a .0) xs) (a .2 xs rep))) (y f (omega (arith, m))))
+            rw (stepped f (binary (w .0)) (w .1), lt-ltb depth formulaNesting shallow, a .1)
+            (last-agrees (formula f s (depth + 1) (middle .at)) (w .0 (a .0)) r (y f (omega (arith, m))))
 
 -- What code that read a formula has where one can be read there.
-module _ (s : List ℕ) (depth at : ℕ) (t : Facts) (r : FormulaRead) (x : FormulaReads s depth at t r) where
-  pub formula-whole : (f : ℕ) (ψ : Formula) (end : ℕ) → formula f s depth at ≡ whole ψ end → (r .part ≡ Whole (record { at = end })) × FactsWith t ψ (r .facts)
-  formula-whole f ψ end e = by-part (r .part) refl (rw (formula-raised f (plenty s at) s depth at ψ end e) at (x (f + plenty s at) (omega (arith, is-plenty s at))))
+module _ (s : List ℕ) (depth at : ℕ) (r : Part) (x : FormulaReads s depth at r) where
+  pub formula-whole : (f : ℕ) (ψ : Formula) (end : ℕ) → formula f s depth at ≡ whole ψ end → r ≡ Whole (record { at = end })
+  formula-whole f ψ end e = by-part r refl (rw (formula-raised f (plenty s at) s depth at ψ end e) at (x (f + plenty s at) (omega (arith, is-plenty s at))))
     where
-      by-part : (p : Part) → r .part ≡ p → AgreesAs (λ ψ end. FactsWith t ψ (r .facts)) (whole ψ end) p → (r .part ≡ Whole (record { at = end })) × FactsWith t ψ (r .facts)
-      by-part (Whole p) q a = (q ∙ ap (λ (n : ℕ). Whole (record { at = n })) (a .0), a .1)
+      by-part : (p : Part) → r ≡ p → Agrees (whole ψ end) p → r ≡ Whole (record { at = end })
+      by-part (Whole p) q a = q ∙ ap (λ (n : ℕ). Whole (record { at = n })) (a .0)
       by-part (Refused i n) q a = absurd a
 
   -- Code that read a formula whole stands behind its start, and within the bytes.
-  pub formula-moved : (p : Position) → r .part ≡ Whole p → (at < p .at) × (p .at ≤ length s)
+  pub formula-moved : (p : Position) → r ≡ Whole p → (at < p .at) × (p .at ≤ length s)
   formula-moved p q =
-      let a = agrees-whole (λ ψ end. FactsWith t ψ (r .facts)) (formula (plenty s at) s depth at) p (rw q at (x (plenty s at) (is-plenty s at))) in
+      let a = agrees-whole (λ ψ end. Unit {0}) (formula (plenty s at) s depth at) p (rw q at (x (plenty s at) (is-plenty s at))) in
       formula-ends (plenty s at) s depth at (a .0) (p .at) (a .1)
 
 -- The bytes that are left fall over a command and a formula.
 pub formula-falls : (s : List ℕ) (t at code : ℕ) (d : Decoded) (next : Position) → length s - at ≡ t → d ≡ command Formulas s at → d ≡ Decodeds.Moved code next
-    → (depth : ℕ) (facts : Facts) (first : FormulaRead) (middle : Position) → FormulaReads s depth (next .at) facts first → first .part ≡ Whole middle → length s - middle .at < t
-formula-falls s t at code d next l c e depth facts first middle x q =
+    → (depth : ℕ) (first : Part) (middle : Position) → FormulaReads s depth (next .at) first → first ≡ Whole middle → length s - middle .at < t
+formula-falls s t at code d next l c e depth first middle x q =
     let m = moved Formulas s at code next (sym c ∙ e) in
-    let n = formula-moved s depth (next .at) facts first x middle q in
+    let n = formula-moved s depth (next .at) first x middle q in
     omega arith

@@ -2,6 +2,8 @@ pub mod Parts
 pub mod Formulas
 pub mod FactLists
 pub mod Gathering
+pub mod Pending
+pub mod FactCounts
 pub mod NameLists
 pub mod Clauses
 pub mod Rules

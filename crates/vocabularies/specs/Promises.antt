@@ -5,6 +5,7 @@ use mathlib.Core.List.{List, [], _∷_, _++_}
 use mathlib.Core.Option.{some}
 use mathlib.Core.Bool.{Bool, false}
 use lib.ListN.{length, getD}
+use lib.Dec.{ltb}
 use Rattle.sets.specs.Sets.{member}
 use Rattle.strings.specs.Strings.{setNumber}
 use Rattle.commands.specs.declared.Context.{Context}
@@ -17,12 +18,11 @@ use Rattle.vocabularies.specs.declared.VocabularyRead.{VocabularyRead}
 use Rattle.vocabularies.specs.declared.Fact as Kept
 use Rattle.vocabularies.specs.declared.Fact.the-variants.{Present, Ordered, Valued}
 use Rattle.vocabularies.specs.declared.Facts.{Facts}
-use Rattle.vocabularies.specs.declared.FormulaRead.{FormulaRead}
 use Rattle.vocabularies.specs.declared.Names.{Names}
 use Rattle.vocabularies.specs.declared.RuleRead.{RuleRead}
-use Rattle.vocabularies.specs.Facts.{Fact, present, ordered, valued, isAmong, add, withFacts}
+use Rattle.vocabularies.specs.Facts.{Fact, present, ordered, valued, isAmong, add, withFacts, factsOf}
 use Rattle.vocabularies.specs.Vocabulary.{Formula, Rule, Vocabulary, ruleOf, declared, isIn}
-use Rattle.vocabularies.specs.VocabularyReading.{leaf, shapeAt, formula, rising, clauses, ruleBody, vocabulary}
+use Rattle.vocabularies.specs.VocabularyReading.{leaf, shapeAt, mostFacts, formula, rising, clauses, ruleBody, vocabulary}
 
 -- The fact of the definitions that a fact of the code stands for.
 abbrev pub meaningOf : Kept.Fact → Fact
@@ -59,9 +59,17 @@ FactsWith t ψ r = (xs : List Fact) → Represents t xs → Represents r (withFa
 abbrev pub LeafAdds : List ℕ → ℕ → ℕ → Facts → Facts → Type 0
 LeafAdds s at code t r = (ψ : Formula) → shapeAt s at code ≡ leaf ψ → FactsWith t ψ r
 
--- A formula below so many open connectives; where it is whole, its facts are added to those before it.
-abbrev pub FormulaReads : List ℕ → ℕ → ℕ → Facts → FormulaRead → Type 0
-FormulaReads s depth at t r = (f : ℕ) → Enough s at f → AgreesAs (λ ψ end. FactsWith t ψ (r .facts)) (formula f s depth at) (r .part)
+-- A formula below so many open connectives.
+abbrev pub FormulaReads : List ℕ → ℕ → ℕ → Part → Type 0
+FormulaReads s depth at r = (f : ℕ) → Enough s at f → Agrees (formula f s depth at) r
+
+-- The facts of the formula that stands between two offsets.
+abbrev pub FactsRead : List ℕ → ℕ → ℕ → Facts → Type 0
+FactsRead s at end t = (f depth : ℕ) (ψ : Formula) → formula f s depth at ≡ whole ψ end → Represents t (factsOf ψ)
+
+-- Whether the formula that stands there has more facts than a clause may have.
+abbrev pub ManyFacts : List ℕ → ℕ → ℕ → Bool → Type 0
+ManyFacts s at end r = (f depth : ℕ) (ψ : Formula) → formula f s depth at ≡ whole ψ end → r ≡ ltb mostFacts (length (factsOf ψ))
 
 -- The names of a rising list as a set.
 abbrev pub NamesRead : List ℕ → Context → ℕ → Names → Type 0

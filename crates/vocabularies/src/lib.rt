@@ -8,7 +8,7 @@ ghost use Rattle.commands.specs.Commands.{Single};
 ghost use Rattle.commands.specs.Parts.{partOf};
 ghost use Rattle.vocabularies.specs.Vocabulary.{order};
 ghost use Rattle.vocabularies.specs.Facts.{present, ordered, valued, sameFact};
-ghost use Rattle.vocabularies.specs.Promises.{meaningOf, keptAt, Represents, TellsAmong, Adds, FactsWith, LeafAdds, FormulaReads, NamesRead, ClausesRead, RuleReads, Long, DescribesRules, VocabularyReads};
+ghost use Rattle.vocabularies.specs.Promises.{meaningOf, keptAt, Represents, TellsAmong, Adds, FactsWith, LeafAdds, FormulaReads, FactsRead, ManyFacts, NamesRead, ClausesRead, RuleReads, Long, DescribesRules, VocabularyReads};
 use commands::Context;
 use commands::Decoded;
 use commands::Part;
@@ -53,12 +53,6 @@ pub struct Facts {
     pub count: usize,
 }
 
-// A formula that was read: the part that it is, and the facts with its own.
-pub struct FormulaRead {
-    pub part: Part,
-    pub facts: Facts,
-}
-
 // The names of a rising list as a set, with the part that the list is.
 pub struct Names {
     pub part: Part,
@@ -90,7 +84,7 @@ pub fn no_facts() -> Facts
 }
 
 // The fact at a place.
-pub fn fact_at(facts: Facts, i: usize) -> Fact
+fn fact_at(facts: Facts, i: usize) -> Fact
     requires { ⌜ i < 8 ⌝ }
     ensures { λ r. ⌜ r ≡ keptAt facts i ⌝ }
 {
@@ -99,7 +93,7 @@ pub fn fact_at(facts: Facts, i: usize) -> Fact
 }
 
 // Whether a fact is that content c is present.
-pub fn is_present(fact: Fact, c: u8) -> bool
+fn is_present(fact: Fact, c: u8) -> bool
     ensures { λ r. ⌜ r ≡ sameFact (present c) (meaningOf fact) ⌝ }
 {
     match fact {
@@ -195,47 +189,65 @@ fn with_leaf(s: &[u8], here: Position, code: u8, facts: Facts) -> Facts
     }
 }
 
-// A formula in prefix order, below `depth` open connectives, after some facts.
-pub fn read_formula(s: &[u8], here: Position, depth: usize, facts: Facts) -> FormulaRead
-    ensures { λ r. ⌜ FormulaReads (now (s .entry)) depth (here .at) facts r ⌝ }
+// A formula in prefix order, below `depth` open connectives.
+pub fn read_formula(s: &[u8], here: Position, depth: usize) -> Part
+    ensures { λ r. ⌜ FormulaReads (now (s .entry)) depth (here .at) r ⌝ }
 {
-    let d = here.command(s, Context::Formulas);
+    let d = here.formula_command(s);
     let Decoded::Moved(code, next) = d else {
-        return FormulaRead {
-            part: d.part(),
-            facts,
-        };
+        return d.part();
     };
     match code {
         0x10 | 0x11 => {
             if FORMULA_NESTING <= depth {
-                return FormulaRead {
-                    part: Part::Refused(Form::TooMany, here.at),
-                    facts,
-                };
+                return Part::Refused(Form::TooMany, here.at);
             }
-            let first = read_formula(s, next, depth + 1, facts);
-            let part = first.part;
-            let Part::Whole(middle) = part else {
+            let first = read_formula(s, next, depth + 1);
+            let Part::Whole(middle) = first else {
                 return first;
             };
-            let held = first.facts;
-            read_formula(s, middle, depth + 1, held)
+            read_formula(s, middle, depth + 1)
         }
         0x12 => {
             if FORMULA_NESTING <= depth {
-                return FormulaRead {
-                    part: Part::Refused(Form::TooMany, here.at),
-                    facts,
-                };
+                return Part::Refused(Form::TooMany, here.at);
             }
-            read_formula(s, next, depth + 1, facts)
+            read_formula(s, next, depth + 1)
         }
-        _ => FormulaRead {
-            part: Part::Whole(next),
-            facts: with_leaf(s, here, code, facts),
-        },
+        _ => Part::Whole(next),
     }
+}
+
+// The facts of the formula that stands from `start` up to `end`: those of each of its commands, in their order.
+pub fn facts_of(s: &[u8], start: Position, end: Position) -> Facts
+    ensures { λ r. ⌜ FactsRead (now (s .entry)) (start .at) (end .at) r ⌝ }
+{
+    let mut facts = no_facts();
+    let mut here = start;
+    while here.at < end.at {
+        let d = here.step(s);
+        let Decoded::Moved(code, next) = d else {
+            return facts;
+        };
+        if 0x15 <= code {
+            let more = with_leaf(s, here, code, facts);
+            facts = more;
+        }
+        here = next;
+    }
+    facts
+}
+
+// Whether the formula that stands from `start` up to `end` has more facts than a clause may have. It has no more facts than bytes.
+fn has_many_facts(s: &[u8], start: Position, end: Position) -> bool
+    requires { ⌜ start .at ≤ end .at ⌝ }
+    ensures { λ r. ⌜ ManyFacts (now (s .entry)) (start .at) (end .at) r ⌝ }
+{
+    if end.at - start.at <= MOST_FACTS {
+        return false;
+    }
+    let facts = facts_of(s, start, end);
+    MOST_FACTS < facts.count
 }
 
 // A rising list of attributes or of contents, each `code` and a number of at most `most`.
@@ -275,7 +287,7 @@ fn read_names(s: &[u8], here: Position, context: Context, code: u8, most: u8) ->
 }
 
 // The clauses of a rule: each is `04` and a formula of at most 8 facts.
-pub fn read_clauses(s: &[u8], here: Position) -> Part
+fn read_clauses(s: &[u8], here: Position) -> Part
     ensures { λ r. ⌜ ClausesRead (now (s .entry)) (here .at) r ⌝ }
 {
     let mut place = here;
@@ -284,13 +296,11 @@ pub fn read_clauses(s: &[u8], here: Position) -> Part
         let Past::Over(start) = mark else {
             return Part::Whole(place);
         };
-        let read = read_formula(s, start, 0, no_facts());
-        let part = read.part;
+        let part = read_formula(s, start, 0);
         let Part::Whole(next) = part else {
             return part;
         };
-        let facts = read.facts;
-        if MOST_FACTS < facts.count {
+        if has_many_facts(s, start, next) {
             return Part::Refused(Form::TooManyFacts, place.at);
         }
         place = next;

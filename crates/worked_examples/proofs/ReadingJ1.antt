@@ -10,8 +10,8 @@ use Rattle.commands.specs.Reading.{whole, refused}
 use Rattle.vocabularies.specs.Vocabulary.{Rule, content, order, ruleOf}
 use Rattle.vocabularies.specs.Facts.{withFacts}
 use Rattle.pages.specs.Items.{Items, text, gap, element, one}
-use Rattle.programs.specs.Program.{templates, step, stop, setTemplate, plug, show}
-use Rattle.summaries.specs.Proposal.{Claim, root, edge, gapFrom, Fact, claim, Head}
+use Rattle.programs.specs.Program.{templateVariable, step, stop, setTemplate, plug, show}
+use Rattle.summaries.specs.Proposal.{Claim, root, edge, gapFrom, Holding, claim, Head}
 use Rattle.jobs.specs.Job.{Job, job}
 use Rattle.worked_examples.specs.J1.{j1}
 
@@ -28,7 +28,7 @@ abbrev pub body : Items
 body = one (element 2 27 [] (one text))
 
 abbrev head : ℕ → ℕ → List Claim → Head
-head p x cs = record { point = p; variable = templates x; facts = map claim cs }
+head p x cs = record { point = p; variable = templateVariable x; holdings = map claim cs }
 
 abbrev pub j1-job : Job
 j1-job = record {

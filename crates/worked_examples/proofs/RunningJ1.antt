@@ -7,7 +7,7 @@ use Rattle.pages.specs.Items.{Items, text, element, one, _⋈_}
 use Rattle.programs.specs.Program.{statementAt, templateAt}
 use Rattle.programs.specs.Runs.{Choice, shown, closed, plugged}
 use Rattle.summaries.specs.Proposal.{string}
-use Rattle.summaries.specs.Summaries.{Summary, sameNumbers, held, under, entries}
+use Rattle.summaries.specs.Summaries.{Summary, sameCode, held, under, entries}
 use Rattle.summaries.specs.Languages.{Language, closedSummary, graphShown, nothing, item-then, text-stays, gap-takes, element-keeps, no-attribute}
 use Rattle.worked_examples.proofs.ReadingJ1.{j1-job}
 
@@ -30,7 +30,7 @@ unfolding graphShown statementAt
 graph-shown = refl
 
 pub stands : Language (j1-job .script .templates) graph page
-unfolding templateAt entries held under sameNumbers _⋈_
+unfolding templateAt entries held under sameCode _⋈_
 stands = (
   1,
   (

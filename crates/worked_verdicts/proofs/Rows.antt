@@ -19,9 +19,9 @@ use Rattle.pages.specs.Items.{gapIn}
 use Rattle.pages.specs.RightPages.{_∈_}
 use Rattle.judging.specs.Judgement.{precedes, holdsValue, truthOf}
 use Rattle.programs.specs.Program.{templateAt}
-use Rattle.summaries.specs.Summaries.{sameNumbers, held}
+use Rattle.summaries.specs.Summaries.{sameCode, held}
 use Rattle.patterns.specs.Patterns.{patternOf, join}
-use Rattle.patterns.specs.Morphisms.{kindOf}
+use Rattle.patterns.specs.Morphisms.{classOf}
 use Rattle.patterns.specs.Elements.{wrongUnder}
 use Rattle.patterns.proofs.ReadVocabularies.{Bytes}
 use Rattle.entries.proofs.Tests.{and-left, and-right}
@@ -50,7 +50,7 @@ abbrev stated : Row → Answer
 stated r = record { bytes = true; verdict = some (r .verdict); numbers = r .numbers }
 
 answers : map computed table ≡ map stated table
-unfolding verdictBy command ruleOf withFacts gapIn templateAt sameNumbers held wrongUnder kindOf join patternOf isIn precedes holdsValue truthOf
+unfolding verdictBy command ruleOf withFacts gapIn templateAt sameCode held wrongUnder classOf join patternOf isIn precedes holdsValue truthOf
 answers = refl
 
 same-at : {A B : Type 0} (f g : A → B) (xs : List A) → map f xs ≡ map g xs → (a : A) → a ∈ xs → f a ≡ g a

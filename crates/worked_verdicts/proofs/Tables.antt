@@ -86,11 +86,11 @@ module _ (φs : List Items) (G : Summary) (t : ℕ) where
   settled-exact bounded R lawful e = exact φs G bounded R lawful t (same-sets φs (R .size) (rounds φs G R (suc t)) (rounds φs G R t) e)
 
   module _ (D : Vocabulary) where
-    abbrev kinds : Sets
-    kinds = rounds φs G (rootMorphism (D .root)) t
+    abbrev classes : Sets
+    classes = rounds φs G (rootMorphism (D .root)) t
 
     abbrev yields : Set
-    yields n = anyBelow 3 (kinds n)
+    yields n = anyBelow 3 (classes n)
 
     abbrev reachedAfter : ℕ → Sets
     reachedAfter u n x = reachRounds φs G yields u n
@@ -101,7 +101,7 @@ module _ (φs : List Items) (G : Summary) (t : ℕ) where
     unfoldable pub tablesBy : Tables
     unfolding rounds reachRounds contentRounds anyBelow
     tablesBy = record {
-      kinds = kinds;
+      classes = classes;
       reached = reachRounds φs G yields t;
       contents = contentRounds φs G yields t;
       clauses = λ ψ. rounds φs G (factMorphism (factsOf ψ)) t;
@@ -116,7 +116,7 @@ module _ (φs : List Items) (G : Summary) (t : ℕ) where
     pub tables-exact : Bounded φs G → NamesInRange φs → enoughRounds ≡ true → ExactTables φs G D tablesBy
     unfolding tablesBy enoughRounds iterate
     tables-exact bounded named e = record {
-      kinds = kinds-exact;
+      classes = classes-exact;
       reached = reached-exact φs G bounded yields yields-are _ (reach-rounds-sound φs G bounded yields yields-are t)
           (λ n h q. sym (same-sets φs 1 (reachedAfter (suc t)) (reachedAfter t) (and-right (settled (rootMorphism (D .root))) _ first) n 0 h (omega arith)) ∙ q);
       contents = contents-exact φs G bounded yields yields-are named _ (content-rounds-sound φs G bounded yields yields-are t)
@@ -132,8 +132,8 @@ module _ (φs : List Items) (G : Summary) (t : ℕ) where
         second : (sameSets φs contents (contentsAfter (suc t)) (contentsAfter t) && rulesSettled (D .rules)) ≡ true
         second = and-right (settled (rootMorphism (D .root)) && sameSets φs 1 (reachedAfter (suc t)) (reachedAfter t)) _ e
 
-        kinds-exact : Exact φs G (rootMorphism (D .root)) kinds
-        kinds-exact = settled-exact bounded (rootMorphism (D .root)) (root-lawful (D .root)) (and-left _ _ first)
+        classes-exact : Exact φs G (rootMorphism (D .root)) classes
+        classes-exact = settled-exact bounded (rootMorphism (D .root)) (root-lawful (D .root)) (and-left _ _ first)
 
         yields-are : YieldsExact φs G yields
-        yields-are = yields-exact φs G (rootMorphism (D .root)) (root-lawful (D .root)) kinds kinds-exact
+        yields-are = yields-exact φs G (rootMorphism (D .root)) (root-lawful (D .root)) classes classes-exact

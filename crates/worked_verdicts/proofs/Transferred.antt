@@ -8,7 +8,7 @@ use mathlib.Core.Logic.{inl, inr}
 use lib.Dec.{eqb}
 use borrow.Author.Tests.{eqb-true, eq-eqb}
 use Rattle.pages.specs.Items.{Value, string, open-gap, Attribute, Item, text, gap, element, Items, none, more, gapIn, gapInItem, isOpenGap, openIn, attributeGapIn, attributeGapInItem}
-use Rattle.summaries.specs.Proposal.{Claim, root, edge, gapFrom, attributeGapFrom, Fact, claim, anyAt, oneString}
+use Rattle.summaries.specs.Proposal.{Claim, root, edge, gapFrom, attributeGapFrom, Holding, claim, anyAt, oneString}
 use Rattle.summaries.specs.Proposal as Proposal
 use Rattle.summaries.specs.Summaries.{Summary, Strings, Within, fragment, plugSummary, plugStringSummary, isStringAt, saysClaim, saysString, held}
 use Rattle.entries.proofs.Tests.{or-left, or-right, or-cases, and-both, and-left, and-right}
@@ -41,7 +41,7 @@ unfolding held
 among-here c cs = or-left _ _ (says-itself c)
 
 -- An item that says a claim of no string is that claim.
-is-claim : (c : Claim) → ((n h : ℕ) → isStringAt n h c ≡ false) → (x : Fact) → saysClaim x c ≡ true → x ≡ claim c
+is-claim : (c : Claim) → ((n h : ℕ) → isStringAt n h c ≡ false) → (x : Holding) → saysClaim x c ≡ true → x ≡ claim c
 is-claim c other (claim d) e = ap claim (says-alone d c e)
 is-claim c other (anyAt n h) e = absurd (false≢true (sym (other n h) ∙ e))
 is-claim c other (oneString s) e = absurd (false≢true e)
@@ -114,7 +114,7 @@ module _ (n : ℕ) where
       | inr k ↦ among-second (attributeGapFrom h n) (attributeOrigins n δ) (origins n φ) (attribute-listed φ h k)
     ]
 
-unfoldable pub fragmentItems : ℕ → Items → List Fact
+unfoldable pub fragmentItems : ℕ → Items → List Holding
 unfolding origins
 fragmentItems n φ = map claim (root n ∷ origins n φ)
 
@@ -132,7 +132,7 @@ fragment-lists n φ = record { complete = complete; whole = claims-whole (fragme
         (among-second (attributeGapFrom h n) (root n ∷ []) (origins n φ) (attribute-listed n φ h (and-right (eqb m n) _ e)))
 
 -- A plug: both entries, and edges from the origins of a gap to the roots plugged in.
-abbrev edgeTo : ℕ → ℕ → Fact → List Claim
+abbrev edgeTo : ℕ → ℕ → Holding → List Claim
 edgeTo n g (claim (root m)) = edge n g m ∷ []
 edgeTo n g (claim (edge m k l)) = []
 edgeTo n g (claim (Proposal.string m h s)) = []
@@ -142,11 +142,11 @@ edgeTo n g (anyAt m h) = []
 edgeTo n g (oneString s) = []
 edgeTo n g Proposal.anyString = []
 
-unfoldable edgesFrom : ℕ → ℕ → List Fact → List Claim
+unfoldable edgesFrom : ℕ → ℕ → List Holding → List Claim
 edgesFrom n g [] = []
 edgesFrom n g (y ∷ ys) = edgeTo n g y ++ edgesFrom n g ys
 
-abbrev edgesOf : List Fact → Fact → List Claim
+abbrev edgesOf : List Holding → Holding → List Claim
 edgesOf ys (claim (root m)) = []
 edgesOf ys (claim (edge m k l)) = []
 edgesOf ys (claim (Proposal.string m h s)) = []
@@ -156,12 +156,12 @@ edgesOf ys (anyAt m h) = []
 edgesOf ys (oneString s) = []
 edgesOf ys Proposal.anyString = []
 
-unfoldable edges : List Fact → List Fact → List Claim
+unfoldable edges : List Holding → List Holding → List Claim
 unfolding edgesFrom
 edges [] ys = []
 edges (x ∷ xs) ys = edgesOf ys x ++ edges xs ys
 
-root-edge : (n g m : ℕ) (ys : List Fact) → held saysClaim ys (root m) ≡ true → saysAmong (edgesFrom n g ys) (edge n g m) ≡ true
+root-edge : (n g m : ℕ) (ys : List Holding) → held saysClaim ys (root m) ≡ true → saysAmong (edgesFrom n g ys) (edge n g m) ≡ true
 unfolding edgesFrom held
 root-edge n g m [] e = absurd (false≢true e)
 root-edge n g m (y ∷ ys) e = elim (or-cases (saysClaim y (root m)) (held saysClaim ys (root m)) e) [
@@ -169,7 +169,7 @@ root-edge n g m (y ∷ ys) e = elim (or-cases (saysClaim y (root m)) (held saysC
   | inr h ↦ among-second (edge n g m) (edgeTo n g y) (edgesFrom n g ys) (root-edge n g m ys h)
 ]
 
-gap-edge : (n g m : ℕ) (xs ys : List Fact) → held saysClaim xs (gapFrom g n) ≡ true → held saysClaim ys (root m) ≡ true → saysAmong (edges xs ys) (edge n g m) ≡ true
+gap-edge : (n g m : ℕ) (xs ys : List Holding) → held saysClaim xs (gapFrom g n) ≡ true → held saysClaim ys (root m) ≡ true → saysAmong (edges xs ys) (edge n g m) ≡ true
 unfolding edges held
 gap-edge n g m [] ys e f = absurd (false≢true e)
 gap-edge n g m (x ∷ xs) ys e f = elim (or-cases (saysClaim x (gapFrom g n)) (held saysClaim xs (gapFrom g n)) e) [
@@ -177,29 +177,29 @@ gap-edge n g m (x ∷ xs) ys e f = elim (or-cases (saysClaim x (gapFrom g n)) (h
   | inr h ↦ among-second (edge n g m) (edgesOf ys x) (edges xs ys) (gap-edge n g m xs ys h f)
 ]
 
-unfoldable pub plugItems : List Fact → List Fact → List Fact
+unfoldable pub plugItems : List Holding → List Holding → List Holding
 unfolding edges
 plugItems xs ys = xs ++ (ys ++ map claim (edges xs ys))
 
 -- Any string stays where it is in a summary that holds its strings.
-whole-more : (F H : Summary) → ((n h t : ℕ) → F (Proposal.string n h t) ≡ true → H (Proposal.string n h t) ≡ true) → (xs : List Fact)
+whole-more : (F H : Summary) → ((n h t : ℕ) → F (Proposal.string n h t) ≡ true → H (Proposal.string n h t) ≡ true) → (xs : List Holding)
     → Within (held saysClaim xs) F → Each (WholeTemplate H) xs
 whole-more F H more-strings xs w = each-map (WholeTemplate F) (WholeTemplate H) item xs (template-whole F xs w)
   where
-    item : (x : Fact) → WholeTemplate F x → WholeTemplate H x
+    item : (x : Holding) → WholeTemplate F x → WholeTemplate H x
     item (claim c) v = tt
     item (anyAt n h) v = λ t. more-strings n h t (v t)
     item (oneString s) v = tt
     item Proposal.anyString v = tt
 
-module _ (g : ℕ) (xs ys : List Fact) where
+module _ (g : ℕ) (xs ys : List Holding) where
   abbrev S : Summary
   S = held saysClaim xs
 
   abbrev T : Summary
   T = held saysClaim ys
 
-  abbrev es : List Fact
+  abbrev es : List Holding
   es = map claim (edges xs ys)
 
   of-first : (c : Claim) → S c ≡ true → held saysClaim (xs ++ (ys ++ es)) c ≡ true
@@ -238,17 +238,17 @@ module _ (g : ℕ) (xs ys : List Fact) where
   }
 
 -- A plug of strings: the entry, and strings at the origins of the attribute gap.
-abbrev filling : ℕ → ℕ → Fact → List Fact
+abbrev filling : ℕ → ℕ → Holding → List Holding
 filling n h (claim c) = []
 filling n h (anyAt m k) = []
 filling n h (oneString s) = claim (Proposal.string n h s) ∷ []
 filling n h Proposal.anyString = anyAt n h ∷ []
 
-unfoldable fillings : ℕ → ℕ → List Fact → List Fact
+unfoldable fillings : ℕ → ℕ → List Holding → List Holding
 fillings n h [] = []
 fillings n h (y ∷ ys) = filling n h y ++ fillings n h ys
 
-abbrev filledAt : ℕ → List Fact → Fact → List Fact
+abbrev filledAt : ℕ → List Holding → Holding → List Holding
 filledAt h ys (claim (root m)) = []
 filledAt h ys (claim (edge m k l)) = []
 filledAt h ys (claim (Proposal.string m k s)) = []
@@ -258,12 +258,12 @@ filledAt h ys (anyAt m k) = []
 filledAt h ys (oneString s) = []
 filledAt h ys Proposal.anyString = []
 
-unfoldable filled : ℕ → List Fact → List Fact → List Fact
+unfoldable filled : ℕ → List Holding → List Holding → List Holding
 unfolding fillings
 filled h [] ys = []
 filled h (x ∷ xs) ys = filledAt h ys x ++ filled h xs ys
 
-string-filled : (n h s : ℕ) (ys : List Fact) → held saysString ys s ≡ true → held saysClaim (fillings n h ys) (Proposal.string n h s) ≡ true
+string-filled : (n h s : ℕ) (ys : List Holding) → held saysString ys s ≡ true → held saysClaim (fillings n h ys) (Proposal.string n h s) ≡ true
 unfolding fillings held
 string-filled n h s [] e = absurd (false≢true e)
 string-filled n h s (y ∷ ys) e = elim (or-cases (saysString y s) (held saysString ys s) e) [
@@ -271,13 +271,13 @@ string-filled n h s (y ∷ ys) e = elim (or-cases (saysString y s) (held saysStr
   | inr k ↦ in-second saysClaim (fillings n h ys) (Proposal.string n h s) (filling n h y) (string-filled n h s ys k)
 ]
   where
-    here : (y : Fact) → saysString y s ≡ true → held saysClaim (filling n h y) (Proposal.string n h s) ≡ true
+    here : (y : Holding) → saysString y s ≡ true → held saysClaim (filling n h y) (Proposal.string n h s) ≡ true
     here (claim c) k = absurd (false≢true k)
     here (anyAt m l) k = absurd (false≢true k)
     here (oneString t) k = rw (eqb-true s t k) (or-left _ _ (says-itself (Proposal.string n h t)))
     here Proposal.anyString k = or-left _ _ (says-any n h s)
 
-origin-filled : (n h s : ℕ) (xs ys : List Fact) → held saysClaim xs (attributeGapFrom h n) ≡ true → held saysString ys s ≡ true
+origin-filled : (n h s : ℕ) (xs ys : List Holding) → held saysClaim xs (attributeGapFrom h n) ≡ true → held saysString ys s ≡ true
     → held saysClaim (filled h xs ys) (Proposal.string n h s) ≡ true
 unfolding filled held
 origin-filled n h s [] ys e f = absurd (false≢true e)
@@ -289,26 +289,26 @@ origin-filled n h s (x ∷ xs) ys e f = elim (or-cases (saysClaim x (attributeGa
 
 -- Any string that is filled in is held.
 module _ (h : ℕ) (S : Summary) (Y : Strings) where
-  fillings-whole : (n k : ℕ) → eqb k h ≡ true → S (attributeGapFrom k n) ≡ true → (ys : List Fact) → Within (held saysString ys) Y
+  fillings-whole : (n k : ℕ) → eqb k h ≡ true → S (attributeGapFrom k n) ≡ true → (ys : List Holding) → Within (held saysString ys) Y
       → Each (WholeTemplate (plugStringSummary h S Y)) (fillings n k ys)
   unfolding fillings held
   fillings-whole n k q o [] w = tt
   fillings-whole n k q o (y ∷ ys) w = each-append _ (filling n k y) (fillings n k ys) (item y (λ t e. w t (or-left _ _ e)))
       (fillings-whole n k q o ys (λ t e. w t (or-right (saysString y t) _ e)))
     where
-      item : (y : Fact) → Within (saysString y) Y → Each (WholeTemplate (plugStringSummary h S Y)) (filling n k y)
+      item : (y : Holding) → Within (saysString y) Y → Each (WholeTemplate (plugStringSummary h S Y)) (filling n k y)
       item (claim c) v = tt
       item (anyAt m l) v = tt
       item (oneString s) v = (tt, tt)
       item Proposal.anyString v = (λ t. or-right (S (Proposal.string n k t)) _ (and-both _ _ (and-both _ _ q o) (v t refl)), tt)
 
-  filled-whole : (xs ys : List Fact) → Within (held saysClaim xs) S → Within (held saysString ys) Y → Each (WholeTemplate (plugStringSummary h S Y)) (filled h xs ys)
+  filled-whole : (xs ys : List Holding) → Within (held saysClaim xs) S → Within (held saysString ys) Y → Each (WholeTemplate (plugStringSummary h S Y)) (filled h xs ys)
   unfolding filled held
   filled-whole [] ys w u = tt
   filled-whole (x ∷ xs) ys w u = each-append _ (filledAt h ys x) (filled h xs ys) (item x (λ c e. w c (or-left _ _ e)))
       (filled-whole xs ys (λ c e. w c (or-right (saysClaim x c) _ e)) u)
     where
-      item : (x : Fact) → Within (saysClaim x) S → Each (WholeTemplate (plugStringSummary h S Y)) (filledAt h ys x)
+      item : (x : Holding) → Within (saysClaim x) S → Each (WholeTemplate (plugStringSummary h S Y)) (filledAt h ys x)
       item (claim (root m)) v = tt
       item (claim (edge m k l)) v = tt
       item (claim (Proposal.string m k s)) v = tt
@@ -322,11 +322,11 @@ module _ (h : ℕ) (S : Summary) (Y : Strings) where
       item (oneString s) v = tt
       item Proposal.anyString v = tt
 
-unfoldable pub fillItems : ℕ → List Fact → List Fact → List Fact
+unfoldable pub fillItems : ℕ → List Holding → List Holding → List Holding
 unfolding filled
 fillItems h xs ys = xs ++ filled h xs ys
 
-pub fill-lists : (h : ℕ) (xs ys : List Fact) → ListsTemplate (plugStringSummary h (held saysClaim xs) (held saysString ys)) (fillItems h xs ys)
+pub fill-lists : (h : ℕ) (xs ys : List Holding) → ListsTemplate (plugStringSummary h (held saysClaim xs) (held saysString ys)) (fillItems h xs ys)
 unfolding fillItems
 fill-lists h xs ys = record {
   complete = complete;

@@ -1,5 +1,5 @@
 -- The marked cases of document 01, "Job J1 and its variants", as a table: the bytes of a job, its verdict, and the four numbers that
--- document 01 prints for it. A variant is J1 with some bytes of its parts replaced. One theorem, `rows-hold` in proofs/, is for all
+-- document 01 prints for it. A variant is J1 with some bytes of its parts exchanged. One theorem, `rows-hold` in proofs/, is for all
 -- rows.
 use Prim.Native.Nat.{ℕ}
 use mathlib.Core.Path.{_≡_}
@@ -42,13 +42,13 @@ beginsWith (a ∷ old) [] = false
 beginsWith (a ∷ old) (b ∷ s) = eqb a b && beginsWith old s
 
 -- Bytes with new ones in place of the first `old` that stands in them.
-abbrev pub replaced : List ℕ → List ℕ → List ℕ → List ℕ
-replaced old new [] = []
-replaced old new (a ∷ s) = cond (beginsWith old (a ∷ s)) (new ++ drop (length old) (a ∷ s)) (a ∷ replaced old new s)
+abbrev pub exchanged : List ℕ → List ℕ → List ℕ → List ℕ
+exchanged old new [] = []
+exchanged old new (a ∷ s) = cond (beginsWith old (a ∷ s)) (new ++ drop (length old) (a ∷ s)) (a ∷ exchanged old new s)
 
 -- A proposal with new items under the head of variable 0 at a point, where `old` ones stand.
 abbrev pub withItems : ℕ → List ℕ → List ℕ → List ℕ → List ℕ
-withItems p old new = replaced (0x40 ∷ p ∷ 0x00 ∷ old) (0x40 ∷ p ∷ 0x00 ∷ new)
+withItems p old new = exchanged (0x40 ∷ p ∷ 0x00 ∷ old) (0x40 ∷ p ∷ 0x00 ∷ new)
 
 -- What J1's proposal has of variable 0 at points 3 and 4; and the proposal with new items there.
 abbrev pub shownItems : List ℕ
@@ -59,7 +59,7 @@ withShown new = withItems 3 shownItems new (withItems 4 shownItems new proposalP
 
 -- J1's templates and a third one.
 abbrev pub threeTemplates : List ℕ
-threeTemplates = replaced (0x2F ∷ []) (0x20 ∷ 0x22 ∷ 0x01 ∷ 0x27 ∷ 0x2F ∷ []) templatesPart
+threeTemplates = exchanged (0x2F ∷ []) (0x20 ∷ 0x22 ∷ 0x01 ∷ 0x27 ∷ 0x2F ∷ []) templatesPart
 
 -- J1 with these templates, this program and this proposal.
 abbrev pub variant : List ℕ → List ℕ → List ℕ → List ℕ
@@ -96,20 +96,20 @@ table =
     -- Point 2 made `30 00 00 03 03`, `45 00 01` added to variable 0 at points 3 and 4: 12 3 1 20, since the gap may stay empty.
     ∷ record {
       bytes = variant templatesPart
-          (replaced (0x35 ∷ 0x00 ∷ 0x00 ∷ 0x00 ∷ 0x01 ∷ 0x03 ∷ 0x03 ∷ []) (0x30 ∷ 0x00 ∷ 0x00 ∷ 0x03 ∷ 0x03 ∷ []) programPart)
+          (exchanged (0x35 ∷ 0x00 ∷ 0x00 ∷ 0x00 ∷ 0x01 ∷ 0x03 ∷ 0x03 ∷ []) (0x30 ∷ 0x00 ∷ 0x00 ∷ 0x03 ∷ 0x03 ∷ []) programPart)
           (withShown (0x41 ∷ 0x01 ∷ 0x42 ∷ 0x01 ∷ 0x00 ∷ 0x02 ∷ 0x45 ∷ 0x00 ∷ 0x01 ∷ []));
       verdict = Refused (Refusals.Page (WrongElement 3 1 20));
       numbers = prints 12 3 1 20;
     }
     -- Template 1 with `22 00` twice: 12 3 1 20.
     ∷ record {
-      bytes = variant (replaced (0x22 ∷ 0x00 ∷ []) (0x22 ∷ 0x00 ∷ 0x22 ∷ 0x00 ∷ []) templatesPart) programPart proposalPart;
+      bytes = variant (exchanged (0x22 ∷ 0x00 ∷ []) (0x22 ∷ 0x00 ∷ 0x22 ∷ 0x00 ∷ []) templatesPart) programPart proposalPart;
       verdict = Refused (Refusals.Page (WrongElement 3 1 20));
       numbers = prints 12 3 1 20;
     }
     -- Show of variable 1: 11 3 2 0.
     ∷ record {
-      bytes = variant templatesPart (replaced (0x37 ∷ 0x00 ∷ []) (0x37 ∷ 0x01 ∷ []) programPart) proposalPart;
+      bytes = variant templatesPart (exchanged (0x37 ∷ 0x00 ∷ []) (0x37 ∷ 0x01 ∷ []) programPart) proposalPart;
       verdict = Refused (Refusals.Page (NotRoot 3 2));
       numbers = prints 11 3 2 0;
     }

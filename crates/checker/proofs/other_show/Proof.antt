@@ -1,10 +1,9 @@
 -- The shows of the points passed by hold: they show nothing, or the graph.
 use Prim.Native.Nat.{_-_}
-use mathlib.Core.Logic.{⊎-elim}
 use borrow.Author.Tests.{not-false}
 use borrow.Author.Needs.{needs}
 use Rattle.checker.specs.Promises.{PassedBy}
-use Rattle.checker.proofs.Points.{place-is, shows-nothing, same-graph, passed-none, passed-more}
+use Rattle.checker.proofs.Points.{passed-none, passes-more}
 use Rattle.checker.proofs.other_show.Statement.{statement}
 use Rattle.checker.proofs.other_show.Tie as tie
 
@@ -17,23 +16,17 @@ abbrev μ-loop : tie.MeasureT-loop
 loop-holds : tie.Need-loop-holds Inv-loop μ-loop
 loop-holds c = passed-none _ _ _ _ _ _
 
-none-requires : tie.Need-none-requires Inv-loop μ-loop
-none-requires c κs = search needs
+mul-is-passed-by : tie.Need-mul-is-passed-by Inv-loop μ-loop
+mul-is-passed-by c = search needs
 
-mul-shown-graph : tie.Need-mul-shown-graph Inv-loop μ-loop
-mul-shown-graph c = search needs
+element-copy-out-is-passed-by : tie.Need-element-copy-out-is-passed-by Inv-loop μ-loop
+element-copy-out-is-passed-by c = search needs
 
-element-copy-out-shown-graph : tie.Need-element-copy-out-shown-graph Inv-loop μ-loop
-element-copy-out-shown-graph c = search needs
-
-shown-graph-requires : tie.Need-shown-graph-requires Inv-loop μ-loop
-shown-graph-requires c κs = search needs
-
-same-requires : tie.Need-same-requires Inv-loop μ-loop
-same-requires c κs = search needs
+is-passed-by-requires : tie.Need-is-passed-by-requires Inv-loop μ-loop
+is-passed-by-requires c κs = search needs
 
 returns : tie.Need-returns Inv-loop μ-loop
-returns c = c .before .before .before .before .before .before .before .before .before .loop .inv
+returns c = c .before .before .before .before .loop .inv
 
 add-q : tie.Need-add-q Inv-loop μ-loop
 add-q c = search needs
@@ -43,17 +36,10 @@ loop-less c = search needs
 
 loop-again : tie.Need-loop-again Inv-loop μ-loop
 loop-again c =
-    let l = c .before .before .before .before .before .before .loop in
-    let h = c .before .before .before .before .before .loop-test .taken in
-    let none = c .before .before .before .before .none in
-    let show = c .before .shown-graph in
-    let places = c .before .before .before .before .before .before .before .before .args .places .now in
-    passed-more _ _ _ _ _ _ (l .q) (l .inv) (λ rules templates count starts j R right.
-    let is = place-is _ (l .q) places (R .parts .few-points) h in
-    ⊎-elim
-    (λ m. same-graph _ _ _ _ _ _ _ _ j R (l .q) _ h is _ (none .ensures) _ (show .result) (show .ensures) (m .0 .taken) _ right (m .2 .ensures (not-false _ (m .3 .left))))
-    (λ m. shows-nothing _ _ _ _ _ _ _ _ j R (l .q) _ h is _ (none .ensures) _ (show .result) (show .ensures) (m .left))
-    (c .if1 .came))
+    let args = c .before .before .before .before .before .before .args in
+    let l = c .before .before .before .before .loop in
+    let passes = c .before .is-passed-by in
+    passes-more (args .s .now) (args .heads .now) (args .places .now) (args .points) (args .graph .now) (args .from) (l .q) (c .before .before .before .loop-test .taken) (l .inv) (passes .result) (not-false _ (c .if1 .left)) (passes .ensures)
 
 returns-2 : tie.Need-returns-2 Inv-loop μ-loop
 returns-2 c = c .before .loop .inv
@@ -65,11 +51,9 @@ other-show-spec =
     Inv-loop
     μ-loop
     loop-holds
-    none-requires
-    mul-shown-graph
-    element-copy-out-shown-graph
-    shown-graph-requires
-    same-requires
+    mul-is-passed-by
+    element-copy-out-is-passed-by
+    is-passed-by-requires
     returns
     add-q
     loop-less

@@ -1,5 +1,6 @@
 -- Each turn leaves the strings that one fact more does not tell from s.
 use Prim.Native.Nat.{_-_, _≤_}
+use mathlib.Core.Path.{refl}
 use mathlib.Core.Logic.{inl, inr}
 use native.Mathlib.Omega.{arith}
 use borrow.Author.Needs.{needs}
@@ -9,10 +10,10 @@ use Rattle.clauses.proofs.alike.Statement.{statement}
 use Rattle.clauses.proofs.alike.Tie as tie
 
 abbrev Inv-loop : tie.InvT-loop
-Inv-loop facts a s count set₀ i₀ set i = (i ≤ 8) × AlikeTo facts a s i set
+Inv-loop a s facts count set₀ i₀ set i = (i ≤ 8) × AlikeTo facts a s i set
 
 abbrev μ-loop : tie.MeasureT-loop
-μ-loop facts a s count set₀ i₀ set i = 8 - i
+μ-loop a s facts count set₀ i₀ set i = 8 - i
 
 all-requires : tie.Need-all-requires Inv-loop μ-loop
 all-requires c κs = search needs
@@ -23,8 +24,11 @@ loop-holds c = (omega arith, alike-none _ _ _ _ (c .all .ensures))
 returns : tie.Need-returns Inv-loop μ-loop
 returns c = alike-all _ _ _ (c .before .before .loop .i) _ (inl (c .if1 .taken)) (c .before .before .loop .inv .1)
 
-fact-at-requires : tie.Need-fact-at-requires Inv-loop μ-loop
-fact-at-requires c κs = search needs
+mul-kept : tie.Need-mul-kept Inv-loop μ-loop
+mul-kept c = search needs
+
+element-copy-out-kept : tie.Need-element-copy-out-kept Inv-loop μ-loop
+element-copy-out-kept c = search needs
 
 flagged-strings-requires : tie.Need-flagged-strings-requires Inv-loop μ-loop
 flagged-strings-requires c κs = search needs
@@ -44,7 +48,7 @@ loop-again c =
     let args = c .before .before .before .before .before .before .before .args in
     let told = c .before .flagged-strings in (
       omega arith,
-      alike-more _ _ _ (l .i) _ (told .result) _ (omega arith) (omega arith) (tells-at (args .facts) (l .i) (args .a) _ _ (c .before .before .fact-at .ensures) (told .ensures))
+      alike-more _ _ _ (l .i) _ (told .result) _ (omega arith) (omega arith) (tells-at (args .t1) (l .i) (args .a) _ _ refl (told .ensures))
           (c .with-same-flag .ensures) (l .inv .1),
     )
 
@@ -60,7 +64,8 @@ alike-spec =
     all-requires
     loop-holds
     returns
-    fact-at-requires
+    mul-kept
+    element-copy-out-kept
     flagged-strings-requires
     with-same-flag-requires
     add-i

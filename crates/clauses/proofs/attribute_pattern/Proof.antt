@@ -1,19 +1,18 @@
 -- Each turn puts the flag of one fact below those of the facts after it.
 use Prim.Native.Nat.{_-_}
 use mathlib.Core.Bool.{true, false}
-use mathlib.Core.Path.{sym, _∙_}
+use mathlib.Core.Path.{refl, sym, _∙_}
 use native.Mathlib.Omega.{arith}
 use borrow.Author.Needs.{needs}
-use Rattle.readings.proofs.Spreading.{odd, even}
-use Rattle.clauses.proofs.AttributeFlags.{tells-at, Numbering, numbering-none, too-many, numbering-all, numbering-room, numbering-more}
+use Rattle.clauses.proofs.AttributeFlags.{odd, even, tells-at, Numbering, numbering-none, too-many, numbering-all, numbering-room, numbering-more}
 use Rattle.clauses.proofs.attribute_pattern.Statement.{statement}
 use Rattle.clauses.proofs.attribute_pattern.Tie as tie
 
 abbrev Inv-loop : tie.InvT-loop
-Inv-loop facts a s count i₀ pattern₀ i pattern = Numbering facts a s i pattern
+Inv-loop a s facts count i₀ pattern₀ i pattern = Numbering facts a s i pattern
 
 abbrev μ-loop : tie.MeasureT-loop
-μ-loop facts a s count i₀ pattern₀ i pattern = i
+μ-loop a s facts count i₀ pattern₀ i pattern = i
 
 returns : tie.Need-returns Inv-loop μ-loop
 returns c = too-many _ _ _ (c .if1 .taken)
@@ -24,8 +23,11 @@ loop-holds c = numbering-none _ _ _ (c .if1 .left)
 sub-i : tie.Need-sub-i Inv-loop μ-loop
 sub-i c = search needs
 
-fact-at-requires : tie.Need-fact-at-requires Inv-loop μ-loop
-fact-at-requires c κs = omega (arith, c .before .loop .inv .within, c .before .loop .inv .few)
+mul-kept : tie.Need-mul-kept Inv-loop μ-loop
+mul-kept c = search needs
+
+element-copy-out-kept : tie.Need-element-copy-out-kept Inv-loop μ-loop
+element-copy-out-kept c = omega (arith, c .before .loop .inv .within, c .before .loop .inv .few)
 
 flagged-strings-requires : tie.Need-flagged-strings-requires Inv-loop μ-loop
 flagged-strings-requires c κs = search needs
@@ -48,7 +50,7 @@ loop-again c =
     let args = c .before .before .before .before .before .before .before .args in
     let told = c .before .before .flagged-strings in
     rw (odd (l .pattern)) (numbering-more _ _ _ (l .i) (l .pattern) (l .inv) (c .before .before .before .before .loop-test .taken) true (told .result)
-    (tells-at (args .facts) (l .i - 1) (args .a) _ _ (c .before .before .before .fact-at .ensures) (told .ensures)) (sym (c .if2 .taken) ∙ c .before .has .ensures))
+    (tells-at (args .t1) (l .i - 1) (args .a) _ _ refl (told .ensures)) (sym (c .if2 .taken) ∙ c .before .has .ensures))
 
 mul-pattern-2 : tie.Need-mul-pattern-2 Inv-loop μ-loop
 mul-pattern-2 c = omega (arith, numbering-room _ _ _ _ _ (c .before .before .before .before .before .loop .inv) (c .before .before .before .before .loop-test .taken))
@@ -62,7 +64,7 @@ loop-again-2 c =
     let args = c .before .before .before .before .before .before .before .args in
     let told = c .before .before .flagged-strings in
     rw (even (l .pattern)) (numbering-more _ _ _ (l .i) (l .pattern) (l .inv) (c .before .before .before .before .loop-test .taken) false (told .result)
-    (tells-at (args .facts) (l .i - 1) (args .a) _ _ (c .before .before .before .fact-at .ensures) (told .ensures)) (sym (c .if2 .left) ∙ c .before .has .ensures))
+    (tells-at (args .t1) (l .i - 1) (args .a) _ _ refl (told .ensures)) (sym (c .if2 .left) ∙ c .before .has .ensures))
 
 returns-2 : tie.Need-returns-2 Inv-loop μ-loop
 returns-2 c = numbering-all _ _ _ (c .before .loop .i) (c .before .loop .pattern) (c .loop-test .left) (c .before .loop .inv)
@@ -76,7 +78,8 @@ attribute-pattern-spec =
     returns
     loop-holds
     sub-i
-    fact-at-requires
+    mul-kept
+    element-copy-out-kept
     flagged-strings-requires
     has-requires
     mul-pattern

@@ -5,7 +5,7 @@ use mathlib.Core.Bool.{true}
 use native.Mathlib.Omega.{arith}
 use borrow.Author.Needs.{needs}
 use Rattle.strings.specs.Strings.{strings, hasString}
-use Rattle.readings.specs.Promises.{OfFacts}
+use Rattle.schemes.specs.Promises.{OfFacts}
 use Rattle.clauses.proofs.StringSets.{PatternsTo, patterns-none, patterns-more, patterns-all}
 use Rattle.clauses.proofs.with_patterns.Statement.{statement}
 use Rattle.clauses.proofs.with_patterns.Tie as tie

@@ -86,34 +86,64 @@ enum-told-4 : tie.Need-enum-told-4
 enum-told-4 c = search needs
 
 returns : tie.Need-returns
-returns c = λ j x zs P set l.
-    copied-decides j (c .before .before .before .before .before .before .args .s .now) (c .before .before .before .before .before .before .args .gaps .now) (c .before .before .before .before .before .before .args .heads .now) (c .before .before .before .before .before .before .args .p) (c .before .before .before .before .before .before .args .act) P x (held saysClaim zs) (c .entry-within .result) set _ _ (c .before .before .before .act .given .1) (c .before .template-head .result .at) (c .before .template-head .ensures) (λ xs k. c .entry-within .ensures xs zs k l)
+returns c =
+    let args = c .before .before .before .before .before .before .before .args in
+    let head = c .before .before .template-head in (
+      λ j x zs P set l.
+          copied-decides j (args .s .now) (args .gaps .now) (args .heads .now) (args .p) (args .act) P x (held saysClaim zs) (c .entry-within .result) set _ _ (c .before .before .before .before .act .given .1) (head .result .at) (head .ensures) (λ xs k. c .entry-within .ensures .0 xs zs k l),
+      c .entry-within .ensures .1,
+    )
 
 returns-2 : tie.Need-returns-2
-returns-2 c = λ j x zs P set l.
-    fragment-decides j (c .before .before .before .before .before .before .args .s .now) (c .before .before .before .before .before .before .args .gaps .now) (c .before .before .before .before .before .before .args .heads .now) (c .before .before .before .before .before .before .args .p) (c .before .before .before .before .before .before .args .act) P x (held saysClaim zs) (c .fragment-within .result) set _ _ (c .before .before .before .act2 .given .1) (λ φ g. c .fragment-within .ensures φ zs g l)
+returns-2 c =
+    let args = c .before .before .before .before .before .before .before .args in (
+      λ j x zs P set l.
+          fragment-decides j (args .s .now) (args .gaps .now) (args .heads .now) (args .p) (args .act) P x (held saysClaim zs) (c .fragment-within .result) set _ _ (c .before .before .before .before .act2 .given .1) (λ φ g. c .fragment-within .ensures .0 φ zs g l),
+      c .fragment-within .ensures .1,
+    )
 
 returns-3 : tie.Need-returns-3
-returns-3 c = λ j x zs P set l.
-    plugged-decides j (c .before .before .before .before .before .before .before .args .s .now) (c .before .before .before .before .before .before .before .args .gaps .now) (c .before .before .before .before .before .before .before .args .heads .now) (c .before .before .before .before .before .before .before .args .p) (c .before .before .before .before .before .before .before .args .act) P x (held saysClaim zs) (c .plug-within .result) set _ _ _ _ (c .before .before .before .before .act3 .given .1) (c .before .before .template-head2 .result .at) (c .before .template-head3 .result .at) (c .before .before .template-head2 .ensures) (c .before .template-head3 .ensures)
-    (λ xs ys k m. c .plug-within .ensures xs ys zs k m l)
+returns-3 c =
+    let args = c .before .before .before .before .before .before .before .before .args in
+    let first = c .before .before .before .template-head2 in
+    let second = c .before .before .template-head3 in (
+      λ j x zs P set l.
+          plugged-decides j (args .s .now) (args .gaps .now) (args .heads .now) (args .p) (args .act) P x (held saysClaim zs) (c .plug-within .result) set _ _ _ _ (c .before .before .before .before .before .act3 .given .1) (first .result .at) (second .result .at) (first .ensures) (second .ensures)
+          (λ xs ys k m. c .plug-within .ensures .0 xs ys zs k m l),
+      c .plug-within .ensures .1,
+    )
 
 returns-4 : tie.Need-returns-4
-returns-4 c = λ j x zs P set l.
-    filled-decides j (c .before .before .before .before .before .before .before .before .args .s .now) (c .before .before .before .before .before .before .before .before .args .gaps .now) (c .before .before .before .before .before .before .before .before .args .heads .now) (c .before .before .before .before .before .before .before .before .args .p) (c .before .before .before .before .before .before .before .before .args .act) P x (held saysClaim zs) (c .fill-within .result) set _ _ _ _ (c .before .before .before .before .before .act4 .given .1) (c .before .before .before .template-head4 .result .at) (c .before .before .string-head .result .at) (c .before .before .before .template-head4 .ensures) (c .before .before .string-head .ensures) (c .before .strings-of .result) (c .before .strings-of .ensures)
-    (λ xs Y k e. c .fill-within .ensures xs Y zs k e l)
+returns-4 c =
+    let args = c .before .before .before .before .before .before .before .before .before .args in
+    let first = c .before .before .before .before .template-head4 in
+    let second = c .before .before .before .string-head in
+    let values = c .before .before .strings-of in (
+      λ j x zs P set l.
+          filled-decides j (args .s .now) (args .gaps .now) (args .heads .now) (args .p) (args .act) P x (held saysClaim zs) (c .fill-within .result) set _ _ _ _ (c .before .before .before .before .before .before .act4 .given .1) (first .result .at) (second .result .at) (first .ensures) (second .ensures) (values .result) (values .ensures)
+          (λ xs Y k e. c .fill-within .ensures .0 xs Y zs k e l),
+      c .fill-within .ensures .1,
+    )
 
 returns-5 : tie.Need-returns-5
-returns-5 c = λ j x zs P set l. no-template j (c .before .before .before .args .s .now) (c .before .before .before .args .gaps .now) (c .before .before .before .args .heads .now) (c .before .before .before .args .p) (c .before .before .before .args .act) P x (held saysClaim zs) true set _ (c .enum-told .given .1) (λ y. refl)
+returns-5 c =
+    let args = c .before .before .before .args in
+    (λ j x zs P set l. no-template j (args .s .now) (args .gaps .now) (args .heads .now) (args .p) (args .act) P x (held saysClaim zs) true set _ (c .enum-told .given .1) (λ y. refl), c .before .before .before .pre)
 
 returns-6 : tie.Need-returns-6
-returns-6 c = λ j x zs P set l. no-template j (c .before .before .before .args .s .now) (c .before .before .before .args .gaps .now) (c .before .before .before .args .heads .now) (c .before .before .before .args .p) (c .before .before .before .args .act) P x (held saysClaim zs) true set _ (c .enum-told2 .given .1) (λ y. refl)
+returns-6 c =
+    let args = c .before .before .before .args in
+    (λ j x zs P set l. no-template j (args .s .now) (args .gaps .now) (args .heads .now) (args .p) (args .act) P x (held saysClaim zs) true set _ (c .enum-told2 .given .1) (λ y. refl), c .before .before .before .pre)
 
 returns-7 : tie.Need-returns-7
-returns-7 c = λ j x zs P set l. no-template j (c .before .before .before .args .s .now) (c .before .before .before .args .gaps .now) (c .before .before .before .args .heads .now) (c .before .before .before .args .p) (c .before .before .before .args .act) P x (held saysClaim zs) true set _ (c .enum-told3 .given .1) (λ y. refl)
+returns-7 c =
+    let args = c .before .before .before .args in
+    (λ j x zs P set l. no-template j (args .s .now) (args .gaps .now) (args .heads .now) (args .p) (args .act) P x (held saysClaim zs) true set _ (c .enum-told3 .given .1) (λ y. refl), c .before .before .before .pre)
 
 returns-8 : tie.Need-returns-8
-returns-8 c = λ j x zs P set l. no-template j (c .before .before .before .args .s .now) (c .before .before .before .args .gaps .now) (c .before .before .before .args .heads .now) (c .before .before .before .args .p) (c .before .before .before .args .act) P x (held saysClaim zs) true set _ (c .enum-told4 .given .1) (λ y. refl)
+returns-8 c =
+    let args = c .before .before .before .args in
+    (λ j x zs P set l. no-template j (args .s .now) (args .gaps .now) (args .heads .now) (args .p) (args .act) P x (held saysClaim zs) true set _ (c .enum-told4 .given .1) (λ y. refl), c .before .before .before .pre)
 
 pub assigned-holds-spec : {M : Type 1} → statement M
 assigned-holds-spec =

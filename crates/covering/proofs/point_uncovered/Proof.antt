@@ -17,30 +17,66 @@ enum-told : tie.Need-enum-told
 enum-told c = search needs
 
 returns : tie.Need-returns
-returns c = λ j count starts points places T G f place-is.
-    stops j (c .before .before .before .before .before .args .s .now) count starts points places (c .before .before .before .before .before .args .names) (c .before .before .before .before .before .args .heads .now) T (c .before .before .before .before .before .args .gaps .now) G (c .before .before .before .before .before .args .p) (c .before .before .before .before .before .args .place) f place-is (c .before .before .before .new .result) (c .before .before .before .new .ensures) (c .before .before .statement-at .result) (c .before .before .statement-at .ensures) (c .enum-told .given .1)
+returns c =
+    let args = c .before .before .before .before .before .args in
+    let here = c .before .before .before .new in
+    let at = c .before .before .statement-at in (
+      λ j count starts points places T G f place-is.
+          stops j (args .s .now) count starts points places (args .names) (args .heads .now) T (args .gaps .now) G (args .p) (args .place) f place-is (here .result) (here .ensures) (at .result) (at .ensures) (c .enum-told .given .1),
+      c .before .before .before .before .before .pre,
+    )
 
 lowest-uncovered-requires : tie.Need-lowest-uncovered-requires
 lowest-uncovered-requires c κs = search needs
 
 returns-2 : tie.Need-returns-2
-returns-2 c = λ j count starts points places T G f place-is.
-    first-fails j (c .before .before .before .before .before .before .before .before .args .s .now) count starts points places (c .before .before .before .before .before .before .before .before .args .names) (c .before .before .before .before .before .before .before .before .args .heads .now) T (c .before .before .before .before .before .before .before .before .args .gaps .now) G (c .before .before .before .before .before .before .before .before .args .p) (c .before .before .before .before .before .before .before .before .args .place) f place-is (c .before .before .before .before .before .before .new .result) (c .before .before .before .before .before .before .new .ensures) (c .before .before .before .before .before .statement-at .result) (c .before .before .before .before .before .statement-at .ensures) _ _ _ (c .before .before .before .statement .given .1) (c .before .lowest-uncovered .result) (c .before .lowest-uncovered .ensures j) (c .if1 .taken)
+returns-2 c =
+    let args = c .before .before .before .before .before .before .before .before .before .args in
+    let here = c .before .before .before .before .before .before .before .new in
+    let at = c .before .before .before .before .before .before .statement-at in
+    let first = c .before .lowest-uncovered in (
+      λ j count starts points places T G f place-is.
+          first-fails j (args .s .now) count starts points places (args .names) (args .heads .now) T (args .gaps .now) G (args .p) (args .place) f place-is (here .result) (here .ensures) (at .result) (at .ensures) _ _ _ (c .before .before .before .before .statement .given .1) (first .result) (first .ensures .0 j) (c .if1 .taken),
+      first .ensures .1,
+    )
 
 returns-3 : tie.Need-returns-3
-returns-3 c = λ j count starts points places T G f place-is.
-    same-sides j (c .before .before .before .before .before .before .before .before .before .args .s .now) count starts points places (c .before .before .before .before .before .before .before .before .before .args .names) (c .before .before .before .before .before .before .before .before .before .args .heads .now) T (c .before .before .before .before .before .before .before .before .before .args .gaps .now) G (c .before .before .before .before .before .before .before .before .before .args .p) (c .before .before .before .before .before .before .before .before .before .args .place) f place-is (c .before .before .before .before .before .before .before .new .result) (c .before .before .before .before .before .before .before .new .ensures) (c .before .before .before .before .before .before .statement-at .result) (c .before .before .before .before .before .before .statement-at .ensures) _ _ _ (c .before .before .before .before .statement .given .1) (c .before .before .lowest-uncovered .result) (c .before .before .lowest-uncovered .ensures j) (c .before .if1 .left) (c .if2 .taken)
+returns-3 c =
+    let args = c .before .before .before .before .before .before .before .before .before .before .args in
+    let here = c .before .before .before .before .before .before .before .before .new in
+    let at = c .before .before .before .before .before .before .before .statement-at in
+    let first = c .before .before .lowest-uncovered in (
+      λ j count starts points places T G f place-is.
+          same-sides j (args .s .now) count starts points places (args .names) (args .heads .now) T (args .gaps .now) G (args .p) (args .place) f place-is (here .result) (here .ensures) (at .result) (at .ensures) _ _ _ (c .before .before .before .before .before .statement .given .1) (first .result) (first .ensures .0 j) (c .before .if1 .left) (c .if2 .taken),
+      first .ensures .1,
+    )
 
 lowest-uncovered-requires-2 : tie.Need-lowest-uncovered-requires-2
 lowest-uncovered-requires-2 c κs = search needs
 
 returns-4 : tie.Need-returns-4
-returns-4 c = λ j count starts points places T G f place-is.
-    second-fails j (c .before .before .before .before .before .before .before .before .before .before .before .args .s .now) count starts points places (c .before .before .before .before .before .before .before .before .before .before .before .args .names) (c .before .before .before .before .before .before .before .before .before .before .before .args .heads .now) T (c .before .before .before .before .before .before .before .before .before .before .before .args .gaps .now) G (c .before .before .before .before .before .before .before .before .before .before .before .args .p) (c .before .before .before .before .before .before .before .before .before .before .before .args .place) f place-is (c .before .before .before .before .before .before .before .before .before .new .result) (c .before .before .before .before .before .before .before .before .before .new .ensures) (c .before .before .before .before .before .before .before .before .statement-at .result) (c .before .before .before .before .before .before .before .before .statement-at .ensures) _ _ _ (c .before .before .before .before .before .before .statement .given .1) (c .before .before .before .before .lowest-uncovered .result) (c .before .before .before .before .lowest-uncovered .ensures j) (c .before .before .before .if1 .left) (c .before .lowest-uncovered2 .result) (c .before .lowest-uncovered2 .ensures j) (c .if3 .taken)
+returns-4 c =
+    let args = c .before .before .before .before .before .before .before .before .before .before .before .before .before .args in
+    let here = c .before .before .before .before .before .before .before .before .before .before .before .new in
+    let at = c .before .before .before .before .before .before .before .before .before .before .statement-at in
+    let first = c .before .before .before .before .before .lowest-uncovered in
+    let second = c .before .lowest-uncovered2 in (
+      λ j count starts points places T G f place-is.
+          second-fails j (args .s .now) count starts points places (args .names) (args .heads .now) T (args .gaps .now) G (args .p) (args .place) f place-is (here .result) (here .ensures) (at .result) (at .ensures) _ _ _ (c .before .before .before .before .before .before .before .before .statement .given .1) (first .result) (first .ensures .0 j) (c .before .before .before .before .if1 .left) (second .result) (second .ensures .0 j) (c .if3 .taken),
+      second .ensures .1,
+    )
 
 returns-5 : tie.Need-returns-5
-returns-5 c = λ j count starts points places T G f place-is.
-    both-hold j (c .before .before .before .before .before .before .before .before .before .before .before .args .s .now) count starts points places (c .before .before .before .before .before .before .before .before .before .before .before .args .names) (c .before .before .before .before .before .before .before .before .before .before .before .args .heads .now) T (c .before .before .before .before .before .before .before .before .before .before .before .args .gaps .now) G (c .before .before .before .before .before .before .before .before .before .before .before .args .p) (c .before .before .before .before .before .before .before .before .before .before .before .args .place) f place-is (c .before .before .before .before .before .before .before .before .before .new .result) (c .before .before .before .before .before .before .before .before .before .new .ensures) (c .before .before .before .before .before .before .before .before .statement-at .result) (c .before .before .before .before .before .before .before .before .statement-at .ensures) _ _ _ (c .before .before .before .before .before .before .statement .given .1) (c .before .before .before .before .lowest-uncovered .result) (c .before .before .before .before .lowest-uncovered .ensures j) (c .before .before .before .if1 .left) (c .before .lowest-uncovered2 .result) (c .before .lowest-uncovered2 .ensures j) (c .if3 .left)
+returns-5 c =
+    let args = c .before .before .before .before .before .before .before .before .before .before .before .before .before .args in
+    let here = c .before .before .before .before .before .before .before .before .before .before .before .new in
+    let at = c .before .before .before .before .before .before .before .before .before .before .statement-at in
+    let first = c .before .before .before .before .before .lowest-uncovered in
+    let second = c .before .lowest-uncovered2 in (
+      λ j count starts points places T G f place-is.
+          both-hold j (args .s .now) count starts points places (args .names) (args .heads .now) T (args .gaps .now) G (args .p) (args .place) f place-is (here .result) (here .ensures) (at .result) (at .ensures) _ _ _ (c .before .before .before .before .before .before .before .before .statement .given .1) (first .result) (first .ensures .0 j) (c .before .before .before .before .if1 .left) (second .result) (second .ensures .0 j) (c .if3 .left),
+      second .ensures .1,
+    )
 
 pub point-uncovered-spec : {M : Type 1} → statement M
 point-uncovered-spec =

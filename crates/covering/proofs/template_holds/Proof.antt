@@ -1,7 +1,7 @@
 -- The variable that is set, or any other, which stays.
 use borrow.Author.Needs.{needs}
 use mathlib.Core.Path.{sym, _∙_}
-use Rattle.programs.specs.Program.{templates}
+use Rattle.programs.specs.Program.{templateVariable}
 use Rattle.summaries.specs.Summaries.{held, under, entries}
 use Rattle.covering.proofs.Steps.{template-listed, template-stays}
 use Rattle.covering.proofs.template_holds.Statement.{statement}
@@ -18,8 +18,14 @@ assigned-holds-requires c κs = search needs
 
 returns : tie.Need-returns
 unfolding entries held
-returns c = λ j S f.
-    c .assigned-holds .ensures j (c .before .before .before .before .before .args .x) (under (j .proposal) (c .before .before .before .before .before .args .next) (templates (c .before .before .before .before .before .args .x))) (S .point) (sym (c .before .before .sets-template .ensures) ∙ c .before .if1 .taken) (template-listed (c .before .before .before .before .before .args .s .now) (c .before .before .before .before .before .args .heads .now) (j .proposal) (c .before .before .before .before .before .args .next) (S .next-low) (S .next-entry) (c .before .before .before .before .before .args .x) (c .before .before .before .template-head .result .at) f (c .before .before .before .template-head .ensures))
+returns c =
+    let args = c .before .before .before .before .before .before .args in
+    let step = args .step in
+    let there = c .before .before .before .before .template-head in (
+      λ j S f.
+          c .assigned-holds .ensures .0 j (args .x) (under (j .proposal) (step .next) (templateVariable (args .x))) (S .point) (sym (c .before .before .before .sets-template .ensures) ∙ c .before .before .if1 .taken) (template-listed (args .s .now) (args .heads .now) (j .proposal) (step .next) (S .next-low) (S .next-entry) (args .x) (there .result .at) f (there .ensures)),
+      c .assigned-holds .ensures .1,
+    )
 
 template-head-requires-2 : tie.Need-template-head-requires-2
 template-head-requires-2 c κs = search needs
@@ -29,9 +35,16 @@ entry-within-requires c κs = search needs
 
 returns-2 : tie.Need-returns-2
 unfolding entries held
-returns-2 c = λ j S f.
-    template-stays j (c .before .before .before .before .before .before .args .s .now) (c .before .before .before .before .before .before .args .gaps .now) (c .before .before .before .before .before .before .args .heads .now) (c .before .before .before .before .before .before .args .p) (c .before .before .before .before .before .before .args .act) (S .point) (c .before .before .before .before .before .before .args .x) _ (c .entry-within .result) (sym (c .before .before .before .sets-template .ensures) ∙ c .before .before .if1 .left) (c .before .template-head2 .result .at) f (c .before .template-head2 .ensures)
-    (λ xs l. c .entry-within .ensures xs (under (j .proposal) (c .before .before .before .before .before .before .args .next) (templates (c .before .before .before .before .before .before .args .x))) l (template-listed (c .before .before .before .before .before .before .args .s .now) (c .before .before .before .before .before .before .args .heads .now) (j .proposal) (c .before .before .before .before .before .before .args .next) (S .next-low) (S .next-entry) (c .before .before .before .before .before .before .args .x) (c .before .before .before .before .template-head .result .at) f (c .before .before .before .before .template-head .ensures)))
+returns-2 c =
+    let args = c .before .before .before .before .before .before .before .args in
+    let step = args .step in
+    let there = c .before .before .before .before .before .template-head in
+    let from = c .before .before .template-head2 in (
+      λ j S f.
+          template-stays j (args .s .now) (args .gaps .now) (args .heads .now) (step .point) (step .act) (S .point) (args .x) _ (c .entry-within .result) (sym (c .before .before .before .before .sets-template .ensures) ∙ c .before .before .before .if1 .left) (from .result .at) f (from .ensures)
+          (λ xs l. c .entry-within .ensures .0 xs (under (j .proposal) (step .next) (templateVariable (args .x))) l (template-listed (args .s .now) (args .heads .now) (j .proposal) (step .next) (S .next-low) (S .next-entry) (args .x) (there .result .at) f (there .ensures))),
+      c .entry-within .ensures .1,
+    )
 
 pub template-holds-spec : {M : Type 1} → statement M
 template-holds-spec =

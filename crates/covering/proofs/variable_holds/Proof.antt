@@ -11,16 +11,32 @@ template-holds-requires : tie.Need-template-holds-requires
 template-holds-requires c κs = search needs
 
 returns : tie.Need-returns
-returns c j S f =
-    variable-template (j .script .templates) (asAct (c .before .before .before .args .act)) (entries (j .proposal) (c .before .before .before .args .p)) (entries (j .proposal) (c .before .before .before .args .next)) (c .before .before .before .args .v) (c .template-holds .result) (c .before .if1 .taken) (c .template-holds .ensures j S (c .before .if1 .taken))
+returns c =
+    let args = c .before .before .before .before .args in
+    let step = args .step in
+    let low = c .before .before .if1 .taken in (
+      λ j S f.
+          variable-template (j .script .templates) (asAct (step .act)) (entries (j .proposal) (step .point)) (entries (j .proposal) (step .next)) (args .v) (c .template-holds .result) low (c .template-holds .ensures .0 j S low),
+      c .template-holds .ensures .1,
+    )
 
 string-holds-requires : tie.Need-string-holds-requires
 string-holds-requires c κs = search needs
 
 returns-2 : tie.Need-returns-2
-returns-2 c j S f =
-    variable-string (j .script .templates) (asAct (c .before .before .before .args .act)) (entries (j .proposal) (c .before .before .before .args .p)) (entries (j .proposal) (c .before .before .before .args .next)) (c .before .before .before .args .v) (c .string-holds .result) (c .before .if1 .left) (c .string-holds .ensures j (c .before .before .before .args .gaps .now) S (omega arith))
+returns-2 c =
+    let args = c .before .before .before .args in
+    let step = args .step in (
+      λ j S f.
+          variable-string (j .script .templates) (asAct (step .act)) (entries (j .proposal) (step .point)) (entries (j .proposal) (step .next)) (args .v) (c .string-holds .result) (c .before .if1 .left) (c .string-holds .ensures j (args .gaps .now) S (omega arith)),
+      c .before .before .before .pre,
+    )
 
 pub variable-holds-spec : {M : Type 1} → statement M
 variable-holds-spec =
-    tie.close (tie.spec template-holds-requires returns string-holds-requires returns-2)
+    tie.close
+    (tie.spec
+    template-holds-requires
+    returns
+    string-holds-requires
+    returns-2)

@@ -1,31 +1,44 @@
 -- What the attributes from here on add to these patterns is what all of them add to nothing.
 use Prim.Native.Nat.{_-_}
-use mathlib.Core.List.{[], _∷_}
+use mathlib.Core.Path.{sym, _∙_}
 use native.Mathlib.Omega.{arith}
 use lib.ListN.{length}
 use Rattle.pages.proofs.Steps.{fixed-moves, open-moves}
-use Rattle.elements.proofs.AttributeLists.{Going, string-patterns, gap-patterns, adds-all, adds-none, adds-fixed, adds-open}
+use Rattle.elements.proofs.AttributeLists.{Going, going-none, going-string, going-other-string, going-empty, going-values, going-other-values, going-ends}
 use borrow.Author.Needs.{needs}
 use Rattle.elements.proofs.attribute_patterns.Statement.{statement}
 use Rattle.elements.proofs.attribute_patterns.Tie as tie
 
 abbrev Inv-loop : tie.InvT-loop
-Inv-loop s reading words n facts here₀ set₀ here set = Going s reading words n (here₀ .at) set₀ (here .at) set
+Inv-loop s facts scheme graph n valued here₀ names₀ set₀ takes₀ here names set takes = Going s facts scheme graph n (here₀ .at) set₀ (here .at) names set takes
 
 abbrev μ-loop : tie.MeasureT-loop
-μ-loop s reading words n facts here₀ set₀ here set = length s - here .at
+μ-loop s facts scheme graph n valued here₀ names₀ set₀ takes₀ here names set takes = length s - here .at
+
+valued-names-requires : tie.Need-valued-names-requires Inv-loop μ-loop
+valued-names-requires c κs = search needs
 
 only-requires : tie.Need-only-requires Inv-loop μ-loop
 only-requires c κs = search needs
 
 loop-holds : tie.Need-loop-holds Inv-loop μ-loop
-loop-holds c = record { before = []; goes = λ end-set A. A }
+loop-holds c = going-none _ _ _ _ _ _ _
 
 attribute-here-requires : tie.Need-attribute-here-requires Inv-loop μ-loop
 attribute-here-requires c κs = search needs
 
 enum-known-name : tie.Need-enum-known-name Inv-loop μ-loop
 enum-known-name c = search needs
+
+with-requires : tie.Need-with-requires Inv-loop μ-loop
+with-requires c κs =
+    let m = fixed-moves _ _ _ (c .before .before .before .attribute-here .ensures .1) _ _ _ (c .before .name .given .1) in
+    omega (arith, m .1)
+
+has-requires : tie.Need-has-requires Inv-loop μ-loop
+has-requires c κs =
+    let m = fixed-moves _ _ _ (c .before .before .before .before .attribute-here .ensures .1) _ _ _ (c .before .before .name .given .1) in
+    omega (arith, m .1)
 
 attribute-pattern-requires : tie.Need-attribute-pattern-requires Inv-loop μ-loop
 attribute-pattern-requires c κs = search needs
@@ -38,25 +51,40 @@ product-requires c κs = search needs
 
 loop-less : tie.Need-loop-less Inv-loop μ-loop
 loop-less c =
-    let m = fixed-moves _ _ _ (c .before .before .before .before .before .before .attribute-here .ensures .1) _ _ _ (c .before .before .before .before .name .given .1) in
-    omega (arith, m .0 .inside, m .0 .forward)
+    let w = c .before .before .before .before .before in
+    let m = fixed-moves _ _ _ (w .before .before .before .before .attribute-here .ensures .1) _ _ _ (w .before .before .name .given .1) .0 in
+    omega (arith, m .inside, m .forward)
 
 loop-again : tie.Need-loop-again Inv-loop μ-loop
 loop-again c =
-    let args = c .before .before .before .before .before .before .before .before .before .before .before .args in
-    let l = c .before .before .before .before .before .before .before .loop in
-    let h = c .before .before .before .before .before .before .attribute-here in
-    let stands = c .before .before .before .before .name .given .1 in
-    let p = c .before .before .attribute-pattern in
-    let own = c .before .only2 in
-    record {
-      before = c .before .before .before .before .name .given .0 .0 ∷ l .inv .before;
-      goes = λ end-set A. l .inv .goes end-set (adds-fixed (args .s .now) (args .reading) (args .graph .now) (args .n) (l .here .at) (l .set) (l .inv .before) (h .result) (h .ensures .0)
-          (own .result) (c .product .result) end-set (c .product .ensures) _ _ _ stands (string-patterns (args .reading) (args .graph .now) (args .n) _ _ (p .result) (own .result) (p .ensures) (own .ensures)) A);
-    }
+    let w = c .before .before .before .before .before in
+    let l = w .before .before .before .before .before .loop in
+    let h = w .before .before .before .before .attribute-here in
+    let stands = w .before .before .name .given .1 in
+    going-string _ _ _ _ _ _ _ _ _ _ _ (l .inv) (h .result) (h .ensures) _ _ _ stands _ (w .with .ensures) _ _ _ (c .before .before .attribute-pattern .ensures) (c .before .only2 .ensures) (c .product .ensures)
+
+loop-less-2 : tie.Need-loop-less-2 Inv-loop μ-loop
+loop-less-2 c =
+    let w = c .before .before in
+    let m = fixed-moves _ _ _ (w .before .before .before .before .attribute-here .ensures .1) _ _ _ (w .before .before .name .given .1) .0 in
+    omega (arith, m .inside, m .forward)
+
+loop-again-2 : tie.Need-loop-again-2 Inv-loop μ-loop
+loop-again-2 c =
+    let w = c .before .before in
+    let l = w .before .before .before .before .before .loop in
+    let h = w .before .before .before .before .attribute-here in
+    let stands = w .before .before .name .given .1 in
+    going-other-string _ _ _ _ _ _ _ _ _ _ _ (l .inv) (h .result) (h .ensures) _ _ _ stands _ (w .with .ensures)
+    _ (w .before .before .before .before .before .before .before .valued-names .ensures) (sym (c .before .has .ensures) ∙ c .if1 .left)
 
 enum-known-name-2 : tie.Need-enum-known-name-2 Inv-loop μ-loop
 enum-known-name-2 c = search needs
+
+with-requires-2 : tie.Need-with-requires-2 Inv-loop μ-loop
+with-requires-2 c κs =
+    let m = open-moves _ _ _ (c .before .before .before .attribute-here .ensures .1) _ _ _ (c .before .name2 .given .1) in
+    omega (arith, m .1)
 
 cast-strings-at : tie.Need-cast-strings-at Inv-loop μ-loop
 cast-strings-at c = search needs
@@ -64,45 +92,78 @@ cast-strings-at c = search needs
 strings-at-requires : tie.Need-strings-at-requires Inv-loop μ-loop
 strings-at-requires c κs = search needs
 
+is-empty-requires : tie.Need-is-empty-requires Inv-loop μ-loop
+is-empty-requires c κs = search needs
+
+empty-requires : tie.Need-empty-requires Inv-loop μ-loop
+empty-requires c κs = search needs
+
+loop-less-3 : tie.Need-loop-less-3 Inv-loop μ-loop
+loop-less-3 c =
+    let w = c .before .before .before .before in
+    let m = open-moves _ _ _ (w .before .before .before .before .attribute-here .ensures .1) _ _ _ (w .before .before .name2 .given .1) .0 in
+    omega (arith, m .inside, m .forward)
+
+loop-again-3 : tie.Need-loop-again-3 Inv-loop μ-loop
+loop-again-3 c =
+    let w = c .before .before .before .before in
+    let l = w .before .before .before .before .before .loop in
+    let h = w .before .before .before .before .attribute-here in
+    let stands = w .before .before .name2 .given .1 in
+    going-empty _ _ _ _ _ _ _ _ _ _ _ (l .inv) (h .result) (h .ensures) _ _ _ stands _ (w .with2 .ensures)
+    (w .before .before .before .before .before .before .before .before .before .pre) _ (c .before .before .before .strings-at .ensures) _ (c .before .before .is-empty .ensures) (c .before .if2 .taken) _ (c .empty .ensures)
+
+has-requires-2 : tie.Need-has-requires-2 Inv-loop μ-loop
+has-requires-2 c κs =
+    let w = c .before .before .before in
+    let m = open-moves _ _ _ (w .before .before .before .before .attribute-here .ensures .1) _ _ _ (w .before .before .name2 .given .1) in
+    omega (arith, m .1)
+
 value-patterns-requires : tie.Need-value-patterns-requires Inv-loop μ-loop
 value-patterns-requires c κs = search needs
 
 product-requires-2 : tie.Need-product-requires-2 Inv-loop μ-loop
 product-requires-2 c κs = search needs
 
-loop-less-2 : tie.Need-loop-less-2 Inv-loop μ-loop
-loop-less-2 c =
-    let m = open-moves _ _ _ (c .before .before .before .before .before .before .attribute-here .ensures .1) _ _ _ (c .before .before .before .before .name2 .given .1) in
-    omega (arith, m .0 .inside, m .0 .forward)
+loop-less-4 : tie.Need-loop-less-4 Inv-loop μ-loop
+loop-less-4 c =
+    let w = c .before .before .before .before .before .before .before in
+    let m = open-moves _ _ _ (w .before .before .before .before .attribute-here .ensures .1) _ _ _ (w .before .before .name2 .given .1) .0 in
+    omega (arith, m .inside, m .forward)
 
-loop-again-2 : tie.Need-loop-again-2 Inv-loop μ-loop
-loop-again-2 c =
-    let first = c .before .before .before .before .before .before .before .before .before .before .before in
-    let args = first .args in
-    let l = c .before .before .before .before .before .before .before .loop in
-    let h = c .before .before .before .before .before .before .attribute-here in
-    let stands = c .before .before .before .before .name2 .given .1 in
-    let m = open-moves _ _ _ (h .ensures .1) _ _ _ stands in
-    let strings = c .before .before .strings-at in
-    let own = c .before .value-patterns in
-    record {
-      before = c .before .before .before .before .name2 .given .0 .0 ∷ l .inv .before;
-      goes = λ end-set A. l .inv .goes end-set (adds-open (args .s .now) (args .reading) (args .graph .now) (args .n) (l .here .at) (l .set) (l .inv .before) (h .result) (h .ensures .0)
-          (own .result) (c .product2 .result) end-set (c .product2 .ensures) _ _ _ stands
-          (gap-patterns (args .reading) (args .graph .now) (args .n) _ _ (first .pre) (m .2) (strings .result) (λ low. strings .ensures low) (own .result) (own .ensures)) A);
-    }
+loop-again-4 : tie.Need-loop-again-4 Inv-loop μ-loop
+loop-again-4 c =
+    let w = c .before .before .before .before .before .before .before in
+    let l = w .before .before .before .before .before .loop in
+    let h = w .before .before .before .before .attribute-here in
+    let stands = w .before .before .name2 .given .1 in
+    going-values _ _ _ _ _ _ _ _ _ _ _ (l .inv) (h .result) (h .ensures) _ _ _ stands _ (w .with2 .ensures)
+    (w .before .before .before .before .before .before .before .before .before .pre) _ (c .before .before .before .before .before .before .strings-at .ensures) _ (c .before .before .before .before .before .is-empty .ensures) (c .before .before .before .before .if2 .left) _ _ (c .before .value-patterns .ensures) (c .product2 .ensures)
+
+loop-less-5 : tie.Need-loop-less-5 Inv-loop μ-loop
+loop-less-5 c =
+    let w = c .before .before .before .before .before in
+    let m = open-moves _ _ _ (w .before .before .before .before .attribute-here .ensures .1) _ _ _ (w .before .before .name2 .given .1) .0 in
+    omega (arith, m .inside, m .forward)
+
+loop-again-5 : tie.Need-loop-again-5 Inv-loop μ-loop
+loop-again-5 c =
+    let w = c .before .before .before .before .before in
+    let l = w .before .before .before .before .before .loop in
+    let h = w .before .before .before .before .attribute-here in
+    let stands = w .before .before .name2 .given .1 in
+    going-other-values _ _ _ _ _ _ _ _ _ _ _ (l .inv) (h .result) (h .ensures) _ _ _ stands _ (w .with2 .ensures)
+    (w .before .before .before .before .before .before .before .before .before .pre) _ (c .before .before .before .before .strings-at .ensures) _ (c .before .before .before .is-empty .ensures) (c .before .before .if2 .left)
+    _ (w .before .before .before .before .before .before .before .valued-names .ensures) (sym (c .before .has2 .ensures) ∙ c .if3 .left)
 
 enum-told : tie.Need-enum-told Inv-loop μ-loop
 enum-told c = search needs
 
 returns : tie.Need-returns Inv-loop μ-loop
 returns c =
-    let args = c .before .before .before .before .before .before .before .args in
     let l = c .before .before .before .loop in
     let h = c .before .before .attribute-here in
-    let unit = c .before .before .before .before .only in
-    adds-all (args .s .now) (args .reading) (args .graph .now) (args .n) (args .start .at) (unit .result) (l .set) (unit .ensures)
-    (l .inv .goes _ (adds-none (args .s .now) (args .reading) (args .graph .now) (args .n) (l .here .at) (l .set) (l .inv .before) (h .result) (h .ensures .0) (c .enum-told .given .1)))
+    (l .inv .named-to .forward, going-ends _ _ _ _ _ _ _ _ _ _ _ (l .inv) (h .result) (h .ensures) (c .enum-told .given .1) (c .before .before .before .before .only .ensures))
 
 pub attribute-patterns-spec : {M : Type 1} → statement M
 attribute-patterns-spec =
@@ -110,21 +171,34 @@ attribute-patterns-spec =
     (tie.spec
     Inv-loop
     μ-loop
+    valued-names-requires
     only-requires
     loop-holds
     attribute-here-requires
     enum-known-name
+    with-requires
+    has-requires
     attribute-pattern-requires
     only-requires-2
     product-requires
     loop-less
     loop-again
-    enum-known-name-2
-    cast-strings-at
-    strings-at-requires
-    value-patterns-requires
-    product-requires-2
     loop-less-2
     loop-again-2
+    enum-known-name-2
+    with-requires-2
+    cast-strings-at
+    strings-at-requires
+    is-empty-requires
+    empty-requires
+    loop-less-3
+    loop-again-3
+    has-requires-2
+    value-patterns-requires
+    product-requires-2
+    loop-less-4
+    loop-again-4
+    loop-less-5
+    loop-again-5
     enum-told
     returns)

@@ -8,20 +8,17 @@ use Rattle.elements.proofs.search_clause.Statement.{statement}
 use Rattle.elements.proofs.search_clause.Tie as tie
 
 abbrev Inv-loop : tie.InvT-loop
-Inv-loop s clause words starts count chosen rounds sets lowest₀ t₀ lowest t = Turning s clause words starts count chosen t lowest
+Inv-loop s clause words starts count chosen sets lowest₀ t₀ lowest t = Turning s clause words starts count chosen t lowest
 
 abbrev μ-loop : tie.MeasureT-loop
-μ-loop s clause words starts count chosen rounds sets lowest₀ t₀ lowest t = 64 - t
-
-settle-requires : tie.Need-settle-requires Inv-loop μ-loop
-settle-requires c κs = search needs
+μ-loop s clause words starts count chosen sets lowest₀ t₀ lowest t = 64 - t
 
 first-member-requires : tie.Need-first-member-requires Inv-loop μ-loop
 first-member-requires c κs = search needs
 
 loop-holds : tie.Need-loop-holds Inv-loop μ-loop
 loop-holds c =
-    let args = c .before .before .before .before .before .args in
+    let args = c .before .before .args in
     turning-begin (args .s .now) (args .clause) (args .graph .now) (args .starts .now) (args .count) (args .chosen) _ (c .first-member .ensures)
 
 cast-n : tie.Need-cast-n Inv-loop μ-loop
@@ -52,15 +49,15 @@ first-member-requires-2 : tie.Need-first-member-requires-2 Inv-loop μ-loop
 first-member-requires-2 c κs = search needs
 
 loop-less : tie.Need-loop-less Inv-loop μ-loop
-loop-less c = omega (arith, c .first-member2 .ensures .after, c .before .before .before .before .before .before .before .before .loop .inv .most)
+loop-less c = omega (arith, c .first-member2 .ensures .after, c .before .before .before .before .before .before .before .loop .inv .most)
 
 loop-again : tie.Need-loop-again Inv-loop μ-loop
 loop-again c =
-    let l = c .before .before .before .before .before .before .before .before .loop in
-    let settled = c .before .before .before .before .before .before .before .before .before .before .settle in
+    let l = c .before .before .before .before .before .before .before .loop in
+    let settled = c .before .before .before .before .before .before .before .before .before .before .pre in
     let found = c .before .before .search-template in
-    turning-more _ _ _ _ _ _ _ _ (l .inv) (c .before .before .before .before .before .before .before .loop-test .taken) (c .before .before .before .before .before .before .if1 .left) _ (settled .result) (settled .ensures)
-    (found .result) (rw (c .before .before .before .before .new .ensures) at (found .ensures)) (c .before .lower .result) (c .before .lower .ensures) _ (c .first-member2 .ensures)
+    turning-more _ _ _ _ _ _ _ _ (l .inv) (c .before .before .before .before .before .before .loop-test .taken) (c .before .before .before .before .before .if1 .left) (settled .0) _ (settled .1)
+    (found .result) (rw (c .before .before .before .new .ensures) at (found .ensures)) (c .before .lower .result) (c .before .lower .ensures) _ (c .first-member2 .ensures)
 
 returns-2 : tie.Need-returns-2 Inv-loop μ-loop
 returns-2 c = turning-all _ _ _ _ _ _ _ _ (c .before .loop .inv) (inr (c .loop-test .left))
@@ -71,7 +68,6 @@ search-clause-spec =
     (tie.spec
     Inv-loop
     μ-loop
-    settle-requires
     first-member-requires
     loop-holds
     cast-n

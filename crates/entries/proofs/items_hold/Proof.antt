@@ -2,7 +2,7 @@
 use Prim.Native.Nat.{_-_}
 use native.Mathlib.Omega.{arith}
 use lib.ListN.{length}
-use Rattle.commands.specs.declared.Context.the-variants.{TemplateFacts}
+use Rattle.commands.specs.declared.Context.the-variants.{TemplateHoldings}
 use Rattle.summaries.specs.Summaries.{Summary}
 use Rattle.summaries.proofs.Steps.{claims-first, claims-end}
 use Rattle.graphs.specs.Graphs.{Keeps}
@@ -13,7 +13,7 @@ use Rattle.entries.proofs.items_hold.Statement.{statement}
 use Rattle.entries.proofs.items_hold.Tie as tie
 
 abbrev Inv-loop : tie.InvT-loop
-Inv-loop s graph how at₀ at = (R : Summary) → Keeps graph R → Walked TemplateFacts s (at₀ .at) (at .at) (SamePass how R)
+Inv-loop s graph how at₀ at = (R : Summary) → Keeps graph R → Walked TemplateHoldings s (at₀ .at) (at .at) (SamePass how R)
 
 abbrev μ-loop : tie.MeasureT-loop
 μ-loop s graph how at₀ at = length s - at .at

@@ -2,16 +2,18 @@
 use Prim.Native.Nat.{_-_}
 use native.Mathlib.Omega.{arith}
 use lib.ListN.{length}
-use Rattle.commands.specs.declared.Context.the-variants.{StringFacts}
+use Rattle.strings.specs.Strings.{holdsValue}
+use Rattle.summaries.specs.Summaries.{saysString}
+use Rattle.commands.specs.declared.Context.the-variants.{StringHoldings}
 use Rattle.summaries.proofs.Steps.{strings-one, strings-any, strings-end}
 use Rattle.entries.proofs.Walks.{Walked, one-moves, any-moves}
-use Rattle.entries.proofs.Gathering.{Gathered, gather-begins, gather-one, gather-any, gather-ends}
+use Rattle.entries.proofs.Gathering.{StringsGathered, gather-begins, gather-one, gather-any, gather-ends}
 use borrow.Author.Needs.{needs}
 use Rattle.entries.proofs.strings_of.Statement.{statement}
 use Rattle.entries.proofs.strings_of.Tie as tie
 
 abbrev Inv-loop : tie.InvT-loop
-Inv-loop s found₀ at₀ found at = Walked StringFacts s (at₀ .at) (at .at) (Gathered found)
+Inv-loop s found₀ at₀ found at = Walked StringHoldings s (at₀ .at) (at .at) (StringsGathered found)
 
 abbrev μ-loop : tie.MeasureT-loop
 μ-loop s found₀ at₀ found at = length s - at .at
@@ -20,7 +22,7 @@ no-values-requires : tie.Need-no-values-requires Inv-loop μ-loop
 no-values-requires c κs = search needs
 
 loop-holds : tie.Need-loop-holds Inv-loop μ-loop
-loop-holds c = gather-begins _ _ (c .no-values .result) (c .no-values .ensures)
+loop-holds c = gather-begins saysString (λ t. t) StringHoldings _ _ (holdsValue (c .no-values .result)) (c .no-values .ensures)
 
 string-here-requires : tie.Need-string-here-requires Inv-loop μ-loop
 string-here-requires c κs = search needs
@@ -56,7 +58,7 @@ enum-told : tie.Need-enum-told Inv-loop μ-loop
 enum-told c = search needs
 
 returns : tie.Need-returns Inv-loop μ-loop
-returns c = λ xs l. gather-ends (c .before .before .before .before .before .before .args .s .now) _ _ (c .before .before .before .loop .found) (c .before .before .before .loop .inv) (λ ys m. strings-end (c .before .before .before .before .before .before .args .s .now) _ ys m _ (c .before .before .string-here .ensures .0) (c .enum-told .given .1)) xs l
+returns c = λ xs l. gather-ends saysString (λ t. t) StringHoldings (c .before .before .before .before .before .before .args .s .now) _ _ (holdsValue (c .before .before .before .loop .found)) (c .before .before .before .loop .inv) (λ ys m. strings-end (c .before .before .before .before .before .before .args .s .now) _ ys m _ (c .before .before .string-here .ensures .0) (c .enum-told .given .1)) xs l
 
 pub strings-of-spec : {M : Type 1} → statement M
 strings-of-spec =

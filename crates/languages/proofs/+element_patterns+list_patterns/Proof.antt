@@ -9,7 +9,7 @@ use borrow.Author.Tests.{not-true, not-false}
 use borrow.Author.Needs.{needs}
 use Rattle.pages.proofs.Steps.{text-moves, gap-moves, element-moves, end-moves}
 use Rattle.languages.proofs.Lines.{content-absent, gap-absent}
-use Rattle.languages.proofs.Lists.{unfilled, stuck, full, ListTo, list-begins, list-text, list-gap, list-none, list-element, list-nothing, list-ends}
+use Rattle.languages.proofs.Lists.{LentSets, list-had, unfilled, stuck, full, ListTo, list-begins, list-text, list-gap, list-none, list-element, list-nothing, list-ends}
 use borrow.Fn.Kinds.{In}
 use borrow.Fn.PlainCycle.{Measures, is, falls, and}
 use Rattle.languages.proofs.element_patterns.Reads as element-patterns
@@ -26,7 +26,7 @@ use Rattle.pages.proofs.item_here.Reads as item-here-reads
 use Rattle.pattern_sets.proofs.empty.Reads as empty-reads
 use Rattle.pattern_sets.proofs.is_empty.Reads as is-empty-reads
 use Rattle.pattern_sets.proofs.only.Reads as only-reads
-use Rattle.readings.proofs.single.Reads as single-reads
+use Rattle.schemes.proofs.single.Reads as single-reads
 use Rattle.sets.proofs.has.Reads as has-reads
 use Rattle.languages.proofs.+element_patterns+list_patterns.{statement}
 use Rattle.languages.proofs.+element_patterns+list_patterns.Tie.{close}
@@ -100,7 +100,7 @@ element-patterns-returns t c =
 element-patterns-list-patterns-requires : (t : ℕ) → element-patterns-lts.Need-list-patterns-requires (element-told t) (element-patterns-at t) element-patterns.Post
 element-patterns-list-patterns-requires t c κs =
     let f = c .before .before .before .attributes-take in
-    (omega (arith, f .ensures .0, c .before .before .before .before .before .pre .0), c .before .before .before .before .before .pre .1)
+    (omega (arith, f .ensures .0, c .before .before .before .before .before .pre .0), c .before .before .before .before .before .pre .1 .1)
 
 element-patterns-is-empty-requires : (t : ℕ) → element-patterns-lts.Need-is-empty-requires (element-told t) (element-patterns-at t) element-patterns.Post
 element-patterns-is-empty-requires t c κs = search needs
@@ -114,7 +114,7 @@ element-patterns-returns-2 t c =
     (omega (arith, f .ensures .0, l .ensures .0), stuck _ _ (a .e) (a .r) _ _ (a .takes .now) (f .result) (f .ensures .1) (l .result) (l .ensures .1) (z .result) (z .ensures) (c .if2 .taken))
 
 element-patterns-single-requires : (t : ℕ) → element-patterns-lts.Need-single-requires (element-told t) (element-patterns-at t) element-patterns.Post
-element-patterns-single-requires t c κs = search needs
+element-patterns-single-requires t c κs = c .before .before .before .before .before .before .before .before .before .before .pre .1 .0
 
 element-patterns-only-requires : (t : ℕ) → element-patterns-lts.Need-only-requires (element-told t) (element-patterns-at t) element-patterns.Post
 element-patterns-only-requires t c κs = search needs
@@ -131,7 +131,7 @@ element-patterns-returns-3 t c =
     )
 
 abbrev list-patterns-Inv-loop : list-patterns-lts.InvT-loop
-list-patterns-Inv-loop s r graph n takes line₀ here₀ line here = ListTo s r graph n takes (here₀ .at) line (here .at)
+list-patterns-Inv-loop s r graph n takes line₀ here₀ line here = ListTo s r graph n takes (LentSets r graph n takes) (λ φs G M X known. known) (here₀ .at) line (here .at)
 
 abbrev list-patterns-μ-loop : list-patterns-lts.MeasureT-loop
 list-patterns-μ-loop s r graph n takes line₀ here₀ line here = length s - here .at
@@ -143,7 +143,7 @@ list-patterns-line-of-requires : (t : ℕ) → list-patterns-lts.Need-line-of-re
 list-patterns-line-of-requires t c κs = search needs
 
 list-patterns-loop-holds : (t : ℕ) → list-patterns-lts.Need-loop-holds (list-told t) (list-patterns-at t) list-patterns.Post list-patterns-Inv-loop list-patterns-μ-loop
-list-patterns-loop-holds t c = list-begins _ _ _ _ _ _ _ _ (c .before .only .ensures) (c .line-of .ensures)
+list-patterns-loop-holds t c = list-begins _ _ _ _ _ _ _ _ _ _ (c .before .only .ensures) (c .line-of .ensures)
 
 list-patterns-item-here-requires : (t : ℕ) → list-patterns-lts.Need-item-here-requires (list-told t) (list-patterns-at t) list-patterns.Post list-patterns-Inv-loop list-patterns-μ-loop
 list-patterns-item-here-requires t c κs = search needs
@@ -167,7 +167,7 @@ list-patterns-loop-again t c =
     let i = c .before .before .before .before .before .before .item-here in
     let q = c .before .before .before .before .item .given .1 in
     let l = c .before .before .before .before .before .before .before .loop in
-    list-text _ _ _ _ _ _ _ _ (l .inv) _ (i .ensures .0) _ q (text-moves _ _ _ (i .ensures .1) _ q .forward) _ (c .with-content .ensures)
+    list-text _ _ _ _ _ _ _ _ _ _ (l .inv) _ (i .ensures .0) _ q (text-moves _ _ _ (i .ensures .1) _ q .forward) _ (c .with-content .ensures)
 
 list-patterns-loop-less-2 : (t : ℕ) → list-patterns-lts.Need-loop-less-2 (list-told t) (list-patterns-at t) list-patterns.Post list-patterns-Inv-loop list-patterns-μ-loop
 list-patterns-loop-less-2 t c =
@@ -179,7 +179,7 @@ list-patterns-loop-again-2 t c =
     let i = c .before .before .before .before .before .item-here in
     let q = c .before .before .before .item .given .1 in
     let l = c .before .before .before .before .before .before .loop in
-    list-text _ _ _ _ _ _ _ _ (l .inv) _ (i .ensures .0) _ q (text-moves _ _ _ (i .ensures .1) _ q .forward) _ (content-absent _ (l .line) 0 (lit< tt) (sym (c .before .has .ensures) ∙ c .if1 .left))
+    list-text _ _ _ _ _ _ _ _ _ _ (l .inv) _ (i .ensures .0) _ q (text-moves _ _ _ (i .ensures .1) _ q .forward) _ (content-absent _ (l .line) 0 (lit< tt) (sym (c .before .has .ensures) ∙ c .if1 .left))
 
 list-patterns-enum-known-item-2 : (t : ℕ) → list-patterns-lts.Need-enum-known-item-2 (list-told t) (list-patterns-at t) list-patterns.Post list-patterns-Inv-loop list-patterns-μ-loop
 list-patterns-enum-known-item-2 t c = search needs
@@ -200,7 +200,7 @@ list-patterns-returns t c =
     let l = c .before .before .before .before .before .before .before .before .before .before .loop in
     let z = c .before .is-empty in (
       omega (arith, l .inv .forward, gap-moves _ _ _ (i .ensures .1) _ _ q .0 .forward),
-      list-none _ _ _ _ _ _ _ _ (l .inv) _ (i .ensures .0) _ _ q (c .before .before .before .with-gap .result) (c .before .before .before .with-gap .ensures) (z .result) (c .if3 .taken) (z .ensures) _ refl,
+      list-had _ _ _ _ (c .before .before .before .before .before .before .before .before .before .before .before .before .before .before .args .takes .now) _ _ (list-none _ _ _ _ _ _ _ _ _ _ (l .inv) _ (i .ensures .0) _ _ q (c .before .before .before .with-gap .result) (c .before .before .before .with-gap .ensures) (z .result) (c .if3 .taken) (z .ensures) _ refl),
     )
 
 list-patterns-loop-less-3 : (t : ℕ) → list-patterns-lts.Need-loop-less-3 (list-told t) (list-patterns-at t) list-patterns.Post list-patterns-Inv-loop list-patterns-μ-loop
@@ -214,7 +214,7 @@ list-patterns-loop-again-3 t c =
     let q = c .before .before .before .before .before .before .before .item2 .given .1 in
     let l = c .before .before .before .before .before .before .before .before .before .before .loop in
     let m = gap-moves _ _ _ (i .ensures .1) _ _ q in
-    list-gap _ _ _ _ _ _ _ _ (l .inv) _ (i .ensures .0) _ _ q (m .0 .forward) _ (c .before .before .before .with-gap .ensures)
+    list-gap _ _ _ _ _ _ _ _ _ _ (l .inv) _ (i .ensures .0) _ _ q (m .0 .forward) _ (c .before .before .before .with-gap .ensures)
 
 list-patterns-loop-less-4 : (t : ℕ) → list-patterns-lts.Need-loop-less-4 (list-told t) (list-patterns-at t) list-patterns.Post list-patterns-Inv-loop list-patterns-μ-loop
 list-patterns-loop-less-4 t c =
@@ -227,15 +227,16 @@ list-patterns-loop-again-4 t c =
     let q = c .before .before .before .item2 .given .1 in
     let l = c .before .before .before .before .before .before .loop in
     let m = gap-moves _ _ _ (i .ensures .1) _ _ q in
-    list-gap _ _ _ _ _ _ _ _ (l .inv) _ (i .ensures .0) _ _ q (m .0 .forward) _ (gap-absent _ _ (l .line) _ (m .1) (sym (c .before .has2 .ensures) ∙ c .if2 .left))
+    list-gap _ _ _ _ _ _ _ _ _ _ (l .inv) _ (i .ensures .0) _ _ q (m .0 .forward) _ (gap-absent _ _ (l .line) _ (m .1) (sym (c .before .has2 .ensures) ∙ c .if2 .left))
 
 list-patterns-enum-known-item-3 : (t : ℕ) → list-patterns-lts.Need-enum-known-item-3 (list-told t) (list-patterns-at t) list-patterns.Post list-patterns-Inv-loop list-patterns-μ-loop
 list-patterns-enum-known-item-3 t c = search needs
 
 list-patterns-element-patterns-requires : (t : ℕ) → list-patterns-lts.Need-element-patterns-requires (list-told t) (list-patterns-at t) list-patterns.Post list-patterns-Inv-loop list-patterns-μ-loop
 list-patterns-element-patterns-requires t c κs =
-    let m = element-moves _ _ _ (c .before .before .before .item-here .ensures .1) _ _ (c .before .item3 .given .1) .0 in
-    (omega (arith, m .inside, m .forward, c .before .before .before .before .loop .inv .forward, c .before .before .before .before .before .before .before .before .pre .0), c .before .before .before .before .before .before .before .before .pre .1)
+    let m = element-moves _ _ _ (c .before .before .before .item-here .ensures .1) _ _ (c .before .item3 .given .1) in
+    let pre = c .before .before .before .before .before .before .before .before .pre in
+    (omega (arith, m .0 .inside, m .0 .forward, c .before .before .before .before .loop .inv .forward, pre .0), (m .1, pre .1))
 
 list-patterns-is-empty-requires-2 : (t : ℕ) → list-patterns-lts.Need-is-empty-requires-2 (list-told t) (list-patterns-at t) list-patterns.Post list-patterns-Inv-loop list-patterns-μ-loop
 list-patterns-is-empty-requires-2 t c κs = search needs
@@ -248,7 +249,7 @@ list-patterns-returns-2 t c =
     let p = c .before .before .before .element-patterns in
     let z = c .before .is-empty2 in (
       omega (arith, l .inv .forward, element-moves _ _ _ (i .ensures .1) _ _ q .0 .forward, p .ensures .0),
-      list-nothing _ _ _ _ _ _ _ _ (l .inv) _ (i .ensures .0) _ _ q (p .result) (p .ensures .1) (z .result) (z .ensures) (c .if4 .taken),
+      list-had _ _ _ _ (c .before .before .before .before .before .before .before .before .before .before .before .before .args .takes .now) _ _ (list-nothing _ _ _ _ _ _ _ _ _ _ (l .inv) _ (i .ensures .0) _ _ q (p .result) (p .ensures .1) (z .result) (z .ensures) (c .if4 .taken)),
     )
 
 list-patterns-has-requires-3 : (t : ℕ) → list-patterns-lts.Need-has-requires-3 (list-told t) (list-patterns-at t) list-patterns.Post list-patterns-Inv-loop list-patterns-μ-loop
@@ -270,7 +271,7 @@ list-patterns-loop-again-5 t c =
     let z = c .before .before .before .before .before .is-empty2 in
     let l = c .before .before .before .before .before .before .before .before .before .before .before .before .loop in
     let m = element-moves _ _ _ (i .ensures .1) _ _ q in
-    list-element _ _ _ _ _ _ _ _ (l .inv) _ (i .ensures .0) _ _ q (p .result) (p .ensures .1) (z .result) (z .ensures) (c .before .before .before .before .if4 .left)
+    list-element _ _ _ _ _ _ _ _ _ _ (l .inv) _ (i .ensures .0) _ _ q (p .result) (p .ensures .1) (z .result) (z .ensures) (c .before .before .before .before .if4 .left)
     (omega (arith, m .0 .forward, p .ensures .0)) _ (c .with-content2 .ensures)
 
 list-patterns-loop-less-6 : (t : ℕ) → list-patterns-lts.Need-loop-less-6 (list-told t) (list-patterns-at t) list-patterns.Post list-patterns-Inv-loop list-patterns-μ-loop
@@ -286,7 +287,7 @@ list-patterns-loop-again-6 t c =
     let z = c .before .before .before .before .is-empty2 in
     let l = c .before .before .before .before .before .before .before .before .before .before .before .loop in
     let m = element-moves _ _ _ (i .ensures .1) _ _ q in
-    list-element _ _ _ _ _ _ _ _ (l .inv) _ (i .ensures .0) _ _ q (p .result) (p .ensures .1) (z .result) (z .ensures) (c .before .before .before .if4 .left)
+    list-element _ _ _ _ _ _ _ _ _ _ (l .inv) _ (i .ensures .0) _ _ q (p .result) (p .ensures .1) (z .result) (z .ensures) (c .before .before .before .if4 .left)
     (omega (arith, m .0 .forward, p .ensures .0)) _ (content-absent _ (l .line) _ (m .1) (sym (c .before .has3 .ensures) ∙ c .if5 .left))
 
 list-patterns-enum-known-item-4 : (t : ℕ) → list-patterns-lts.Need-enum-known-item-4 (list-told t) (list-patterns-at t) list-patterns.Post list-patterns-Inv-loop list-patterns-μ-loop
@@ -297,7 +298,7 @@ list-patterns-returns-3 t c =
     let i = c .before .before .before .before .item-here in
     let q = c .before .before .item4 .given .1 in
     let l = c .before .before .before .before .before .loop in
-    (omega (arith, l .inv .forward, end-moves _ _ _ (i .ensures .1) _ q), list-ends _ _ _ _ _ _ (l .line) _ (l .inv) _ (i .ensures .0) _ q)
+    (omega (arith, l .inv .forward, end-moves _ _ _ (i .ensures .1) _ q), list-had _ _ _ _ (c .before .before .before .before .before .before .before .before .before .args .takes .now) _ _ (list-ends _ _ _ _ _ _ _ _ (l .line) _ (l .inv) _ (i .ensures .0) _ q))
 
 pub +element-patterns+list-patterns-spec : {M : Type 1} → statement M
 +element-patterns+list-patterns-spec =

@@ -6,10 +6,10 @@ use Rattle.languages.proofs.settle.Statement.{statement}
 use Rattle.languages.proofs.settle.Tie as tie
 
 abbrev Inv-loop : tie.InvT-loop
-Inv-loop s r graph starts count rounds targets sets₀ changed₀ made₀ sets changed made = SettlingTo r s graph starts count sets changed made
+Inv-loop s r graph starts count sets₀ targets changed₀ made₀ sets changed made = SettlingTo r s graph starts count sets changed made
 
 abbrev μ-loop : tie.MeasureT-loop
-μ-loop s r graph starts count rounds targets sets₀ changed₀ made₀ sets changed made = left count sets changed
+μ-loop s r graph starts count sets₀ targets changed₀ made₀ sets changed made = left count sets changed
 
 all-targets-requires : tie.Need-all-targets-requires Inv-loop μ-loop
 all-targets-requires c κs = search needs
@@ -35,7 +35,7 @@ loop-less c = less-left _ _ _ _ _ (c .before .before .before .before .before .be
 loop-again : tie.Need-loop-again Inv-loop μ-loop
 loop-again c =
     let l = c .before .before .before .before .before .before .before .loop in
-    let g = c .before .before .before .before .before .before .before .before .before .all-targets in
+    let g = c .before .before .before .before .before .before .before .before .before .before .all-targets in
     let n = c .before .before .before .round in
     settling-goes _ _ _ _ _ (g .result) (g .ensures) (l .sets) (l .changed) (l .made) (c .before .before .before .before .before .before .loop-test .taken) (l .inv) (n .result) (n .ensures) _ (c .grown .ensures)
 

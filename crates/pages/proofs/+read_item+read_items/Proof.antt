@@ -14,7 +14,7 @@ use Rattle.commands.specs.Parts.{partOf}
 use Rattle.commands.proofs.Laws.{moved}
 use Rattle.pages.specs.Promises.{ItemsRead}
 use Rattle.pages.proofs.Laws.{element-range}
-use Rattle.pages.proofs.Agreement.{items-end, items-refused, items-next, list-ended, list-goes-on, item-refused, item-leaf, item-missing, item-deep, item-attributes-refused, item-element, element-permitted}
+use Rattle.pages.proofs.Agreement.{items-end, items-refused, items-next, list-ended, list-goes-on, item-refused, item-leaf, item-missing, item-deep, item-attributes-refused, item-element, item-permitted}
 use Rattle.pages.proofs.Trees.{attributes-onward, item-onward}
 use Prim.Native.Nat.{ℕ, _<_}
 use borrow.Fn.Kinds.{In}
@@ -103,7 +103,7 @@ read-item-item-context-requires : (t : ℕ) → read-item-lts.Need-item-context-
 read-item-item-context-requires t c κs = search needs
 
 read-item-item-command-requires : (t : ℕ) → read-item-lts.Need-item-command-requires (item-claims t) (read-item-at t) read-item.Post
-read-item-item-command-requires t c κs = rw (c .item-context .ensures) (element-permitted (c .before .before .args .kind))
+read-item-item-command-requires t c κs = rw (c .item-context .ensures) (item-permitted (c .before .before .args .kind))
 
 read-item-enum-known-d : (t : ℕ) → read-item-lts.Need-enum-known-d (item-claims t) (read-item-at t) read-item.Post
 read-item-enum-known-d t c = search needs

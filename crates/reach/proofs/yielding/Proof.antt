@@ -1,4 +1,4 @@
--- The templates passed are in the set if they have some kind.
+-- The templates passed are in the set if they have some class.
 use Prim.Native.Nat.{_-_, _≤_}
 use mathlib.Core.Logic.{inl, inr}
 use native.Mathlib.Omega.{arith}
@@ -8,10 +8,10 @@ use Rattle.reach.proofs.yielding.Statement.{statement}
 use Rattle.reach.proofs.yielding.Tie as tie
 
 abbrev Inv-loop : tie.InvT-loop
-Inv-loop count kinds yields₀ n₀ yields n = (n ≤ 32) × YieldingTo kinds n yields
+Inv-loop count classes yields₀ n₀ yields n = (n ≤ 32) × YieldingTo classes n yields
 
 abbrev μ-loop : tie.MeasureT-loop
-μ-loop count kinds yields₀ n₀ yields n = 32 - n
+μ-loop count classes yields₀ n₀ yields n = 32 - n
 
 loop-holds : tie.Need-loop-holds Inv-loop μ-loop
 loop-holds c = (omega arith, yielding-none _)

@@ -8,8 +8,8 @@ use Rattle.shows.proofs.decide.Tie as tie
 returns : tie.Need-returns
 returns c = λ j p A. let few = A .few in absurd (omega arith)
 
-root-reading-requires : tie.Need-root-reading-requires
-root-reading-requires c κs = search needs
+root-scheme-requires : tie.Need-root-scheme-requires
+root-scheme-requires c κs = search needs
 
 settle-requires : tie.Need-settle-requires
 settle-requires c κs = search needs
@@ -27,11 +27,11 @@ returns-2 : tie.Need-returns-2
 returns-2 c =
     λ j p A.
     let bytes = c .before .before .before .before .before .before .before .before .before .shared-slice-known .given in
-    let reading = c .before .before .before .before .before .before .before .root-reading in
-    let kinds = c .before .before .before .before .before .settle in
+    let scheme = c .before .before .before .before .before .before .before .root-scheme in
+    let classes = c .before .before .before .before .before .settle in
     let roots = c .before .before .before .before .roots in
     let root = c .before .before .before .lowest-root in
-    root-found _ _ _ _ _ _ j p A (λ i. bytes i .fits) (reading .result) (reading .ensures) _ (kinds .result) (kinds .ensures) (roots .result) (roots .ensures) (root .result) (root .ensures) _ (c .before .other .given .1)
+    root-found _ _ _ _ _ _ j p A (λ i. bytes i .fits) (scheme .result) (scheme .ensures) (classes .result) _ (classes .ensures) (roots .result) (roots .ensures) (root .result) (root .ensures) _ (c .before .other .given .1)
 
 enum-told : tie.Need-enum-told
 enum-told c = search needs
@@ -46,12 +46,12 @@ returns-3 : tie.Need-returns-3
 returns-3 c =
     λ j p A.
     let bytes = c .before .before .before .before .before .before .before .before .before .before .shared-slice-known .given in
-    let reading = c .before .before .before .before .before .before .before .before .root-reading in
-    let kinds = c .before .before .before .before .before .before .settle in
+    let scheme = c .before .before .before .before .before .before .before .before .root-scheme in
+    let classes = c .before .before .before .before .before .before .settle in
     let roots = c .before .before .before .before .before .roots in
     let root = c .before .before .before .before .lowest-root in
     let wrong = c .before .wrong-elements in
-    element-found _ _ _ _ _ _ j p A (λ i. bytes i .fits) (reading .result) (reading .ensures) _ (kinds .result) (kinds .ensures) (roots .result) (roots .ensures) (root .result) (root .ensures) (c .before .before .enum-told .given .1)
+    element-found _ _ _ _ _ _ j p A (λ i. bytes i .fits) (scheme .result) (scheme .ensures) (classes .result) _ (classes .ensures) (roots .result) (roots .ensures) (root .result) (root .ensures) (c .before .before .enum-told .given .1)
     (wrong .result) (wrong .ensures) (c .shown-of .result) (c .shown-of .ensures)
 
 pub decide-spec : {M : Type 1} → statement M
@@ -59,7 +59,7 @@ decide-spec =
     tie.close
     (tie.spec
     returns
-    root-reading-requires
+    root-scheme-requires
     settle-requires
     roots-requires
     lowest-root-requires

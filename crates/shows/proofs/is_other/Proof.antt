@@ -1,4 +1,4 @@
--- By the root, and then by the two kinds.
+-- By the root, and then by the two classes.
 use borrow.Author.Needs.{needs}
 use Rattle.shows.proofs.Lowest.{no-root-there, empty-there, other-there}
 use Rattle.shows.proofs.is_other.Statement.{statement}

@@ -7,10 +7,10 @@ use Rattle.shows.proofs.lowest_root.Statement.{statement}
 use Rattle.shows.proofs.lowest_root.Tie as tie
 
 abbrev Inv-loop : tie.InvT-loop
-Inv-loop roots count kinds t₀ t = (t ≤ count + 1) × NoneBelow roots kinds t
+Inv-loop roots count classes t₀ t = (t ≤ count + 1) × NoneBelow roots classes t
 
 abbrev μ-loop : tie.MeasureT-loop
-μ-loop roots count kinds t₀ t = count + 1 - t
+μ-loop roots count classes t₀ t = count + 1 - t
 
 loop-holds : tie.Need-loop-holds Inv-loop μ-loop
 loop-holds c = (omega arith, λ m l. absurd (omega arith))

@@ -32,7 +32,7 @@ returns c =
     let within = c .before .before .before .before .before .before .before .contents-of in
     let plain = c .before .before .before .plainly-wrong in
     let by-clause = c .before .search-rules in
-    elements-are _ _ _ _ _ _ j p A (λ i. bytes i .fits) T exact (args .kinds) sets (yields .result) (yields .ensures) (reached .result) (reached .ensures)
+    elements-are _ _ _ _ _ _ j p A (λ i. bytes i .fits) T exact (args .classes) sets (yields .result) (yields .ensures) (reached .result) (reached .ensures)
     (within .result) (within .ensures) (plain .result) (plain .ensures) (by-clause .result) (by-clause .ensures) (c .lower .result) (c .lower .ensures)
 
 pub wrong-elements-spec : {M : Type 1} → statement M

@@ -66,8 +66,8 @@ operand-requires c κs = search needs
 context-of-requires : tie.Need-context-of-requires Inv-loop μ-loop
 context-of-requires c κs = search needs
 
-read-facts-requires : tie.Need-read-facts-requires Inv-loop μ-loop
-read-facts-requires c κs = search needs
+read-holdings-requires : tie.Need-read-holdings-requires Inv-loop μ-loop
+read-holdings-requires c κs = search needs
 
 enum-known-items : tie.Need-enum-known-items Inv-loop μ-loop
 enum-known-items c = search needs
@@ -79,21 +79,21 @@ returns-3 : tie.Need-returns-3 Inv-loop μ-loop
 returns-3 c =
     c .before .before .before .before .before .before .before .before .before .before .before .loop .inv .2 _ _
     (stay-below _ _ _ (c .before .before .before .before .before .before .before .before .before .before .before .loop .heads) _ (rises (c .before .before .before .before .before)) (record { same = λ i l. refl }))
-    (items-refuse _ _ _ _ _ _ _ _ (c .before .before .before .before .before .before .before .before .before .before .head-here .ensures) (c .before .before .before .before .before .before .before .before .d .given .1) (c .before .before .before .before .before .before .if1 .left) (stands (c .before .before .before .before .before)) _ (c .before .before .before .before .operand .ensures) _ (c .before .before .before .context-of .ensures) _ (c .before .before .read-facts .ensures) _ _ _ (c .enum-told2 .given .1))
+    (items-refuse _ _ _ _ _ _ _ _ (c .before .before .before .before .before .before .before .before .before .before .head-here .ensures) (c .before .before .before .before .before .before .before .before .d .given .1) (c .before .before .before .before .before .before .if1 .left) (stands (c .before .before .before .before .before)) _ (c .before .before .before .before .operand .ensures) _ (c .before .before .before .context-of .ensures) _ (c .before .before .read-holdings .ensures) _ _ _ (c .enum-told2 .given .1))
 
 add-least : tie.Need-add-least Inv-loop μ-loop
 add-least c = let l = element-write-heads (c .before .before .before .before .before .before) in omega arith
 
 loop-less : tie.Need-loop-less Inv-loop μ-loop
 loop-less c =
-    fewer-after _ _ _ _ _ _ _ _ (c .before .before .before .before .before .before .before .before .before .before .before .head-here .ensures) (c .before .before .before .before .before .before .before .before .before .d .given .1) (c .before .before .before .before .before .before .before .if1 .left) (stands (c .before .before .before .before .before .before)) _ (c .before .before .before .before .before .operand .ensures) _ (c .before .before .before .before .context-of .ensures) _ (c .before .before .before .read-facts .ensures) _ (c .before .items .given .1)
+    fewer-after _ _ _ _ _ _ _ _ (c .before .before .before .before .before .before .before .before .before .before .before .head-here .ensures) (c .before .before .before .before .before .before .before .before .before .d .given .1) (c .before .before .before .before .before .before .before .if1 .left) (stands (c .before .before .before .before .before .before)) _ (c .before .before .before .before .before .operand .ensures) _ (c .before .before .before .before .context-of .ensures) _ (c .before .before .before .read-holdings .ensures) _ (c .before .items .given .1)
 
 loop-again : tie.Need-loop-again Inv-loop μ-loop
 loop-again c = (
   simp length-set (c .before .before .before .before .before .before .before .before .before .before .before .before .loop .inv .0),
   unwritten-after _ _ _ _ (rises (c .before .before .before .before .before .before)) (c .before .before .before .before .before .before .before .before .before .before .before .before .loop .inv .1),
   λ kept r k h. c .before .before .before .before .before .before .before .before .before .before .before .before .loop .inv .2 kept r (stay-below _ _ _ (c .before .before .before .before .before .before .before .before .before .before .before .before .loop .heads) _ (rises (c .before .before .before .before .before .before)) k)
-      (heads-go-on _ _ _ _ _ _ _ _ (c .before .before .before .before .before .before .before .before .before .before .before .head-here .ensures) (c .before .before .before .before .before .before .before .before .before .d .given .1) (c .before .before .before .before .before .before .before .if1 .left) (stands (c .before .before .before .before .before .before)) _ (c .before .before .before .before .before .operand .ensures) _ (c .before .before .before .before .context-of .ensures) _ (c .before .before .before .read-facts .ensures) _ (c .before .items .given .1)
+      (heads-go-on _ _ _ _ _ _ _ _ (c .before .before .before .before .before .before .before .before .before .before .before .head-here .ensures) (c .before .before .before .before .before .before .before .before .before .d .given .1) (c .before .before .before .before .before .before .before .if1 .left) (stands (c .before .before .before .before .before .before)) _ (c .before .before .before .before .before .operand .ensures) _ (c .before .before .before .before .context-of .ensures) _ (c .before .before .before .read-holdings .ensures) _ (c .before .items .given .1)
       _ (c .before .before .before .before .before .before .head-number .ensures) (c .before .before .before .before .before .before .before .before .before .before .before .before .loop .heads) (c .before .before .before .before .before .before .before .before .before .before .before .before .loop .inv .0) (element-write-heads (c .before .before .before .before .before .before)) (c .before .before .before .before .before .before .before .before .before .before .before .before .loop .inv .1) kept k r h),
 )
 
@@ -115,7 +115,7 @@ read-proposal-spec =
     element-write-heads
     operand-requires
     context-of-requires
-    read-facts-requires
+    read-holdings-requires
     enum-known-items
     enum-told-2
     returns-3

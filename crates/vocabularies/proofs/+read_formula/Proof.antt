@@ -1,6 +1,5 @@
 -- Each return is the definition's step for the command that was read. The bytes from the position on fall.
 use Prim.Native.Nat.{ℕ, _-_, _<_}
-use mathlib.Core.Logic.{⊎-elim}
 use native.Mathlib.Omega.{arith}
 use lib.ListN.{length}
 use borrow.Author.Needs.{needs}
@@ -12,8 +11,7 @@ use Rattle.vocabularies.proofs.read_formula.Reads as reads
 use Rattle.vocabularies.proofs.read_formula.Kinds as kinds
 use Rattle.vocabularies.proofs.+read_formula.Lts-read_formula as lts
 use Rattle.commands.proofs.Decoded.part.Reads as part
-use Rattle.commands.proofs.Position.command.Reads as command
-use Rattle.vocabularies.proofs.with_leaf.Reads as with-leaf
+use Rattle.commands.proofs.Position.formula_command.Reads as formula-command
 use Rattle.vocabularies.proofs.+read_formula.{statement}
 use Rattle.vocabularies.proofs.+read_formula.Tie.{close}
 
@@ -24,11 +22,11 @@ abbrev given : ℕ → In 1 kinds.ps
 given t = and 1 kinds.ps (is 1 kinds.ps μ t) reads.Pre
 
 abbrev claims : ℕ → lts.Claims
-claims t = (command.Asked, command.Learnt, part.Asked, part.Learnt, and 1 kinds.ps (falls 1 kinds.ps _<_ μ t) reads.Pre, reads.Post, with-leaf.Asked, with-leaf.Learnt)
+claims t = (formula-command.Asked, formula-command.Learnt, part.Asked, part.Learnt, and 1 kinds.ps (falls 1 kinds.ps _<_ μ t) reads.Pre, reads.Post)
 
 module _ (t : ℕ) where
-  command-requires : lts.Need-command-requires (claims t) (given t) reads.Post
-  command-requires c κs = search needs
+  formula-command-requires : lts.Need-formula-command-requires (claims t) (given t) reads.Post
+  formula-command-requires c κs = search needs
 
   enum-known-d : lts.Need-enum-known-d (claims t) (given t) reads.Post
   enum-known-d c = search needs
@@ -60,8 +58,8 @@ module _ (t : ℕ) where
   read-formula-requires-2 : lts.Need-read-formula-requires-2 (claims t) (given t) reads.Post
   read-formula-requires-2 c κs = (search command-falls, tt)
 
-  enum-known-part : lts.Need-enum-known-part (claims t) (given t) reads.Post
-  enum-known-part c = search needs
+  enum-known-first : lts.Need-enum-known-first (claims t) (given t) reads.Post
+  enum-known-first c = search needs
 
   enum-told-2 : lts.Need-enum-told-2 (claims t) (given t) reads.Post
   enum-told-2 c = search needs
@@ -75,9 +73,6 @@ module _ (t : ℕ) where
   read-formula-requires-3 : lts.Need-read-formula-requires-3 (claims t) (given t) reads.Post
   read-formula-requires-3 c κs = (search formula-falls, tt)
 
-  with-leaf-requires : lts.Need-with-leaf-requires (claims t) (given t) reads.Post
-  with-leaf-requires c κs = search needs
-
   returns-5 : lts.Need-returns-5 (claims t) (given t) reads.Post
   returns-5 c = search formula-one
 
@@ -85,11 +80,14 @@ module _ (t : ℕ) where
   returns-6 c = search formula-two
 
   returns-7 : lts.Need-returns-7 (claims t) (given t) reads.Post
-  returns-7 c = ⊎-elim (λ w. search formula-low) (λ w. search (formula-high, c .before .before .match2 .rest .1)) (c .before .if2 .came)
+  returns-7 c = search formula-low
+
+  returns-8 : lts.Need-returns-8 (claims t) (given t) reads.Post
+  returns-8 c = search formula-high
 
 pub +read-formula-spec : {M : Type 1} → statement M
 +read-formula-spec = close μ λ t. lts.spec (claims t) (given t) reads.Post
-    (command-requires t)
+    (formula-command-requires t)
     (enum-known-d t)
     (enum-told t)
     (part-requires t)
@@ -100,12 +98,12 @@ pub +read-formula-spec : {M : Type 1} → statement M
     (returns-3 t)
     (add-read-formula-2 t)
     (read-formula-requires-2 t)
-    (enum-known-part t)
+    (enum-known-first t)
     (enum-told-2 t)
     (returns-4 t)
     (add-read-formula-3 t)
     (read-formula-requires-3 t)
-    (with-leaf-requires t)
     (returns-5 t)
     (returns-6 t)
     (returns-7 t)
+    (returns-8 t)

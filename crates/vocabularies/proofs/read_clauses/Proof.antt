@@ -2,7 +2,7 @@
 use Prim.Native.Nat.{_-_}
 use lib.ListN.{length}
 use borrow.Author.Needs.{needs}
-use Rattle.vocabularies.proofs.Clauses.{ClausesContinue, clauses-start, clauses-end, clauses-refused, clauses-many, clauses-more, clause-falls}
+use Rattle.vocabularies.proofs.Clauses.{ClausesContinue, clauses-start, clauses-end, clauses-refused, clauses-many, clauses-more, clause-falls, clause-stands}
 use Rattle.vocabularies.proofs.read_clauses.Statement.{statement}
 use Rattle.vocabularies.proofs.read_clauses.Tie as tie
 
@@ -27,9 +27,6 @@ enum-told c = search needs
 returns : tie.Need-returns Inv-loop μ-loop
 returns c = search clauses-end
 
-no-facts-requires : tie.Need-no-facts-requires Inv-loop μ-loop
-no-facts-requires c κs = search needs
-
 read-formula-requires : tie.Need-read-formula-requires Inv-loop μ-loop
 read-formula-requires c κs = search needs
 
@@ -41,6 +38,9 @@ enum-told-2 c = search needs
 
 returns-2 : tie.Need-returns-2 Inv-loop μ-loop
 returns-2 c = search clauses-refused
+
+has-many-facts-requires : tie.Need-has-many-facts-requires Inv-loop μ-loop
+has-many-facts-requires c κs = search clause-stands
 
 returns-3 : tie.Need-returns-3 Inv-loop μ-loop
 returns-3 c = search clauses-many
@@ -62,11 +62,11 @@ read-clauses-spec =
     enum-known-mark
     enum-told
     returns
-    no-facts-requires
     read-formula-requires
     enum-known-part
     enum-told-2
     returns-2
+    has-many-facts-requires
     returns-3
     loop-less
     loop-again)

@@ -1,8 +1,8 @@
--- What `23 e` in range is, `command` tells too.
+-- What `21`, and `23 e` in range, are, `command` tells too.
 use mathlib.Core.Path.{sym, _∙_}
 use native.Mathlib.Omega.{arith}
 use borrow.Author.Tests.{not-false}
-use Rattle.commands.proofs.Laws.{element-moves}
+use Rattle.commands.proofs.Laws.{text-moves, element-moves}
 use borrow.Author.Needs.{needs}
 use Rattle.commands.proofs.Position.item_command.Statement.{statement}
 use Rattle.commands.proofs.Position.item_command.Tie as tie
@@ -13,23 +13,29 @@ command-requires c κs = search needs
 returns : tie.Need-returns
 returns c = search needs
 
-shared-slice-read-if2 : tie.Need-shared-slice-read-if2
-shared-slice-read-if2 c = search needs
+shared-slice-read-code : tie.Need-shared-slice-read-code
+shared-slice-read-code c = search needs
+
+add-t10 : tie.Need-add-t10
+add-t10 c = search needs
+
+returns-2 : tie.Need-returns-2
+returns-2 c = search text-moves
 
 command-requires-2 : tie.Need-command-requires-2
 command-requires-2 c κs = search needs
 
-returns-2 : tie.Need-returns-2
-returns-2 c = search needs
+returns-3 : tie.Need-returns-3
+returns-3 c = search needs
 
-sub-if3 : tie.Need-sub-if3
-sub-if3 c = search needs
+sub-if4 : tie.Need-sub-if4
+sub-if4 c = search needs
 
 command-requires-3 : tie.Need-command-requires-3
 command-requires-3 c κs = search needs
 
-returns-3 : tie.Need-returns-3
-returns-3 c = search needs
+returns-4 : tie.Need-returns-4
+returns-4 c = search needs
 
 add-is-between : tie.Need-add-is-between
 add-is-between c = search needs
@@ -43,15 +49,15 @@ is-between-requires c κs = search needs
 command-requires-4 : tie.Need-command-requires-4
 command-requires-4 c κs = search needs
 
-returns-4 : tie.Need-returns-4
-returns-4 c = search needs
-
-add-t9 : tie.Need-add-t9
-add-t9 c = search needs
-
 returns-5 : tie.Need-returns-5
-returns-5 c =
-    element-moves _ _ _ (c .before .before .before .before .before .before .if1 .left) (c .before .before .before .before .if2 .left) (c .before .before .before .before .before .before .before .before .pre) (omega arith) (sym (c .before .is-between .ensures) ∙ not-false _ (c .if4 .left))
+returns-5 c = search needs
+
+add-t12 : tie.Need-add-t12
+add-t12 c = search needs
+
+returns-6 : tie.Need-returns-6
+returns-6 c =
+    element-moves _ _ _ (c .before .before .before .before .before .before .before .if1 .left) (c .before .before .before .before .if3 .left) (c .before .before .before .before .before .before .before .before .before .pre .1) (omega arith) (sym (c .before .is-between .ensures) ∙ not-false _ (c .if5 .left))
 
 pub item-command-spec : {M : Type 1} → statement M
 item-command-spec =
@@ -59,16 +65,18 @@ item-command-spec =
     (tie.spec
     command-requires
     returns
-    shared-slice-read-if2
-    command-requires-2
+    shared-slice-read-code
+    add-t10
     returns-2
-    sub-if3
-    command-requires-3
+    command-requires-2
     returns-3
+    sub-if4
+    command-requires-3
+    returns-4
     add-is-between
     shared-slice-read-is-between
     is-between-requires
     command-requires-4
-    returns-4
-    add-t9
-    returns-5)
+    returns-5
+    add-t12
+    returns-6)
