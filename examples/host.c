@@ -16,8 +16,13 @@ int main(void)
     /* One byte more than a job may have: a job that fills it is too long, whatever follows. */
     static uint8_t job[65536];
     uint64_t verdict[4];
+    size_t length = fread(job, 1, sizeof job, stdin);
 
-    page_check_job(job, fread(job, 1, sizeof job, stdin), verdict);
+    if (ferror(stdin)) {
+        perror("standard input");
+        return 1;
+    }
+    page_check_job(job, length, verdict);
     print(verdict);
     page_check_judge(vocabulary, sizeof vocabulary, page, sizeof page, verdict);
     print(verdict);

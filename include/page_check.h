@@ -1,10 +1,17 @@
-/* The page check. Each call answers a verdict as four numbers: its kind N and its places A, B, C, unused ones 0 (README.md has the
-   table). The bytes lent are read and never written to; any bytes may be lent. */
+/* The page check, for x86-64. Each call answers a verdict as four numbers: its kind N and its places A, B, C, unused ones 0 (README.md
+   has the table).
+
+   Bytes are lent as a pointer and a length. Any bytes may be lent, and any number of them; NULL with length 0 is allowed. They are read
+   and never written to. `verdict` is not NULL, is written to, and does not overlap the bytes lent. */
 #ifndef PAGE_CHECK_H
 #define PAGE_CHECK_H
 
 #include <stddef.h>
 #include <stdint.h>
+
+/* Bytes of stack that are enough for each call, whatever is lent: measured with some to spare, not proved. */
+#define PAGE_CHECK_JOB_STACK 65536
+#define PAGE_CHECK_JUDGE_STACK 458752
 
 #ifdef __cplusplus
 extern "C" {

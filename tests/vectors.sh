@@ -15,12 +15,57 @@ make="$CARGO_TARGET_DIR/release"
 "$make/limits" "$made/limits.bin" "$made/limits.verdicts"
 "$make/job-limits" "$made/job-limits.bin" "$made/job-limits.verdicts"
 
-cat "$vectors/pages.bin" "$made/pages.bin" "$made/limits.bin" > crates/judge_records/stdin
-cat "$vectors/pages.verdicts" "$made/pages.verdicts" "$made/limits.verdicts" > crates/judge_records/stdout
+# length N: N as 32 bits, lowest byte first.
+length() {
+    printf "$(printf '\\%03o\\%03o\\%03o\\%03o' $(($1 % 256)) $(($1 / 256 % 256)) $(($1 / 65536 % 256)) $(($1 / 16777216)))"
+}
 
-cat "$vectors"/jobs-*.bin "$made/job-limits.bin" > crates/read_records/stdin
-# A job that is refused by 9 to 12 reads.
-cat "$vectors"/jobs-*.verdicts "$made/job-limits.verdicts" | awk '{ print ($1 > 8) ? "0 0 0 0" : $0 }' > crates/read_records/stdout
+# A slice that is longer than any buffer: the file's bytes, and zeros.
+too_long() {
+    length 75000
+    cat "$1"
+    head -c $((75000 - $(wc -c < "$1"))) /dev/zero
+}
 
-cat "$vectors"/jobs-*.bin "$made/jobs.bin" "$made/job-limits.bin" > crates/check_records/stdin
-cat "$vectors"/jobs-*.verdicts "$made/jobs.verdicts" "$made/job-limits.verdicts" > crates/check_records/stdout
+# A job of 65,535 bytes that is accepted, and a byte more.
+[ "$(head -n 1 "$made/job-limits.verdicts")" = '0 0 0 0' ]
+{ tail -c +5 "$made/job-limits.bin" | head -c 65535; printf '\000'; } > crates/page_check/stdin
+echo '1 0 0 0' > crates/page_check/stdout
+
+# At the end a job that is too long, J1, and a byte of a length: no line is for that one.
+{
+    cat "$vectors"/jobs-*.bin "$made/jobs.bin" "$made/job-limits.bin"
+    too_long examples/J1
+    length 121
+    cat examples/J1
+    printf '\000'
+} > crates/check_records/stdin
+{
+    cat "$vectors"/jobs-*.verdicts "$made/jobs.verdicts" "$made/job-limits.verdicts"
+    echo '1 0 0 0'
+    echo '0 0 0 0'
+} > crates/check_records/stdout
+
+# At the end a vocabulary and a page that are too long, a page that is right, and one of which 8 of 16,777,224 bytes come.
+head -c 23 examples/page.records | tail -c 19 > "$made/vocabulary"
+tail -c 8 examples/page.records > "$made/page"
+{
+    cat "$vectors/pages.bin" "$made/pages.bin" "$made/limits.bin"
+    too_long "$made/vocabulary"
+    length 8
+    cat "$made/page"
+    length 19
+    cat "$made/vocabulary"
+    too_long "$made/page"
+    cat examples/page.records
+    length 19
+    cat "$made/vocabulary"
+    length 16777224
+    cat "$made/page"
+} > crates/judge_records/stdin
+{
+    cat "$vectors/pages.verdicts" "$made/pages.verdicts" "$made/limits.verdicts"
+    echo '1 0 0 0'
+    echo '1 0 1 0'
+    echo '0 0 0 0'
+} > crates/judge_records/stdout

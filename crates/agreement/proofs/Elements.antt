@@ -10,7 +10,7 @@ use lib.ListN.{length, getD}
 use Rattle.vocabularies.specs.Vocabulary.{Formula, truth, Rule, Vocabulary, ruleOf, isIn}
 use Rattle.pages.specs.Items.{Attribute, Items}
 use Rattle.pages.specs.RightPages.{_∈_, names, word, Meets, ElementRight, Way, no-rule, in-attribute, in-content, in-clause, ElementWrong, unruled, attribute-not-allowed, content-not-allowed, clause-not-met}
-use Rattle.judging.specs.Judgement.{truthOf, atomsOf, allIn, allTrue, rightUnder, rightBy}
+use Rattle.judging.specs.contracts.Judgement.{truthOf, atomsOf, allIn, allTrue, rightUnder, rightBy}
 use Rattle.agreement.proofs.Deciding.{Decided, holds, fails, true-iff, decided-iff, decided-and}
 use Rattle.agreement.proofs.Tests.{decided-member, decided-meets}
 

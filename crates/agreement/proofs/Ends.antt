@@ -12,7 +12,7 @@ use Rattle.commands.specs.declared.Context.{Context}
 use Rattle.commands.specs.declared.Context.the-variants.{Rules, Attributes, Contents, Formulas, Templates}
 use Rattle.commands.specs.Commands.{byte, allowed}
 use Rattle.commands.specs.Reading.{Read, unfinished, enough}
-use Rattle.commands.specs.Parts.{Enough}
+use Rattle.commands.specs.contracts.Parts.{Enough}
 use Rattle.vocabularies.specs.Vocabulary.{Formula, Rule, Vocabulary, declared, isIn}
 use Rattle.vocabularies.specs.Facts.{factsOf}
 use Rattle.vocabularies.specs.VocabularyReading.{Shape, binary, unary, leaf, shapeAt, formulaNesting, mostFacts, formula, rising, clauses, ruleBody, rules, vocabulary, vocabularySlice}

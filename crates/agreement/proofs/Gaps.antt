@@ -4,7 +4,6 @@ use mathlib.Core.Path.{_≡_, refl}
 use mathlib.Core.List.{List, [], _∷_}
 use mathlib.Core.Bool.{Bool, true, false, cond, _||_}
 use lib.Dec.{ltb, eqb}
-use borrow.Author.Tests.{eqb-true}
 use Rattle.commands.specs.declared.Context.the-variants.{PageItems, PageAttributes}
 use Rattle.commands.specs.Commands.{byte, allowed, strings}
 use Rattle.commands.specs.Reading.{whole, enough}
@@ -13,7 +12,7 @@ use Rattle.pages.specs.declared.Kind.the-variants.{Page}
 use Rattle.pages.specs.Items.{string, open-gap, Attribute, Item, Items, gapIn, gapInItem, isOpenGap, openIn, attributeGapIn, attributeGapInItem}
 use Rattle.pages.specs.ItemReading.{nesting, valueAt, attributes, endOf, leafAt, items, item, pageSlice}
 use Rattle.pages.specs.RightPages.{Gapless}
-use Rattle.agreement.proofs.Readings.{Gives, gives, refuses, runs-out, given, gives-command, gives-when, gives-then, gives-alone}
+use Rattle.agreement.proofs.Readings.{Gives, gives, refuses, runs-out, given, gives-command, gives-when, gives-then, gives-alone, is-first, is-second}
 
 -- No gap at any depth, and no attribute gap.
 abbrev pub NoGap : Items → Type 0
@@ -30,17 +29,9 @@ or-false : {a b : Bool} → a ≡ false → b ≡ false → (a || b) ≡ false
 or-false p q = rw (p, q)
 
 -- Of the two commands that may stand where a page's item begins, `21` is the one that is not `23`.
-text-code : (code : ℕ) → allowed PageItems code ≡ true → eqb code 0x23 ≡ false → eqb code 0x21 ≡ true
-unfolding allowed
-text-code code m e = cases (eqb code 0x21) (eqb code 0x23) m e
-  where
-    cases : (a b : Bool) → (a || b) ≡ true → b ≡ false → a ≡ true
-    cases true b m e = refl
-    cases false b m e = cc
-
-leaf-closed : (s : List ℕ) (at code : ℕ) → eqb code 0x21 ≡ true → ClosedItem (leafAt s at code)
-unfolding gapIn attributeGapIn
-leaf-closed s at code e = rw e (record { gaps = λ g. refl; attribute-gaps = λ h. refl })
+leaf-closed : (s : List ℕ) (at code : ℕ) → allowed PageItems code ≡ true → eqb code 0x23 ≡ false → ClosedItem (leafAt s at code)
+unfolding gapIn attributeGapIn allowed
+leaf-closed s at code m e = rw (is-first 0x21 0x23 code m e) (record { gaps = λ g. refl; attribute-gaps = λ h. refl })
 
 -- Neither of the two attributes of a page is a gap.
 value-closed : (s : List ℕ) (at code h : ℕ) → allowed PageAttributes code ≡ true → isOpenGap (valueAt s at code) h ≡ false
@@ -50,7 +41,7 @@ value-closed s at code h m = cases (eqb code 0x24) refl
     cases : (b : Bool) → eqb code 0x24 ≡ b
         → isOpenGap (cond b (string (byte s (at + 2))) (cond (eqb code 0x25) (open-gap (byte s (at + 2))) (string strings))) h ≡ false
     cases true e = refl
-    cases false e = let is : code ≡ 0x28 = eqb-true code 0x28 (rw e at m) in rw is
+    cases false e = let is : code ≡ 0x28 = is-second 0x24 0x28 code m e in rw is
 
 module _ (s : List ℕ) where
   attributes-close : (f : ℕ) (before : List ℕ) (at : ℕ) → Gives (Unit {0}) (λ δ end. ClosedAttributes δ) (attributes f Page s before at)
@@ -86,7 +77,7 @@ module _ (ruled : ℕ → Bool) (s : List ℕ) where
         gives (record { gaps = n .gaps; attribute-gaps = λ h. or-false (m h) (n .attribute-gaps h) }))
         (λ _ _. refuses))
         (λ _ _. refuses))
-        (λ _ e. gives (leaf-closed s at code (text-code code (t .may) e)))
+        (λ _ e. gives (leaf-closed s at code (t .may) e))
 
 pub page-closed : (D : Vocabulary) (p : List ℕ) (φ : Items) (end : ℕ) → pageSlice D p ≡ whole φ end → Gapless φ
 unfolding pageSlice

@@ -7,11 +7,8 @@ use mathlib.Core.Path.{_≡_, refl}
 use mathlib.Core.List.{List}
 use mathlib.Core.Bool.{Bool, true, false}
 use lib.ListN.{length}
-use Rattle.verdicts.specs.declared.Cover.the-variants.{Start, Step}
-use Rattle.verdicts.specs.declared.Fault.the-variants.{NotRoot, WrongElement}
-use Rattle.verdicts.specs.declared.Refusal.the-variants as Refusals
-use Rattle.verdicts.specs.declared.Verdict.{Verdict}
-use Rattle.verdicts.specs.declared.Verdict.the-variants.{Accepted, Refused}
+use Rattle.verdicts.specs.declared.Numbers.{Numbers}
+use Rattle.verdicts.specs.Printed.{prints}
 use Rattle.commands.specs.Reading.{whole, refused, enough}
 use Rattle.vocabularies.specs.Vocabulary.{declared}
 use Rattle.vocabularies.specs.VocabularyReading.{vocabulary}
@@ -42,30 +39,30 @@ module _ (π : Script) (E : ℕ → Environment) where
   StepsHold = (p : ℕ) (b : Bool) (v : ℕ) → v < 8 → StepHolds π E p b v
 
   -- What is wrong at a show.
-  data ShowFails (p : ℕ) : Verdict → Type 0 where
-    no-root : {t : ℕ} → NotRootAt π E p t → ((t′ : ℕ) → NotRootAt π E p t′ → t ≤ t′) → ShowFails p (Refused (Refusals.Page (NotRoot p t)))
+  data ShowFails (p : ℕ) : Numbers → Type 0 where
+    no-root : {t : ℕ} → NotRootAt π E p t → ((t′ : ℕ) → NotRootAt π E p t′ → t ≤ t′) → ShowFails p (prints 11 p t 0)
     wrong : {t at : ℕ} → ((t′ : ℕ) → NotRootAt π E p t′ → ⊥) → WrongIn π E p t at → ((t′ at′ : ℕ) → WrongIn π E p t′ at′ → at ≤ at′)
-        → ShowFails p (Refused (Refusals.Page (WrongElement p t at)))
+        → ShowFails p (prints 12 p t at)
 
-  data OfShows : Verdict → Type 0 where
-    show : {p : ℕ} {a : Verdict} → ((p′ : ℕ) → p′ < p → ShowHolds π E p′) → ShowFails p a → OfShows a
-    all-shows : ((p : ℕ) → ShowHolds π E p) → OfShows Accepted
+  data OfShows : Numbers → Type 0 where
+    show : {p : ℕ} {a : Numbers} → ((p′ : ℕ) → p′ < p → ShowHolds π E p′) → ShowFails p a → OfShows a
+    all-shows : ((p : ℕ) → ShowHolds π E p) → OfShows (prints 0 0 0 0)
 
   record StepFails (p : ℕ) (second : Bool) (v : ℕ) : Type 0 where
     small : v < 8
     uncovered : StepHolds π E p second v → ⊥
     before : StepsBefore π E p second v
 
-  data OfSteps : Verdict → Type 0 where
+  data OfSteps : Numbers → Type 0 where
     step : (p : ℕ) (second : Bool) (v : ℕ) → StepFails p second v
-        → OfSteps (Refused (Refusals.Cover (Step p (nextOf (statementAt (π .program) p) second) v)))
-    all-steps : {a : Verdict} → StepsHold → OfShows a → OfSteps a
+        → OfSteps (prints 10 p (nextOf (statementAt (π .program) p) second) v)
+    all-steps : {a : Numbers} → StepsHold → OfShows a → OfSteps a
 
-  data OfStart : Verdict → Type 0 where
-    start : (v : ℕ) → v < 8 → (StartHolds π E v → ⊥) → ((v′ : ℕ) → v′ < v → StartHolds π E v′) → OfStart (Refused (Refusals.Cover (Start v)))
-    all-starts : {a : Verdict} → StartsHold → OfSteps a → OfStart a
+  data OfStart : Numbers → Type 0 where
+    start : (v : ℕ) → v < 8 → (StartHolds π E v → ⊥) → ((v′ : ℕ) → v′ < v → StartHolds π E v′) → OfStart (prints 9 0 0 v)
+    all-starts : {a : Numbers} → StartsHold → OfSteps a → OfStart a
 
-in-order : {π : Script} {E : ℕ → Environment} {a : Verdict} → ScriptVerdict π E a → OfStart π E a
+in-order : {π : Script} {E : ℕ → Environment} {a : Numbers} → ScriptVerdict π E a → OfStart π E a
 in-order (start-uncovered {v = v} h n b) = start v h n b
 in-order (step-uncovered {p = p} {v = v} second starts h n b) = all-starts starts (step p second v (record { small = h; uncovered = n; before = b }))
 in-order (not-root c shows n l) = all-starts (c .start) (all-steps (c .steps) (show shows (no-root n l)))
@@ -77,11 +74,11 @@ abbrev Marked : Script → Type 0
 Marked π = (low : ℕ) × (high : ℕ) × AllRise low (π .templates) high
 
 module _ {π : Script} {E : ℕ → Environment} where
-  show-fails : {p : ℕ} {a : Verdict} → ShowFails π E p a → ShowHolds π E p → ⊥
+  show-fails : {p : ℕ} {a : Numbers} → ShowFails π E p a → ShowHolds π E p → ⊥
   show-fails (no-root {t = t} n l) h = n .other (h (n .graph) (n .shows) (n .page) (t, n .derived) .alone)
   show-fails (wrong {at = at} k w l) h = accepts-right (π .vocabulary) (w .page) at (h (w .graph) (w .shows) (w .page) (w .derived) .accepted) (w .wrong)
 
-  at-show : {p : ℕ} {a b : Verdict} → Marked π → ShowFails π E p a → ShowFails π E p b → a ≡ b
+  at-show : {p : ℕ} {a b : Numbers} → Marked π → ShowFails π E p a → ShowFails π E p b → a ≡ b
   at-show m (no-root {t = t} n l) (no-root {t = t′} n′ l′) =
       let e : t ≡ t′ = omega (arith, l t′ n′, l′ t n) in rw e
   at-show m (no-root {t = t} n l) (wrong k w l′) = absurd (k t n)
@@ -90,7 +87,7 @@ module _ {π : Script} {E : ℕ → Environment} where
       let e : at ≡ at′ = omega (arith, l t′ at′ w′, l′ t at w) in
       let d : t ≡ t′ = one-template (π .templates) (m .0) (m .1) at′ t t′ (m .2) (rw e at (w .stands)) (w′ .stands) in rw (e, d)
 
-  of-shows : {a b : Verdict} → Marked π → OfShows π E a → OfShows π E b → a ≡ b
+  of-shows : {a b : Numbers} → Marked π → OfShows π E a → OfShows π E b → a ≡ b
   of-shows m (show {p = p} h f) (show {p = p′} h′ f′) =
       let e : p ≡ p′ = first-unique (ShowHolds π E) p p′ (show-fails f) h (show-fails f′) h′ in at-show m f (rw (← e) at f′)
   of-shows m (show {p = p} h f) (all-shows k) = absurd (show-fails f (k p))
@@ -115,7 +112,7 @@ module _ {π : Script} {E : ℕ → Environment} where
   same-variable {p} {second} {v} {v′} F F′ =
       first-unique (StepHolds π E p second) v v′ (F .uncovered) (F .before .variables) (F′ .uncovered) (F′ .before .variables)
 
-  of-steps : {a b : Verdict} → Marked π → OfSteps π E a → OfSteps π E b → a ≡ b
+  of-steps : {a b : Numbers} → Marked π → OfSteps π E a → OfSteps π E b → a ≡ b
   of-steps m (step p second v F) (step p′ second′ v′ F′) =
       let e : p ≡ p′ = same-point F F′ in
       let G : StepFails π E p second′ v′ = rw (← e) at F′ in
@@ -126,7 +123,7 @@ module _ {π : Script} {E : ℕ → Environment} where
   of-steps m (all-steps k o) (step p second v F) = absurd (F .uncovered (k p second v (F .small)))
   of-steps m (all-steps k o) (all-steps k′ o′) = of-shows m o o′
 
-  of-start : {a b : Verdict} → Marked π → OfStart π E a → OfStart π E b → a ≡ b
+  of-start : {a b : Numbers} → Marked π → OfStart π E a → OfStart π E b → a ≡ b
   of-start m (start v h n b) (start v′ h′ n′ b′) =
       let e : v ≡ v′ = first-unique (StartHolds π E) v v′ n b n′ b′ in rw e
   of-start m (start v h n b) (all-starts k o) = absurd (n (k v h))
@@ -148,7 +145,7 @@ job-marked s = gives-alone s
     gives-then (gives-any (proposal (enough s) (length (π .templates)) (length (π .program)) s 0 next)) λ hs end n. gives m)
 
 -- At most one verdict.
-pub unique : {s : List ℕ} {a b : Verdict} → JobVerdict s a → JobVerdict s b → a ≡ b
+pub unique : {s : List ℕ} {a b : Numbers} → JobVerdict s a → JobVerdict s b → a ≡ b
 unique (unreadable {f = f} {at = at} e) (unreadable {f = f′} {at = at′} e′) =
     let F : f ≡ f′ = cc in let A : at ≡ at′ = cc in rw (F, A)
 unique (unreadable e) (readable e′ o) = let z : _≡_ {A = ℕ} 0 1 = cc in absurd (omega arith)

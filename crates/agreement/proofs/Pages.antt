@@ -12,7 +12,7 @@ use Rattle.vocabularies.specs.Vocabulary.{Vocabulary}
 use Rattle.pages.specs.Items.{Attribute, Item, text, gap, element, Items, more, gapIn, gapInItem}
 use Rattle.pages.specs.Items as Items
 use Rattle.pages.specs.RightPages.{ElementRight, Way, ElementWrong, Accepts, AcceptsItem, SomeElement, SomeElementOf, WrongAt}
-use Rattle.judging.specs.Judgement.{orElse, firstWrong, firstWrongItem}
+use Rattle.judging.specs.contracts.Judgement.{orElse, firstWrong, firstWrongItem}
 use Rattle.agreement.proofs.Deciding.{Decided, holds, fails}
 use Rattle.agreement.proofs.Elements.{decided-right, wrong-iff}
 use Rattle.agreement.proofs.Gaps.{NoGap}

@@ -5,16 +5,17 @@ use native.Mathlib.Omega.{arith}
 use native.Mathlib.Decide.{decLe}
 use mathlib.Core.Path.{_≡_, refl}
 use mathlib.Core.List.{List}
-use mathlib.Core.Bool.{Bool, true, false, cond}
+use mathlib.Core.Bool.{Bool, true, false, _||_}
 use lib.ListN.{length, List·getD-eq-default}
-use lib.Dec.{leb, ltb}
-use borrow.Author.Tests.{ltb-true}
+use lib.Dec.{leb, ltb, eqb}
+use borrow.Author.Tests.{ltb-false, leb-true, eqb-true}
 use Rattle.verdicts.specs.declared.Form.{Form}
-use Rattle.verdicts.specs.declared.Form.the-variants.{Ended, NotAllowed, OutOfRange}
 use Rattle.commands.specs.declared.Context.{Context}
+use Rattle.commands.specs.declared.Decoded.{Decoded}
 use Rattle.commands.specs.declared.Decoded.the-variants.{Moved, Refused}
-use Rattle.commands.specs.Commands.{byte, allowed, operandsOf, operandBytes, allInRange, command}
+use Rattle.commands.specs.Commands.{byte, allowed, operandsOf, operandBytes, allInRange, command, either}
 use Rattle.commands.specs.Reading.{Read, whole, refused, unfinished, andThen, onDecoded, onCommand, when}
+use Rattle.commands.proofs.Laws.{moved}
 use Rattle.vocabularies.specs.VocabularyReading.{alone, mostBytes}
 
 pub data Gives {A : Type 0} (U : Type 0) (P : A → ℕ → Type 0) : Read A → Type 0 where
@@ -64,32 +65,36 @@ module _ {A B : Type 0} {U : Type 0} {P : A → ℕ → Type 0} {Q : B → ℕ �
   gives-then refuses h = refuses
   gives-then (runs-out u) h = runs-out u
 
--- A command that was taken: it is there, with its operands, and may stand there.
+-- A command that was taken: it is there, with its operands, and may stand there; they are in range.
 pub record Taken (x : Context) (s : List ℕ) (at code next : ℕ) : Type 0 where
   pub is : code ≡ byte s at
   pub moves : next ≡ at + 1 + operandBytes code
   pub ends : next ≤ length s
   pub may : allowed x code ≡ true
+  pub ranges : allInRange (operandsOf code) s (at + 1) ≡ true
 
 module _ {A : Type 0} {U : Type 0} {P : A → ℕ → Type 0} where
   pub gives-command : {k : ℕ → ℕ → Read A} (x : Context) (s : List ℕ) (at : ℕ)
       → ((code next : ℕ) → Taken x s at code next → Gives U P (k code next)) → Gives U P (onCommand x s at k)
-  unfolding command
-  gives-command {k} x s at h =
-      after (ltb at (length s)) (allowed x (byte s at)) (ltb (at + operandBytes (byte s at)) (length s))
-      (allInRange (operandsOf (byte s at)) s (at + 1)) refl refl
+  gives-command {k} x s at h = decoded (command x s at) refl
     where
-      code : ℕ
-      code = byte s at
+      decoded : (d : Decoded) → command x s at ≡ d → Gives U P (onDecoded d k)
+      decoded (Moved code next) e =
+          let m = moved x s at code next e in
+          let is : code ≡ byte s at = m .first in
+          h code (next .at) (record { is = is; moves = rw is (m .after); ends = m .inside; may = rw is (m .permitted); ranges = rw is (m .ranges) })
+      decoded (Refused f n) e = refuses
 
-      after : (there stands fits ranges : Bool) → allowed x code ≡ stands → ltb (at + operandBytes code) (length s) ≡ fits
-          → Gives U P (onDecoded (cond there (cond stands (cond fits (cond ranges (Moved code (record { at = at + 1 + operandBytes code }))
-          (Refused OutOfRange at)) (Refused Ended at)) (Refused NotAllowed at)) (Refused Ended (length s))) k)
-      after false stands fits ranges p q = refuses
-      after true false fits ranges p q = refuses
-      after true true false ranges p q = refuses
-      after true true true false p q = refuses
-      after true true true true p q = h _ _ (record { is = refl; moves = refl; ends = omega (arith, ltb-true); may = p })
+-- Of two commands that may stand, the one that is not the other.
+pub is-first : (a b c : ℕ) → either a b c ≡ true → eqb c b ≡ false → c ≡ a
+is-first a b c e n = eqb-true c a (first (eqb c a) (eqb c b) e n)
+  where
+    first : (p q : Bool) → (p || q) ≡ true → q ≡ false → p ≡ true
+    first true q e n = refl
+    first false q e n = cc
+
+pub is-second : (a b c : ℕ) → either a b c ≡ true → eqb c a ≡ false → c ≡ b
+is-second a b c e n = eqb-true c b (rw n at e)
 
 -- A byte that is not 0 stands within the bytes.
 pub byte-there : (s : List ℕ) (at code : ℕ) → byte s at ≡ suc code → at < length s
@@ -100,11 +105,15 @@ byte-there s at code e = within (decLe (length s) at)
     within (no h) = omega arith
 
 module _ {A : Type 0} (s : List ℕ) where
-  -- Bytes that are read alone give what they give if they are read whole.
-  pub gives-alone : {U : Type 0} {P : A → ℕ → Type 0} {r : Read A} → Gives U P r → Gives U P (alone s r)
-  gives-alone g = gives-when (leb (length s) mostBytes)
-      (λ _ _. gives-then g λ a end p. gives-when (ltb end (length s)) (λ _ _. refuses) (λ _ _. gives p))
+  -- Bytes that are read alone give what they give if they are read whole; they are not too long, and nothing is left.
+  pub gives-all : {U : Type 0} {P : A → ℕ → Type 0} {r : Read A} → Gives U P r
+      → Gives U (λ a end. (length s ≤ mostBytes) × (length s ≤ end) × P a end) (alone s r)
+  gives-all g = gives-when (leb (length s) mostBytes)
+      (λ _ h. gives-then g λ a end p. gives-when (ltb end (length s)) (λ _ _. refuses) (λ _ l. gives (leb-true _ _ h, ltb-false _ _ l, p)))
       (λ _ _. refuses)
+
+  pub gives-alone : {U : Type 0} {P : A → ℕ → Type 0} {r : Read A} → Gives U P r → Gives U P (alone s r)
+  gives-alone g = gives-map (λ a end p. p .2) (gives-all g)
 
   pub alone-whole : (r : Read A) {a : A} {end : ℕ} → alone s r ≡ whole a end → r ≡ whole a end
   alone-whole r = given (gives-alone (gives-itself r))

@@ -8,7 +8,7 @@ use mathlib.Core.Logic.{_↔_}
 use Rattle.vocabularies.specs.Vocabulary.{Vocabulary}
 use Rattle.pages.specs.Items.{Attribute, Item, text, gap, element, Items, none, more}
 use Rattle.pages.specs.RightPages.{RootAlone}
-use Rattle.judging.specs.Judgement.{isElement, isNone, isAlone}
+use Rattle.judging.specs.contracts.Judgement.{isElement, isNone, isAlone}
 use Rattle.agreement.proofs.Deciding.{Decided, holds, fails, true-iff, decided-iff, decided-and, decided-eq}
 
 -- The item is an element of this name.

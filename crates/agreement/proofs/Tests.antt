@@ -11,7 +11,7 @@ use Rattle.sets.specs.Sets.{member}
 use Rattle.vocabularies.specs.Vocabulary.{Formula, conj, disj, neg, truth, attr, content, order, value, isIn}
 use Rattle.pages.specs.Items.{Value, string, open-gap, Attribute, Items}
 use Rattle.pages.specs.RightPages.{_∈_, names, word, Exists, Before, Meets}
-use Rattle.judging.specs.Judgement.{truthOf, precedes, hasString, holdsValue, atomsOf}
+use Rattle.judging.specs.contracts.Judgement.{truthOf, precedes, hasString, holdsValue, atomsOf}
 use Rattle.agreement.proofs.Deciding.{Decided, holds, fails, true-iff, false-iff, decided-iff, decided-and, decided-or, decided-not, decided-test, decided-eq}
 
 module _ {A : Type 0} where

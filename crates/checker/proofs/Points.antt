@@ -10,11 +10,12 @@ use lib.Dec.{eqb, ltb}
 use borrow.Author.Tests.{eqb-true, eqb-false, ltb-true, ltb-false}
 use Rattle.verdicts.specs.declared.Verdict.{Verdict}
 use Rattle.verdicts.specs.declared.Verdict.the-variants.{Accepted}
-use Rattle.verdicts.specs.Acceptance.{accepts}
+use Rattle.verdicts.specs.Printed.{numbersOf}
+use Rattle.verdicts.specs.contracts.Acceptance.{accepts}
 use Rattle.vocabularies.specs.declared.Tables as Vocabularies
 use Rattle.summaries.specs.Summaries.{Summary, Environment, entries}
 use Rattle.summaries.specs.Languages.{closedSummary, graphShown}
-use Rattle.graphs.specs.Graphs.{Keeps, SameGraph, nothing}
+use Rattle.graphs.specs.contracts.Graphs.{Keeps, SameGraph, nothing}
 use Rattle.jobs.specs.Job.{Script, Job}
 use Rattle.jobs.specs.JobVerdict.{ShowHolds, AllCovered, ScriptVerdict, not-root, wrong-element, accepted}
 use Rattle.covering.proofs.Whole.{past-stops}
@@ -24,8 +25,8 @@ use Rattle.shows.specs.declared.Showing.{Showing}
 use Rattle.shows.specs.declared.Showing.the-variants.{Nothing, Variable}
 use Rattle.shows.specs.declared.Shown.{Shown}
 use Rattle.shows.specs.declared.Shown.the-variants.{Right, NotRoot, Wrong}
-use Rattle.shows.specs.Promises.{ShowFound, PointStands, shownAt, ShowsAt, HoldsShown, ShowAt, DecidesShow}
-use Rattle.checker.specs.Promises.{faultAt, ReadAt, RightGraph, PassesBy, PassedBy}
+use Rattle.shows.specs.contracts.Promises.{ShowFound, PointStands, shownAt, ShowsAt, HoldsShown, ShowAt, DecidesShow}
+use Rattle.checker.specs.contracts.Promises.{faultAt, ReadAt, RightGraph, PassesBy, PassedBy}
 
 -- What a show of a variable at a point shows.
 abbrev closed : Job → ℕ → ℕ → Summary
@@ -154,15 +155,15 @@ module _ (π : Script) (E : ℕ → Environment) where
         go true i = shows-go holds q (ltb-true q (p + 1) i)
         go false i = after q (ltb-false q (p + 1) i) l
 
-    pub shows-fail : (x : Shown) → ShowFound π E p x → (v : Verdict) → v ≡ faultAt p x → accepts v ≡ false → AllCovered π E → ScriptVerdict π E v
+    pub shows-fail : (x : Shown) → ShowFound π E p x → (v : Verdict) → v ≡ faultAt p x → accepts v ≡ false → AllCovered π E → ScriptVerdict π E (numbersOf v)
     shows-fail x found v is e covered = rw is (go x found (sym (ap accepts is) ∙ e))
       where
-        go : (x : Shown) → ShowFound π E p x → accepts (faultAt p x) ≡ false → ScriptVerdict π E (faultAt p x)
+        go : (x : Shown) → ShowFound π E p x → accepts (faultAt p x) ≡ false → ScriptVerdict π E (numbersOf (faultAt p x))
         go Right f a = absurd (true≢false a)
         go (NotRoot t) f a = not-root covered below (f .at) (f .lowest)
         go (Wrong t at) f a = wrong-element covered below (f .no-root) (f .wrong) (f .lowest)
 
-    pub shows-end : (points : ℕ) → points ≡ length (π .program) → points ≤ p → AllCovered π E → ScriptVerdict π E Accepted
+    pub shows-end : (points : ℕ) → points ≡ length (π .program) → points ≤ p → AllCovered π E → ScriptVerdict π E (numbersOf Accepted)
     shows-end points e l covered = accepted covered (λ q. go q (ltb q points) refl)
       where
         go : (q : ℕ) (t : Bool) → ltb q points ≡ t → ShowHolds π E q

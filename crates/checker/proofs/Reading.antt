@@ -10,6 +10,7 @@ use Rattle.verdicts.specs.declared.Cover.the-variants.{Start, Step}
 use Rattle.verdicts.specs.declared.Refusal.the-variants as Refusals
 use Rattle.verdicts.specs.declared.Verdict.{Verdict}
 use Rattle.verdicts.specs.declared.Verdict.the-variants as Verdicts
+use Rattle.verdicts.specs.Printed.{coverNumbers, numbersOf}
 use Rattle.commands.specs.declared.Position.{Position}
 use Rattle.commands.specs.declared.Part.the-variants.{Whole, Refused}
 use Rattle.commands.specs.Reading.{whole}
@@ -19,23 +20,23 @@ use Rattle.programs.proofs.Laws.{agrees-whole, agrees-refuses}
 use Rattle.summaries.specs.Summaries.{Environment, entries}
 use Rattle.jobs.specs.declared.JobRead.{JobRead}
 use Rattle.jobs.specs.Job.{Script, Job, job}
-use Rattle.jobs.specs.Promises.{JobKept, JobReads}
+use Rattle.jobs.specs.contracts.Promises.{JobKept, JobReads}
 use Rattle.jobs.specs.JobVerdict.{AllCovered, ScriptVerdict, start-uncovered, step-uncovered, JobVerdict, unreadable, readable}
-use Rattle.pages.specs.Gaps.{GapsAre, StartsAt, GapsTable}
+use Rattle.pages.specs.contracts.Gaps.{GapsAre, StartsAt, GapsTable}
 use Rattle.covering.specs.declared.Covering.{Covering}
 use Rattle.covering.specs.declared.Covering.the-variants.{Covered, Uncovered}
-use Rattle.covering.specs.Promises.{Covers}
+use Rattle.covering.specs.contracts.Promises.{Covers}
 use Rattle.covering.proofs.Laws.{tables-of}
 use Rattle.shows.specs.declared.TemplateTables.{TemplateTables}
-use Rattle.shows.specs.Promises.{TabledBy}
-use Rattle.checker.specs.Promises.{ReadAt}
+use Rattle.shows.specs.contracts.Promises.{TabledBy}
+use Rattle.checker.specs.contracts.Promises.{ReadAt}
 
 -- 9 and 10.
 module _ {π : Script} {E : ℕ → Environment} where
-  pub uncovered : (r : Covering) → Covers π E r → (c : Cover) → r ≡ Uncovered c → ScriptVerdict π E (Verdicts.Refused (Refusals.Cover c))
+  pub uncovered : (r : Covering) → Covers π E r → (c : Cover) → r ≡ Uncovered c → ScriptVerdict π E (coverNumbers c)
   uncovered r h c e = go c (subst (Covers π E) e h)
     where
-      go : (c : Cover) → Covers π E (Uncovered c) → ScriptVerdict π E (Verdicts.Refused (Refusals.Cover c))
+      go : (c : Cover) → Covers π E (Uncovered c) → ScriptVerdict π E (coverNumbers c)
       go (Start v) f = start-uncovered (f .variable) (f .fails) (f .before)
       go (Step p next v) f = rw (f .next-is) (step-uncovered (f .second) (f .start) (f .variable) (f .fails) (f .before))
 
@@ -70,12 +71,12 @@ module _ (s : List ℕ) (j : Job) (end : ℕ) (reads : job s ≡ whole j end) wh
 
 -- 1 to 8.
 pub refused : (s heads : List ℕ) (r : JobRead) → JobReads s heads r → (f : Form) (at : ℕ) → r .part ≡ Refused f at → (v : Verdict)
-    → v ≡ Verdicts.Refused (Refusals.Form f (record { at = at; slice = 0 })) → JobVerdict s v
+    → v ≡ Verdicts.Refused (Refusals.Form f (record { at = at; slice = 0 })) → JobVerdict s (numbersOf v)
 refused s heads r h f at e v is = rw is (unreadable (agrees-refuses (λ j end. JobKept s heads j r) (job s) (r .part) f at e h))
 
 -- A job that was read whole has the verdict that is found for it.
 pub read-whole : (s heads : List ℕ) (r : JobRead) → JobReads s heads r → (p : Position) → r .part ≡ Whole p → (v : Verdict)
-    → ((j : Job) (end : ℕ) → job s ≡ whole j end → JobKept s heads j r → ScriptVerdict (j .script) (entries (j .proposal)) v) → JobVerdict s v
+    → ((j : Job) (end : ℕ) → job s ≡ whole j end → JobKept s heads j r → ScriptVerdict (j .script) (entries (j .proposal)) (numbersOf v)) → JobVerdict s (numbersOf v)
 read-whole s heads r h p e v found =
     let w = agrees-whole (λ j end. JobKept s heads j r) (job s) (r .part) p e h in
     readable (w .reads) (found (w .tree) (w .end) (w .reads) (w .holds))

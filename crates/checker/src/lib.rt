@@ -1,14 +1,15 @@
 // The check of a job (document 01, "Verdicts", Check a job): its reading, its covering, and each show in turn.
 ghost use mathlib.Core.Path.{_≡_};
 ghost use Prim.Native.Nat.{ℕ};
+ghost use Rattle.verdicts.specs.Printed.{numbersOf};
+ghost use Rattle.verdicts.specs.TheVerdict.{TheVerdict};
 ghost use Rattle.commands.specs.Reading.{whole};
 ghost use Rattle.summaries.specs.Summaries.{entries};
 ghost use Rattle.jobs.specs.Job.{Job, job};
-ghost use Rattle.jobs.specs.Promises.{JobKept};
-ghost use Rattle.jobs.specs.JobVerdict.{AllCovered, ScriptVerdict};
+ghost use Rattle.jobs.specs.contracts.Promises.{JobKept};
+ghost use Rattle.jobs.specs.JobVerdict.{AllCovered, ScriptVerdict, JobVerdict};
 ghost use Rattle.jobs.specs.Guarantee.{Guarantee};
-ghost use Rattle.checker.specs.Verdicts.{TheVerdict};
-ghost use Rattle.checker.specs.Promises.{faultAt, ReadAt, PassesBy, PassedBy};
+ghost use Rattle.checker.specs.contracts.Promises.{faultAt, ReadAt, PassesBy, PassedBy};
 use commands::Part;
 use covering::Covering;
 use graphs::Graph;
@@ -96,7 +97,7 @@ fn first_fault(
     places: &[usize; 32],
     heads: &[usize; 256],
 ) -> Verdict
-    ensures { λ r. ⌜ ((j : Job) → ReadAt (now (s .entry)) rules templates count (now (starts .entry)) points (now (places .entry)) (now (heads .entry)) j → AllCovered (j .script) (entries (j .proposal)) → ScriptVerdict (j .script) (entries (j .proposal)) r) ⌝ }
+    ensures { λ r. ⌜ ((j : Job) → ReadAt (now (s .entry)) rules templates count (now (starts .entry)) points (now (places .entry)) (now (heads .entry)) j → AllCovered (j .script) (entries (j .proposal)) → ScriptVerdict (j .script) (entries (j .proposal)) (numbersOf r)) ⌝ }
 {
     let mut p: usize = 0;
     while p < points {
@@ -120,7 +121,7 @@ fn first_fault(
 
 // The verdict of a job that was read: 9 and 10, then the shows.
 fn check_read(s: &[u8], heads: &[usize; 256], read: JobRead) -> Verdict
-    ensures { λ r. ⌜ ((j : Job) (end : ℕ) → job (now (s .entry)) ≡ whole j end → JobKept (now (s .entry)) (now (heads .entry)) j read → ScriptVerdict (j .script) (entries (j .proposal)) r) ⌝ }
+    ensures { λ r. ⌜ ((j : Job) (end : ℕ) → job (now (s .entry)) ≡ whole j end → JobKept (now (s .entry)) (now (heads .entry)) j read → ScriptVerdict (j .script) (entries (j .proposal)) (numbersOf r)) ⌝ }
 {
     let count = read.templates.count;
     let starts = read.templates.starts;
@@ -147,11 +148,11 @@ fn check_read(s: &[u8], heads: &[usize; 256], read: JobRead) -> Verdict
 }
 
 // The verdict of a job. Acceptance means that every run of it, over any list of choices, shows only right pages, whatever its
-// proposal says. The bytes are not written to.
+// proposal says. The bytes are lent as `&`: `untouched` holds by their type.
 pub fn check(job: &[u8]) -> Verdict
-    ensures verdict { λ r. ⌜ TheVerdict (now (job .entry)) r ⌝ }
+    ensures verdict { λ r. ⌜ TheVerdict (JobVerdict (now (job .entry))) (numbersOf r) ⌝ }
     ensures untouched { λ _. ⌜ now (job .exit) ≡ now (job .entry) ⌝ }
-    ensures shows_only_right_pages { λ r. ⌜ Guarantee (now (job .entry)) r ⌝ }
+    ensures shows_only_right_pages { λ r. ⌜ Guarantee (now (job .entry)) (numbersOf r) ⌝ }
 {
     let mut heads = [0usize; 256];
     let read = jobs::read_job(job, &mut heads);

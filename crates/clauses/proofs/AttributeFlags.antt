@@ -13,19 +13,19 @@ use lib.Pow.{pow-pos, pow-mono}
 use borrow.Author.Tests.{eq-eqb, ne-eqb}
 use Rattle.sets.specs.Sets.{member}
 use Rattle.strings.specs.declared.StringSet.{StringSet}
-use Rattle.strings.specs.Strings.{hasString}
+use Rattle.strings.specs.contracts.Promises.{hasString}
 use Rattle.vocabularies.specs.Vocabulary.{isIn}
 use Rattle.vocabularies.specs.declared.Fact as Kept
 use Rattle.vocabularies.specs.declared.Fact.the-variants.{Present, Ordered, Valued}
 use Rattle.vocabularies.specs.declared.Facts.{Facts}
 use Rattle.vocabularies.specs.Facts.{Fact, present}
-use Rattle.vocabularies.specs.Promises.{meaningOf, keptAt, Stored}
-use Rattle.judging.specs.Judgement.{precedes, holdsValue}
-use Rattle.patterns.specs.Patterns.{flagged, numbered, patternOf}
+use Rattle.vocabularies.specs.contracts.Promises.{meaningOf, keptAt, Stored}
+use Rattle.judging.specs.contracts.Judgement.{precedes, holdsValue}
+use Rattle.patterns.specs.contracts.Patterns.{flagged, numbered, patternOf}
 use Rattle.patterns.proofs.Tests.{or-left, or-right, failed}
-use Rattle.schemes.specs.Promises.{OfFacts}
+use Rattle.schemes.specs.contracts.Promises.{OfFacts}
 use Rattle.schemes.proofs.Placing.{few-count}
-use Rattle.clauses.specs.Promises.{alone, IsPattern, WithValued, ValuedNames}
+use Rattle.clauses.specs.contracts.Promises.{alone, IsPattern, WithValued, ValuedNames}
 
 -- A number doubled, and the next one, as the definition writes them.
 pub odd : (n : ℕ) → n * 2 + 1 ≡ 1 + 2 * n

@@ -10,22 +10,23 @@ use lib.ListN.{length, getD}
 use lib.Dec.{eqb, ltb}
 use borrow.Author.Tests.{eq-eqb, eqb-true, ltb-true, ltb-false, lt-ltb}
 use Rattle.strings.specs.declared.StringSet.{StringSet}
-use Rattle.strings.specs.Strings.{strings, hasString, FirstString}
+use Rattle.strings.specs.Strings.{strings}
+use Rattle.strings.specs.contracts.Promises.{hasString, FirstString}
 use Rattle.strings.proofs.Laws.{outside}
 use Rattle.vocabularies.specs.declared.Facts.{Facts}
 use Rattle.vocabularies.specs.Facts.{Fact, present}
-use Rattle.vocabularies.specs.Promises.{Represents}
-use Rattle.patterns.specs.Patterns.{flagged, numbered, patternOf}
-use Rattle.patterns.specs.Morphisms.{factMorphism}
-use Rattle.patterns.specs.Rounds.{only, anyNamed}
-use Rattle.patterns.specs.Elements.{attributePattern}
+use Rattle.vocabularies.specs.contracts.Promises.{Represents}
+use Rattle.patterns.specs.contracts.Patterns.{flagged, numbered, patternOf}
+use Rattle.patterns.specs.contracts.Morphisms.{factMorphism}
+use Rattle.patterns.specs.contracts.Rounds.{only, anyNamed}
+use Rattle.patterns.specs.contracts.Elements.{attributePattern}
 use Rattle.patterns.proofs.Tests.{or-left, or-right, or-cases, and-both, and-left, and-right, same-test, failed, any-below, below-any}
 use Rattle.patterns.proofs.Clauses.{pattern-below}
-use Rattle.pattern_sets.specs.PatternSets.{holds}
-use Rattle.schemes.specs.Schemes.{Is}
-use Rattle.schemes.specs.Promises.{OfFacts}
+use Rattle.pattern_sets.specs.contracts.PatternSets.{holds}
+use Rattle.schemes.specs.contracts.Schemes.{Is}
+use Rattle.schemes.specs.contracts.Promises.{OfFacts}
 use Rattle.schemes.proofs.Placing.{few-count}
-use Rattle.clauses.specs.Promises.{alone, agree, Alike, WithPatterns}
+use Rattle.clauses.specs.contracts.Promises.{alone, agree, Alike, WithPatterns}
 use Rattle.clauses.proofs.AttributeFlags.{TellsAt}
 
 -- ---- strings alike

@@ -10,27 +10,28 @@ use lib.Pow.{pow-pos, pow-mono}
 use borrow.Author.Tests.{ltb-true, ltb-false}
 use Rattle.sets.specs.Sets.{member}
 use Rattle.strings.specs.declared.StringSet.{StringSet}
-use Rattle.strings.specs.Strings.{setNumber}
+use Rattle.strings.specs.contracts.Promises.{setNumber}
 use Rattle.verdicts.specs.declared.Form.{Form}
 use Rattle.commands.specs.declared.Position.{Position}
 use Rattle.commands.specs.declared.Decoded.{Decoded}
 use Rattle.commands.specs.declared.Decoded.the-variants.{Moved, Refused}
-use Rattle.commands.specs.Commands.{byte, setAt, stepped}
+use Rattle.commands.specs.Commands.{byte, setAt}
+use Rattle.commands.specs.contracts.Parts.{stepped}
 use Rattle.vocabularies.specs.Vocabulary.{isIn}
 use Rattle.vocabularies.specs.declared.Facts.{Facts}
 use Rattle.vocabularies.specs.Facts.{Fact, present, ordered, valued}
-use Rattle.judging.specs.Judgement.{truthOf}
+use Rattle.judging.specs.contracts.Judgement.{truthOf}
 use Rattle.judging.proofs.Evaluation.{step-none, conj-step, disj-step, neg-step, truth-step, attr-step, content-step, order-step, value-step}
-use Rattle.patterns.specs.Patterns.{flagIn, atomsBy}
-use Rattle.patterns.specs.Rounds.{anyBelow}
+use Rattle.patterns.specs.contracts.Patterns.{flagIn, atomsBy}
+use Rattle.patterns.specs.contracts.Rounds.{anyBelow}
 use Rattle.patterns.proofs.Tests.{and-left, failed, any-below, below-any}
-use Rattle.pattern_sets.specs.PatternSets.{holds, IsEmpty}
-use Rattle.pattern_sets.specs.Images.{AllFlagged}
+use Rattle.pattern_sets.specs.contracts.PatternSets.{holds, IsEmpty}
+use Rattle.pattern_sets.specs.contracts.Images.{AllFlagged}
 use Rattle.pattern_sets.proofs.Tables.{below, passed}
-use Rattle.schemes.specs.Promises.{Places}
+use Rattle.schemes.specs.contracts.Promises.{Places}
 use Rattle.schemes.proofs.FactPlaces.{flag-placed}
 use Rattle.clauses.specs.declared.Truths.{Truths}
-use Rattle.clauses.specs.Promises.{FlaggedBy, IsUnbroken, IsValued, heldAt, TruePatterns, ClauseFails}
+use Rattle.clauses.specs.contracts.Promises.{FlaggedBy, IsUnbroken, IsValued, heldAt, TruePatterns, ClauseFails}
 
 -- ---- the sets of which truths are made
 
@@ -113,9 +114,9 @@ module _ (t : Facts) (names : ℕ) (v : List ℕ) (at : ℕ) {d : Decoded} (is :
 
 -- ---- a clause that fails
 
-module _ (t : Facts) (names : ℕ) (v : List ℕ) (at : ℕ) (truths : Truths) (words wrong : List ℕ) (none : Bool)
-    (true-at : TruePatterns t names v at truths) (lacks : (y : ℕ) → holds wrong y ≡ (holds words y && not (holds (truths .set) y)))
-    (empty : IsEmpty wrong none) where
+module _ (t : Facts) (names : ℕ) (v : List ℕ) (at : ℕ) (truths : Truths) (words falsehoods wrong : List ℕ) (none : Bool)
+    (true-at : TruePatterns t names v at truths) (others : (x : ℕ) → x < 256 → holds falsehoods x ≡ not (holds (truths .set) x))
+    (both : (y : ℕ) → holds wrong y ≡ (holds words y && holds falsehoods y)) (empty : IsEmpty wrong none) where
   pub tells-failure : ClauseFails t names words v at (record { fails = not none; next = truths .next })
   tells-failure fs h few ns is E held f depth end ψ reads = (true-of 0 (pow-pos (length fs)) .0, told none empty)
     where
@@ -123,14 +124,14 @@ module _ (t : Facts) (names : ℕ) (v : List ℕ) (at : ℕ) (truths : Truths) (
       true-of x b = true-at fs h few ns is x b f depth end ψ reads
 
       same : (x : ℕ) → x < 2 ^ length fs → holds wrong x ≡ (E x && not (truthOf (atomsBy fs ns x) ψ))
-      same x b = lacks x ∙ ap₂ (λ (p q : Bool). p && not q) (held .inside x b) (true-of x b .1)
+      same x b = both x ∙ ap₂ _&&_ (held .inside x b) (others x (small fs few x b) ∙ ap not (true-of x b .1))
 
       below-size : (x : ℕ) → holds wrong x ≡ true → x < 2 ^ length fs
       below-size x e = go (ltb x (2 ^ length fs)) refl
         where
           go : (b : Bool) → ltb x (2 ^ length fs) ≡ b → x < 2 ^ length fs
           go true l = ltb-true x (2 ^ length fs) l
-          go false l = absurd (false≢true (sym (held .outside x (ltb-false x (2 ^ length fs) l)) ∙ and-left (holds words x) (not (holds (truths .set) x)) (sym (lacks x) ∙ e)))
+          go false l = absurd (false≢true (sym (held .outside x (ltb-false x (2 ^ length fs) l)) ∙ and-left (holds words x) (holds falsehoods x) (sym (both x) ∙ e)))
 
       told : (b : Bool) → IsEmpty wrong b → not b ≡ anyBelow (2 ^ length fs) (λ x. E x && not (truthOf (atomsBy fs ns x) ψ))
       told true nothing = sym (failed (anyBelow (2 ^ length fs) (λ x. E x && not (truthOf (atomsBy fs ns x) ψ)))

@@ -1,1 +1,1 @@
-pub mod Promises
+pub mod contracts

@@ -3,11 +3,11 @@ ghost use mathlib.Core.Path.{_≡_};
 ghost use mathlib.Core.Bool.{not, _&&_, _||_};
 ghost use mathlib.Core.List.{[]};
 ghost use Prim.Native.Nat.{ℕ, _≤_, _<_};
-ghost use Rattle.strings.specs.Strings.{setNumber, hasString};
-ghost use Rattle.vocabularies.specs.Promises.{meaningOf};
-ghost use Rattle.patterns.specs.Patterns.{flagged};
-ghost use Rattle.pattern_sets.specs.PatternSets.{holds};
-ghost use Rattle.clauses.specs.Promises.{alone, agree, IsPattern, WithValued, ValuedNames, Alike, AddsPatterns, ValuePatterns, FlaggedBy, IsUnbroken, IsValued, TruePatterns, ClauseFails};
+ghost use Rattle.strings.specs.contracts.Promises.{setNumber, hasString};
+ghost use Rattle.vocabularies.specs.contracts.Promises.{meaningOf};
+ghost use Rattle.patterns.specs.contracts.Patterns.{flagged};
+ghost use Rattle.pattern_sets.specs.contracts.PatternSets.{holds};
+ghost use Rattle.clauses.specs.contracts.Promises.{alone, agree, IsPattern, WithValued, ValuedNames, Alike, AddsPatterns, ValuePatterns, FlaggedBy, IsUnbroken, IsValued, TruePatterns, ClauseFails};
 use commands::Decoded;
 use commands::Position;
 use strings::OUTSIDE;
@@ -297,6 +297,7 @@ pub fn clause_fails(
     let truths = true_patterns(s, here, facts, names);
     let set = truths.set;
     let next = truths.next;
-    let fails = !pattern_sets::is_empty(pattern_sets::difference(patterns, set));
+    let falsehoods = complement(set);
+    let fails = !pattern_sets::is_empty(pattern_sets::intersection(patterns, falsehoods));
     Tested { fails, next }
 }

@@ -16,9 +16,9 @@ use Rattle.commands.specs.declared.Decoded.{Decoded}
 use Rattle.commands.specs.declared.Decoded.the-variants.{Moved, Refused}
 use Rattle.commands.specs.declared.Past.{Past}
 use Rattle.commands.specs.declared.Past.the-variants.{Over, Other}
-use Rattle.commands.specs.Commands.{Format, formats, lookup, Operand, element, attribute, string, widths, byte, operandsOf, operandBytes, inRange, allInRange, between, allowed, Single, command, stepped}
+use Rattle.commands.specs.Commands.{Format, formats, lookup, Operand, element, attribute, string, widths, byte, operandsOf, operandBytes, inRange, allInRange, between, allowed, command}
+use Rattle.commands.specs.contracts.Parts.{Single, stepped, past}
 use Rattle.commands.specs.Reading.{Read, whole, refused, unfinished, andThen, onDecoded, onCommand, when}
-use Rattle.commands.specs.Parts.{past}
 
 pub byte-past : (s : List ℕ) (at : ℕ) → length s ≤ at → byte s at ≡ 0
 byte-past s at h = List·getD-eq-default s 0 h

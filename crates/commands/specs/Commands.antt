@@ -2,7 +2,6 @@
 -- what is read at an offset. A command's first byte is written as there, in hexadecimal. `04`, `26` and `27` have no operand and one
 -- place each; they are told where clauses and items are read.
 use Prim.Native.Nat.{ℕ, zero, suc, _+_, _*_}
-use mathlib.Core.Path.{_≡_}
 use mathlib.Core.List.{List, [], _∷_}
 use mathlib.Core.Bool.{Bool, true, cond, _&&_, _||_, not}
 use lib.ListN.{length, getD}
@@ -147,14 +146,6 @@ allowed Heads c = either 0x40 0x4F c
 allowed TemplateHoldings c = between 0x41 0x46 c
 allowed StringHoldings c = either 0x47 0x48 c
 
--- A command of one operand, a byte of at most `most`, that may stand at a place.
-pub record Single (x : Context) (c most : ℕ) : Type 0 where
-  pub may-stand : allowed x c ≡ true
-  pub operand : Operand
-  pub alone : operandsOf c ≡ operand ∷ []
-  pub is-byte : width operand ≡ 1
-  pub range : (s : List ℕ) (i : ℕ) → inRange operand s i ≡ leb (byte s i) most
-
 -- What is read at an offset, in the order in which document 01 tests one command: the bytes end before it (2, at the length);
 -- it may not stand there (3); the bytes end in it (2); an operand is out of range (4).
 unfoldable pub command : Context → List ℕ → ℕ → Decoded
@@ -169,8 +160,3 @@ command x s at =
     (Refused Ended at))
     (Refused NotAllowed at))
     (Refused Ended (length s))
-
--- The command at an offset of bytes that were read: what was tested then is not tested again.
-unfoldable pub stepped : List ℕ → ℕ → Decoded
-unfolding operandBytes
-stepped s at = cond (ltb at (length s)) (Moved (byte s at) (record { at = at + 1 + operandBytes (byte s at) })) (Refused Ended (length s))

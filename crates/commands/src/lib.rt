@@ -5,9 +5,9 @@ ghost use mathlib.Core.Bool.{true, _&&_};
 ghost use Prim.Native.Nat.{_+_, _*_, _^_, _≤_, _<_};
 ghost use lib.ListN.{length};
 ghost use lib.Dec.{leb};
-ghost use Rattle.strings.specs.Strings.{setNumber};
-ghost use Rattle.commands.specs.Commands.{byte, setAt, either, between, allowed, operandsOf, operandBytes, inRange, element, attribute, strings-set, allInRange, Single, command, stepped};
-ghost use Rattle.commands.specs.Parts.{partOf, past};
+ghost use Rattle.strings.specs.contracts.Promises.{setNumber};
+ghost use Rattle.commands.specs.Commands.{byte, setAt, either, between, allowed, operandsOf, operandBytes, inRange, element, attribute, strings-set, allInRange, command};
+ghost use Rattle.commands.specs.contracts.Parts.{Single, stepped, partOf, past};
 use strings::LAST;
 use strings::StringSet;
 use verdicts::Form;
@@ -276,7 +276,7 @@ impl Position {
         Decoded::Moved(code, Position { at: at + 1 + more })
     }
 
-    // The same where text and elements may stand: `21` and `23 e` are seen at once.
+    // The command here, where text and elements may stand: `21` and `23 e` are seen at once.
     pub fn item_command(self, s: &[u8], context: Context) -> Decoded
         requires { ⌜ (allowed context 0x21 ≡ true) × (allowed context 0x23 ≡ true) ⌝ }
         ensures { λ r. ⌜ r ≡ command context (now (s .entry)) (self .at) ⌝ }
@@ -301,7 +301,7 @@ impl Position {
         Decoded::Moved(0x23, Position { at: at + 2 })
     }
 
-    // The same where a formula may stand: `10` to `13`, which have no operand, are seen at once.
+    // The command here, where a formula may stand: `10` to `13`, which have no operand, are seen at once.
     pub fn formula_command(self, s: &[u8]) -> Decoded
         ensures { λ r. ⌜ r ≡ command Context.Formulas (now (s .entry)) (self .at) ⌝ }
     {
@@ -319,7 +319,7 @@ impl Position {
         Decoded::Moved(code, Position { at: at + 1 })
     }
 
-    // The same where a command of one operand may stand: with an operand of at most `most` it is seen at once.
+    // The command here, where one of one operand may stand: with an operand of at most `most` it is seen at once.
     pub fn name_command(self, s: &[u8], context: Context, code: u8, most: u8) -> Decoded
         requires { ⌜ Single context code most ⌝ }
         ensures { λ r. ⌜ r ≡ command context (now (s .entry)) (self .at) ⌝ }
@@ -340,7 +340,7 @@ impl Position {
         Decoded::Moved(code, Position { at: at + 2 })
     }
 
-    // The same where an attribute with a string may stand: `24 a s` is seen at once.
+    // The command here, where an attribute with a string may stand: `24 a s` is seen at once.
     pub fn attribute_command(self, s: &[u8], context: Context) -> Decoded
         requires { ⌜ allowed context 0x24 ≡ true ⌝ }
         ensures { λ r. ⌜ r ≡ command context (now (s .entry)) (self .at) ⌝ }

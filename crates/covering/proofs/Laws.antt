@@ -18,24 +18,24 @@ use Rattle.vocabularies.specs.Vocabulary.{Vocabulary, declared}
 use Rattle.vocabularies.specs.VocabularyReading.{rules, vocabulary, mostBytes, alone}
 use Rattle.pages.specs.Items.{Items, none}
 use Rattle.pages.specs.ItemReading.{mostTemplates, templates}
-use Rattle.pages.specs.Promises.{Located}
+use Rattle.pages.specs.contracts.Promises.{Located}
 use Rattle.pages.proofs.Whole.{never-unfinished, templates-whole}
 use Rattle.programs.specs.Program.{Statement, stringVariable, templateAt, named}
 use Rattle.programs.specs.Program as Program
 use Rattle.programs.specs.ProgramReading.{program}
-use Rattle.programs.specs.Promises.{Names}
+use Rattle.programs.specs.contracts.Promises.{Names}
 use Rattle.summaries.specs.Proposal.{Head}
 use Rattle.summaries.specs.ProposalReading.{variableOf, holdingContext, proposal}
 use Rattle.summaries.specs.Summaries.{under}
-use Rattle.summaries.specs.Promises.{Stand, Kept}
+use Rattle.summaries.specs.contracts.Promises.{Stand, Kept}
 use Rattle.jobs.specs.declared.JobRead.{JobRead}
 use Rattle.jobs.specs.Job.{Script, Job, script, job}
-use Rattle.jobs.specs.Promises.{JobKept}
-use Rattle.summaries.specs.Listed.{Listed}
-use Rattle.pages.specs.Gaps.{StartsAt}
+use Rattle.jobs.specs.contracts.Promises.{JobKept}
+use Rattle.summaries.specs.contracts.Listed.{Listed}
+use Rattle.pages.specs.contracts.Gaps.{StartsAt}
 use Rattle.entries.proofs.Tests.{or-cases}
 use Rattle.entries.proofs.Reading.{holdings-listed}
-use Rattle.covering.specs.Tables.{EntriesAt, NamesAre, Tables}
+use Rattle.covering.specs.contracts.Tables.{EntriesAt, NamesAre, Tables}
 
 -- A job has few templates.
 templates-few : (f : ℕ) (ruled : ℕ → Bool) (s : List ℕ) (count at : ℕ) (φs : List Items) (end : ℕ) → count ≤ mostTemplates

@@ -12,7 +12,7 @@ use Rattle.programs.specs.declared.Act as Acts
 use Rattle.programs.specs.declared.Statement as Statements
 use Rattle.programs.specs.declared.Statement.the-variants.{Step, Stop}
 use Rattle.programs.specs.Program.{step, stop, statementAt}
-use Rattle.programs.specs.Promises.{asAct, asStatement, statementHere}
+use Rattle.programs.specs.contracts.Promises.{asAct, asStatement, statementHere}
 use Rattle.programs.proofs.Decoding.{statement-fits}
 use Rattle.summaries.specs.ProposalReading.{variableOf}
 use Rattle.summaries.specs.Summaries.{entries}
@@ -21,9 +21,9 @@ use Rattle.jobs.specs.Job.{Job}
 use Rattle.jobs.specs.JobVerdict.{StepHolds, nextOf}
 use Rattle.entries.proofs.Tests.{and-left, and-right}
 use Rattle.covering.specs.declared.Covering.the-variants.{Covered}
-use Rattle.pages.specs.Gaps.{GapsTable}
-use Rattle.covering.specs.Tables.{NamesAre, StatementStands, Tables, PointAt, StepAt}
-use Rattle.covering.specs.Promises.{Lowest, PointUncovered, PointCovers}
+use Rattle.pages.specs.contracts.Gaps.{GapsTable}
+use Rattle.covering.specs.contracts.Tables.{NamesAre, StatementStands, Tables, PointAt, StepAt}
+use Rattle.covering.specs.contracts.Promises.{Lowest, PointUncovered, PointCovers}
 
 module _ (j : Job) (s : List ℕ) (count : ℕ) (starts : List ℕ) (points : ℕ) (places : List ℕ) (names : ℕ) (heads : List ℕ)
     (T : Tables j s count starts points places names heads) (gaps : List ℕ) (G : GapsTable gaps (j .script .templates))

@@ -12,20 +12,20 @@ use Rattle.pages.specs.Items.{Items}
 use Rattle.programs.specs.declared.Act as Declared
 use Rattle.programs.specs.declared.Act.the-variants.{CopyTemplate, SetTemplate, CopyString, SetString, AnyString, Plug, PlugString}
 use Rattle.programs.specs.Program.{Act, copyTemplate, setTemplate, copyString, setString, anyString, plug, plugString, show, templateVariable, stringVariable, templateAt}
-use Rattle.programs.specs.Promises.{asAct}
+use Rattle.programs.specs.contracts.Promises.{asAct}
 use Rattle.summaries.specs.Proposal.{Head, Holding}
 use Rattle.summaries.specs.ProposalReading.{variableOf}
 use Rattle.summaries.specs.Summaries.{Summary, Strings, Environment, Within, fragment, plugSummary, plugStringSummary, transfer, transferTemplate, transferString, saysClaim, saysString, held, under, entries}
-use Rattle.summaries.specs.Listed.{Listed}
+use Rattle.summaries.specs.contracts.Listed.{Listed}
 use Rattle.summaries.specs.Covering.{WithinAt}
 use Rattle.jobs.specs.Job.{Job}
 use Rattle.strings.specs.declared.Values.{Values}
-use Rattle.strings.specs.Strings.{holdsValue}
-use Rattle.entries.specs.Passing.{Decides}
-use Rattle.pages.specs.Gaps.{GapsAre}
+use Rattle.strings.specs.contracts.Promises.{holdsValue}
+use Rattle.entries.specs.contracts.Passing.{Decides}
+use Rattle.pages.specs.contracts.Gaps.{GapsAre}
 use Rattle.entries.proofs.Tests.{decides-map}
-use Rattle.covering.specs.Tables.{EntriesAt, PointAt}
-use Rattle.covering.specs.Promises.{setsTemplate, setsString}
+use Rattle.covering.specs.contracts.Tables.{EntriesAt, PointAt}
+use Rattle.covering.specs.contracts.Promises.{setsTemplate, setsString}
 
 -- The entry of a variable at a point, by the offset that the code takes from the table.
 module _ (s heads : List ℕ) (hs : List Head) (p : ℕ) (low : p < 32) (entry : EntriesAt s heads hs p) where

@@ -22,14 +22,14 @@ use Rattle.summaries.specs.Covering.{WithinAt, startEnvironment}
 use Rattle.jobs.specs.Job.{Script}
 use Rattle.jobs.specs.JobVerdict.{StartHolds, StepHolds}
 use Rattle.strings.specs.declared.Values.{Values}
-use Rattle.summaries.specs.Listed.{Listed}
-use Rattle.strings.specs.Strings.{holdsValue, ValuesWithin}
-use Rattle.entries.specs.Passing.{Decides}
+use Rattle.summaries.specs.contracts.Listed.{Listed}
+use Rattle.strings.specs.contracts.Promises.{holdsValue, ValuesWithin}
+use Rattle.entries.specs.contracts.Passing.{Decides}
 use Rattle.entries.proofs.Tests.{decides, values-decide}
 use Rattle.covering.specs.declared.Covering.{Covering}
 use Rattle.covering.specs.declared.Covering.the-variants.{Covered, Uncovered}
-use Rattle.covering.specs.Tables.{EntriesAt}
-use Rattle.covering.specs.Promises.{Lowest, StartUncovered, Covers, PointCovers, StepsCover}
+use Rattle.covering.specs.contracts.Tables.{EntriesAt}
+use Rattle.covering.specs.contracts.Promises.{Lowest, StartUncovered, Covers, PointCovers, StepsCover}
 use Rattle.covering.proofs.Steps.{template-listed, string-listed}
 
 -- The empty template 0 lies within an entry that has root 0.

@@ -4,19 +4,19 @@ ghost use mathlib.Core.List.{List};
 ghost use Prim.Native.Nat.{ℕ, _+_, _*_, _<_};
 ghost use lib.ListN.{getD};
 ghost use mathlib.Core.Bool.{true};
-ghost use Rattle.programs.specs.Promises.{asAct};
+ghost use Rattle.programs.specs.contracts.Promises.{asAct};
 ghost use Rattle.summaries.specs.Proposal.{Holding, Head};
 ghost use Rattle.summaries.specs.ProposalReading.{variableOf};
 ghost use Rattle.summaries.specs.Summaries.{Within, saysClaim, saysString, held, entries, transfer, transferTemplate, transferString};
 ghost use Rattle.summaries.specs.Covering.{WithinAt, startEnvironment, StepCovered};
 ghost use Rattle.jobs.specs.Job.{Job};
 ghost use Rattle.jobs.specs.JobVerdict.{StartHolds};
-ghost use Rattle.pages.specs.Gaps.{GapsTable};
-ghost use Rattle.summaries.specs.Listed.{Listed};
-ghost use Rattle.graphs.specs.Graphs.{Keeps, nothing};
-ghost use Rattle.entries.specs.Passing.{Decides};
-ghost use Rattle.covering.specs.Tables.{EntriesAt, NamesAre, Tables, PointAt, StepAt};
-ghost use Rattle.covering.specs.Promises.{setsTemplate, setsString, Lowest, Covers, PointCovers, StepsCover};
+ghost use Rattle.pages.specs.contracts.Gaps.{GapsTable};
+ghost use Rattle.summaries.specs.contracts.Listed.{Listed};
+ghost use Rattle.graphs.specs.contracts.Graphs.{Keeps, nothing};
+ghost use Rattle.entries.specs.contracts.Passing.{Decides};
+ghost use Rattle.covering.specs.contracts.Tables.{EntriesAt, NamesAre, Tables, PointAt, StepAt};
+ghost use Rattle.covering.specs.contracts.Promises.{setsTemplate, setsString, Lowest, Covers, PointCovers, StepsCover};
 use commands::Context;
 use commands::Position;
 use graphs::Graph;
@@ -204,7 +204,7 @@ fn variable_holds(
     string_holds(s, heads, step, v - 4)
 }
 
-// The same of a variable that some statement names; no other is looked at.
+// Whether a variable is covered in the step of a point to a next point, if some statement names it; no other is looked at.
 fn named_holds(
     s: &[u8],
     gaps: &[u64; 32],
@@ -332,7 +332,7 @@ fn start_holds(s: &[u8], heads: &[usize; 256], v: usize) -> bool
     strings::values_within(strings::one_value(0), values)
 }
 
-// The same of a variable that some statement names; no other is looked at.
+// Whether the start is covered at a variable, if some statement names it; no other is looked at.
 fn named_start_holds(s: &[u8], heads: &[usize; 256], names: u64, v: usize) -> bool
     requires { ⌜ v < 8 ⌝ }
     ensures { λ r. ⌜ ((j : Job) → EntriesAt (now (s .entry)) (now (heads .entry)) (j .proposal) 0 → NamesAre j names → Decides r (StartHolds (j .script) (entries (j .proposal)) v)) ⌝ }

@@ -12,40 +12,41 @@ use Rattle.commands.specs.Reading.{whole}
 use Rattle.vocabularies.specs.Vocabulary.{Formula}
 use Rattle.vocabularies.specs.Facts.{factsOf}
 use Rattle.vocabularies.specs.declared.Facts.{Facts}
-use Rattle.vocabularies.specs.Promises.{Represents}
+use Rattle.vocabularies.specs.contracts.Promises.{Represents}
 use Rattle.pages.specs.declared.Kind.the-variants.{Template}
 use Rattle.pages.specs.declared.AttributeHere.{AttributeHere}
 use Rattle.pages.specs.declared.AttributeHere.the-variants.{Fixed, Open, Done}
 use Rattle.pages.specs.Items.{Attribute, string, open-gap}
 use Rattle.pages.specs.ItemReading.{attributes}
-use Rattle.pages.specs.Steps.{attributeHere, AttributeMoves, NamesAt}
+use Rattle.pages.specs.contracts.Steps.{attributeHere, AttributeMoves, NamesAt}
 use Rattle.pages.proofs.Steps.{AttributeFirst, fixed, opened, fixed-first, open-first, none-first, fixed-moves, open-moves}
 use Rattle.pages.proofs.Gathering.{Onto, NamesWith, fixed-named, open-named, all-named}
 use Rattle.summaries.specs.Proposal as Proposal
 use Rattle.summaries.specs.Summaries.{Summary}
-use Rattle.patterns.specs.Morphisms.{Morphism, factMorphism}
-use Rattle.patterns.specs.Rounds.{Set, product, only, anyBelow, anyNamed, valueTakes}
-use Rattle.patterns.specs.Elements.{attributePattern, valuePatterns, attributePatterns}
+use Rattle.patterns.specs.contracts.Morphisms.{Morphism, factMorphism}
+use Rattle.patterns.specs.contracts.Rounds.{Set, product, only, anyBelow, anyNamed, valueTakes}
+use Rattle.patterns.specs.contracts.Elements.{attributePattern, valuePatterns, attributePatterns}
 use Rattle.patterns.proofs.Tests.{and-both, and-left, and-right, same-test, failed, any-below, below-any}
 use Rattle.patterns.proofs.Bits.{pattern-of-nothing}
 use Rattle.patterns.proofs.Clauses.{pattern-below}
 use Rattle.patterns.proofs.Products.{clause-monoid, product-assoc, product-unit-left, product-unit-right}
-use Rattle.pattern_sets.specs.PatternSets.{holds}
+use Rattle.pattern_sets.specs.contracts.PatternSets.{holds}
 use Rattle.schemes.specs.declared.Scheme.{Scheme}
-use Rattle.schemes.specs.Schemes.{StandsForFacts, Is, of-facts}
-use Rattle.schemes.specs.Promises.{Multiplies}
-use Rattle.clauses.specs.Promises.{alone, IsPattern, ValuedNames, ValuePatterns}
+use Rattle.schemes.specs.contracts.Schemes.{StandsForFacts, Is, of-facts}
+use Rattle.schemes.specs.contracts.Promises.{Multiplies}
+use Rattle.clauses.specs.contracts.Promises.{alone, IsPattern, ValuedNames, ValuePatterns}
 use Rattle.strings.specs.declared.Values.{Values}
-use Rattle.strings.specs.Strings.{strings, holdsValue, NoValues}
-use Rattle.graphs.specs.Graphs.{Keeps}
-use Rattle.graphs.specs.Graphs as Graphs
-use Rattle.languages.specs.Tables.{of-clause}
-use Rattle.languages.specs.Promises.{AttributesTake}
+use Rattle.strings.specs.Strings.{strings}
+use Rattle.strings.specs.contracts.Promises.{holdsValue, NoValues}
+use Rattle.graphs.specs.contracts.Graphs.{Keeps}
+use Rattle.graphs.specs.contracts.Graphs as Graphs
+use Rattle.languages.specs.contracts.Tables.{of-clause}
+use Rattle.languages.specs.contracts.Promises.{AttributesTake}
 use Rattle.languages.proofs.Uses.{is-as, product-as, unit-set}
 use Rattle.languages.proofs.AttributeGaps.{some-taken}
 use Rattle.languages.proofs.Lists.{TakingTo, taking-begins, taking-fixed, taking-open, taking-done}
 use Rattle.elements.specs.declared.Attributes.{Attributes}
-use Rattle.elements.specs.Attributes.{patternsBy, AttributePatterns}
+use Rattle.elements.specs.contracts.Attributes.{patternsBy, AttributePatterns}
 
 -- ---- the value of one attribute
 

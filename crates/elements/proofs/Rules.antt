@@ -8,7 +8,8 @@ use native.Mathlib.Omega.{arith}
 use lib.ListN.{length, getD}
 use lib.Dec.{eqb, ltb}
 use borrow.Author.Tests.{eqb-true, eqb-false, ltb-true, ltb-false, lt-ltb}
-use Rattle.sets.specs.Sets.{member, FirstMember}
+use Rattle.sets.specs.Sets.{member}
+use Rattle.sets.specs.contracts.Promises.{FirstMember}
 use Rattle.sets.proofs.Laws.{member-zero, member-high}
 use Rattle.verdicts.specs.declared.Form.{Form}
 use Rattle.commands.specs.declared.Position.{Position}
@@ -20,7 +21,7 @@ use Rattle.vocabularies.specs.declared.Facts.{Facts}
 use Rattle.vocabularies.specs.Vocabulary.{Formula, Rule, Vocabulary, ruleOf, isSome}
 use Rattle.vocabularies.specs.VocabularyReading as Reading
 use Rattle.vocabularies.specs.Facts.{factsOf}
-use Rattle.vocabularies.specs.Promises.{FormulaReads, FactsRead}
+use Rattle.vocabularies.specs.contracts.Promises.{FormulaReads, FactsRead}
 use Rattle.vocabularies.proofs.Laws.{Clausal, no-more, one-more, clauses-formed, formula-whole}
 use Rattle.pages.specs.Items.{Attribute, Items}
 use Rattle.pages.specs.RightPages.{_∈_, SomeElement}
@@ -29,22 +30,22 @@ use Rattle.programs.specs.Program.{templateAt}
 use Rattle.summaries.specs.Summaries.{Summary}
 use Rattle.patterns.specs.declared.Wrong.{Wrong}
 use Rattle.patterns.specs.declared.Wrong.the-variants.{Nowhere}
-use Rattle.patterns.specs.Rounds.{Sets}
-use Rattle.patterns.specs.Exactness.{Exact}
-use Rattle.patterns.specs.Elements.{clauseFails, someClauseFails}
-use Rattle.patterns.specs.LowestWrong.{lowerWrong, LowestWrong, Passing}
+use Rattle.patterns.specs.contracts.Rounds.{Sets}
+use Rattle.patterns.specs.contracts.Exactness.{Exact}
+use Rattle.patterns.specs.contracts.Elements.{clauseFails, someClauseFails}
+use Rattle.patterns.specs.contracts.LowestWrong.{lowerWrong, LowestWrong, Passing}
 use Rattle.patterns.proofs.Tests.{and-both, and-left}
 use Rattle.patterns.proofs.Bits.{facts-distinct}
 use Rattle.patterns.proofs.LowestOf.{lower-assoc, lower-nowhere, lowest-iff, lowest-none, lowest-either, lowest-same, lowest-never}
 use Rattle.schemes.specs.declared.Scheme as Schemes
-use Rattle.schemes.specs.Promises.{KeepsFacts}
-use Rattle.occurrences.specs.Occurrences.{Stands, Occurrences}
+use Rattle.schemes.specs.contracts.Promises.{KeepsFacts}
+use Rattle.occurrences.specs.contracts.Occurrences.{Stands, Occurrences}
 use Rattle.occurrences.proofs.Elements.{all-met}
-use Rattle.reach.specs.PlainlyWrong.{clauseBy, wrongByClause}
+use Rattle.reach.specs.contracts.PlainlyWrong.{clauseBy, wrongByClause}
 use Rattle.elements.specs.declared.Clause.{Clause}
-use Rattle.elements.specs.Attributes.{ClauseAt, patternsBy}
-use Rattle.elements.specs.Search.{failsAt}
-use Rattle.elements.specs.Rules.{Standing, SearchesClause, SearchesRule, RulesStand, ExactClauses, SearchesRules}
+use Rattle.elements.specs.contracts.Attributes.{ClauseAt, patternsBy}
+use Rattle.elements.specs.contracts.Search.{failsAt}
+use Rattle.elements.specs.contracts.Rules.{Standing, SearchesClause, SearchesRule, RulesStand, ExactClauses, SearchesRules}
 
 -- ---- the clauses of one rule
 

@@ -17,38 +17,38 @@ use Rattle.pages.specs.Items.{Attribute, Item, Items}
 use Rattle.pages.specs.Items as Items
 use Rattle.pages.specs.ItemReading.{item, items}
 use Rattle.pages.specs.RightPages.{names}
-use Rattle.pages.specs.Steps.{itemHere}
+use Rattle.pages.specs.contracts.Steps.{itemHere}
 use Rattle.pages.proofs.Steps.{text-first, gap-first, element-first, end-first, element-item, no-attribute}
 use Rattle.summaries.specs.Summaries.{Summary}
 use Rattle.patterns.specs.declared.Wrong.{Wrong}
 use Rattle.patterns.specs.declared.Wrong.the-variants.{Nowhere}
-use Rattle.patterns.specs.Morphisms.{Morphism}
-use Rattle.patterns.specs.Given.{Bounded}
-use Rattle.patterns.specs.Rounds.{Sets, anyBelow, attributesTake, allTake, itemTakes, patterns}
-use Rattle.patterns.specs.Elements.{attributePatterns, elementPatterns, clauseFails}
-use Rattle.patterns.specs.Shows.{lower, onlyIf, lowestMark, lowestMarkIn}
-use Rattle.patterns.specs.LowestWrong.{lowerWrong, wrongIn}
+use Rattle.patterns.specs.contracts.Morphisms.{Morphism}
+use Rattle.patterns.specs.contracts.Given.{Bounded}
+use Rattle.patterns.specs.contracts.Rounds.{Sets, anyBelow, attributesTake, allTake, itemTakes, patterns}
+use Rattle.patterns.specs.contracts.Elements.{attributePatterns, elementPatterns, clauseFails}
+use Rattle.patterns.specs.contracts.Shows.{lower, onlyIf, lowestMark, lowestMarkIn}
+use Rattle.patterns.specs.contracts.LowestWrong.{lowerWrong, wrongIn}
 use Rattle.patterns.proofs.Tests.{and-both, failed, any-below, below-any}
 use Rattle.patterns.proofs.LowestOf.{lower-in, lower-nowhere, lower-assoc}
 use Rattle.patterns.proofs.Products.{clause-monoid, some-pattern}
 use Rattle.patterns.proofs.Lawful.{clause-lawful}
-use Rattle.pattern_sets.specs.PatternSets.{holds, IsEmpty}
-use Rattle.schemes.specs.Schemes.{Is, of-facts}
-use Rattle.schemes.specs.Promises.{Multiplies}
+use Rattle.pattern_sets.specs.contracts.PatternSets.{holds, IsEmpty}
+use Rattle.schemes.specs.contracts.Schemes.{Is, of-facts}
+use Rattle.schemes.specs.contracts.Promises.{Multiplies}
 use Rattle.clauses.specs.declared.Tested.{Tested}
-use Rattle.clauses.specs.Promises.{ClauseFails}
+use Rattle.clauses.specs.contracts.Promises.{ClauseFails}
 use Rattle.languages.specs.declared.Filled.{Filled}
 use Rattle.languages.specs.declared.Line.{Line}
-use Rattle.languages.specs.Tables.{of-clause}
-use Rattle.languages.specs.Promises.{AttributesTake}
+use Rattle.languages.specs.contracts.Tables.{of-clause}
+use Rattle.languages.specs.contracts.Promises.{AttributesTake}
 use Rattle.languages.proofs.Uses.{held-below}
 use Rattle.languages.proofs.Lists.{LentSets, ListHas, ListTo}
 use Rattle.elements.specs.declared.Attributes.{Attributes}
 use Rattle.elements.specs.declared.Clause.{Clause}
 use Rattle.elements.specs.declared.FoundElement.{FoundElement}
 use Rattle.elements.specs.declared.FoundItems.{FoundItems}
-use Rattle.elements.specs.Attributes.{patternsBy, AttributePatterns}
-use Rattle.elements.specs.Search.{failsAt, CanFail, HasPattern, Searching, OfSearch, SearchesItems, SearchesElement}
+use Rattle.elements.specs.contracts.Attributes.{patternsBy, AttributePatterns}
+use Rattle.elements.specs.contracts.Search.{failsAt, CanFail, HasPattern, Searching, OfSearch, SearchesItems, SearchesElement}
 
 -- ---- an element
 

@@ -6,30 +6,31 @@ use mathlib.Core.Bool.{true}
 use mathlib.Core.Logic.{_⊎_, ⊎-elim}
 use native.Mathlib.Omega.{arith}
 use lib.ListN.{length, getD}
-use Rattle.sets.specs.Sets.{member, FirstMember}
+use Rattle.sets.specs.Sets.{member}
+use Rattle.sets.specs.contracts.Promises.{FirstMember}
 use Rattle.vocabularies.specs.Vocabulary.{Formula}
 use Rattle.pages.specs.Items.{Items}
 use Rattle.programs.specs.Program.{templateAt}
 use Rattle.summaries.specs.Summaries.{Summary}
 use Rattle.patterns.specs.declared.Wrong.{Wrong}
 use Rattle.patterns.specs.declared.Wrong.the-variants.{Nowhere}
-use Rattle.patterns.specs.Morphisms.{Morphism}
-use Rattle.patterns.specs.Given.{Bounded}
-use Rattle.patterns.specs.Rounds.{Sets}
-use Rattle.patterns.specs.Exactness.{Exact}
-use Rattle.patterns.specs.LowestWrong.{lowerWrong, LowestWrong}
+use Rattle.patterns.specs.contracts.Morphisms.{Morphism}
+use Rattle.patterns.specs.contracts.Given.{Bounded}
+use Rattle.patterns.specs.contracts.Rounds.{Sets}
+use Rattle.patterns.specs.contracts.Exactness.{Exact}
+use Rattle.patterns.specs.contracts.LowestWrong.{lowerWrong, LowestWrong}
 use Rattle.patterns.proofs.LowestOf.{Below, looked-none, looked-more, looked-all}
 use Rattle.schemes.specs.declared.Scheme.{Scheme}
-use Rattle.schemes.specs.Schemes.{StandsFor, of-facts}
-use Rattle.graphs.specs.Graphs.{Keeps}
-use Rattle.languages.specs.Tables.{of-clause, SetsAre, GapSetsAre, Lent}
-use Rattle.languages.specs.Promises.{Settles}
+use Rattle.schemes.specs.contracts.Schemes.{StandsFor, of-facts}
+use Rattle.graphs.specs.contracts.Graphs.{Keeps}
+use Rattle.languages.specs.contracts.Tables.{of-clause, SetsAre, GapSetsAre, Lent}
+use Rattle.languages.specs.contracts.Promises.{Settles}
 use Rattle.languages.proofs.Settling.{settled-exact}
 use Rattle.elements.specs.declared.Clause.{Clause}
 use Rattle.elements.specs.declared.FoundItems.{FoundItems}
-use Rattle.elements.specs.Attributes.{ClauseAt, patternsBy}
-use Rattle.elements.specs.Search.{failsAt, SearchesItems}
-use Rattle.elements.specs.Rules.{Standing, SettledBy, SearchesTemplate, SearchesClause}
+use Rattle.elements.specs.contracts.Attributes.{ClauseAt, patternsBy}
+use Rattle.elements.specs.contracts.Search.{failsAt, SearchesItems}
+use Rattle.elements.specs.contracts.Rules.{Standing, SettledBy, SearchesTemplate, SearchesClause}
 
 pub template-searched : (s : List ℕ) (from : ℕ) (c : Clause) (words : List ℕ) (sets : List (List ℕ)) (n : ℕ) (takes : List (List ℕ))
     → ((φs : List Items) (G : Summary) (M : Morphism) (X : Sets) → length φs < 32 → Bounded φs G → Keeps words G → SetsAre φs M X sets → GapSetsAre φs G M X n takes)

@@ -1,3 +1,1 @@
-pub mod Attributes
-pub mod Search
-pub mod Rules
+pub mod contracts

@@ -2,12 +2,12 @@
 ghost use mathlib.Core.Path.{_≡_};
 ghost use mathlib.Core.Bool.{true};
 ghost use Prim.Native.Nat.{_≤_, _<_};
-ghost use Rattle.sets.specs.Sets.{FirstMember};
-ghost use Rattle.patterns.specs.Shows.{onlyIf};
-ghost use Rattle.patterns.specs.LowestWrong.{wrongIn};
-ghost use Rattle.elements.specs.Attributes.{AttributePatterns};
-ghost use Rattle.elements.specs.Rules.{SettledBy, SearchesTemplate, SearchesClause, SearchesRule, SearchesRules};
-ghost use Rattle.elements.specs.Search.{CanFail, HasPattern, SearchesElement, SearchesItems};
+ghost use Rattle.sets.specs.contracts.Promises.{FirstMember};
+ghost use Rattle.patterns.specs.contracts.Shows.{onlyIf};
+ghost use Rattle.patterns.specs.contracts.LowestWrong.{wrongIn};
+ghost use Rattle.elements.specs.contracts.Attributes.{AttributePatterns};
+ghost use Rattle.elements.specs.contracts.Rules.{SettledBy, SearchesTemplate, SearchesClause, SearchesRule, SearchesRules};
+ghost use Rattle.elements.specs.contracts.Search.{CanFail, HasPattern, SearchesElement, SearchesItems};
 use commands::Part;
 use commands::Past;
 use commands::Position;

@@ -8,11 +8,11 @@ use lib.Dec.{eqb, ltb}
 use borrow.Author.Tests.{eq-eqb, eqb-true, ltb-true, ltb-false, lt-ltb, le-ltb}
 use Rattle.sets.specs.Sets.{member}
 use Rattle.pages.specs.Items.{Items}
-use Rattle.pages.specs.Gaps.{hasGap, hasAttributeGap, GapsAre}
+use Rattle.pages.specs.contracts.Gaps.{hasGap, hasAttributeGap, GapsAre}
 use Rattle.summaries.specs.Proposal.{root, edge, string, gapFrom, attributeGapFrom}
 use Rattle.summaries.specs.Summaries.{Summary, Within, fragment}
-use Rattle.graphs.specs.Graphs.{holds, Keeps}
-use Rattle.entries.specs.Entries.{originOf}
+use Rattle.graphs.specs.contracts.Graphs.{holds, Keeps}
+use Rattle.entries.specs.contracts.Entries.{originOf}
 use Rattle.entries.proofs.Tests.{and-both, and-left, and-right}
 
 -- It is a root, and an origin of each of its gaps.

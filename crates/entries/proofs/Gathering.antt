@@ -12,15 +12,15 @@ use Rattle.commands.specs.declared.Context.the-variants.{TemplateHoldings, Stri
 use Rattle.commands.specs.declared.Position.{Position}
 use Rattle.summaries.specs.Proposal.{root, Holding, claim, oneString, anyString}
 use Rattle.summaries.specs.Summaries.{Summary, saysClaim, saysString, held}
-use Rattle.summaries.specs.Listed.{Listed, meaningOf}
+use Rattle.summaries.specs.contracts.Listed.{Listed, meaningOf}
 use Rattle.summaries.specs.declared.Claim.{Claim}
 use Rattle.summaries.specs.declared.Claim.the-variants.{Root}
 use Rattle.summaries.proofs.Steps.{First}
 use Rattle.strings.specs.declared.Values.{Values}
-use Rattle.strings.specs.Strings.{holdsValue}
+use Rattle.strings.specs.contracts.Promises.{holdsValue}
 use Rattle.entries.specs.declared.Passing.{Passing}
-use Rattle.entries.specs.Passing.{Decides}
-use Rattle.entries.specs.Entries.{WithRoot}
+use Rattle.entries.specs.contracts.Passing.{Decides}
+use Rattle.entries.specs.contracts.Entries.{WithRoot}
 use Rattle.entries.proofs.Tests.{decided-true, decided-false, alike}
 use Rattle.entries.proofs.Claims.{says-itself, says-alone}
 use Rattle.entries.proofs.Walks.{Walked, walk-begins, walk-goes, walk-ends, walk-stops}

@@ -5,15 +5,15 @@ use mathlib.Core.List.{List}
 use mathlib.Core.Bool.{Bool, true, false, not}
 use borrow.Author.Tests.{not-true, not-false}
 use Rattle.sets.specs.Sets.{member}
-use Rattle.sets.specs.Sets as Sets
+use Rattle.sets.specs.contracts.Promises as Sets
 use Rattle.summaries.specs.Proposal.{root, edge, string, gapFrom, attributeGapFrom, claim, anyAt}
 use Rattle.summaries.specs.declared.Claim.{Claim}
-use Rattle.summaries.specs.Listed.{meaningOf}
+use Rattle.summaries.specs.contracts.Listed.{meaningOf}
 use Rattle.strings.specs.declared.Values.{Values}
-use Rattle.strings.specs.Strings.{holdsValue, ValuesWithin}
-use Rattle.graphs.specs.Graphs.{holds}
+use Rattle.strings.specs.contracts.Promises.{holdsValue, ValuesWithin}
+use Rattle.graphs.specs.contracts.Graphs.{holds}
 use Rattle.entries.specs.declared.Passing.{Passing}
-use Rattle.entries.specs.Entries.{ItemHolds}
+use Rattle.entries.specs.contracts.Entries.{ItemHolds}
 use Rattle.entries.proofs.Tests.{values-decide}
 use Rattle.entries.proofs.Passings.{root-passes, root-stays-out, edge-passes, string-passes, any-passes, gap-passes, plugged-passes, attribute-passes, filled-passes}
 

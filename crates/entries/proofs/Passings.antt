@@ -7,13 +7,13 @@ use mathlib.Core.Logic.{inl, inr}
 use lib.Dec.{eqb}
 use borrow.Author.Tests.{eq-eqb, ne-eqb, eqb-true}
 use Rattle.sets.specs.Sets.{member}
-use Rattle.sets.specs.Sets as Sets
+use Rattle.sets.specs.contracts.Promises as Sets
 use Rattle.summaries.specs.Proposal.{Claim, root, edge, string, gapFrom, attributeGapFrom, Holding, claim, anyAt}
 use Rattle.summaries.specs.Summaries.{Summary, Within, sameCode, saysClaim, held}
 use Rattle.strings.specs.declared.Values.{Values}
 use Rattle.entries.specs.declared.Passing.{Passing}
-use Rattle.strings.specs.Strings.{holdsValue}
-use Rattle.entries.specs.Passing.{stays, added, passed, Decides}
+use Rattle.strings.specs.contracts.Promises.{holdsValue}
+use Rattle.entries.specs.contracts.Passing.{stays, added, passed, Decides}
 use Rattle.entries.proofs.Tests.{or-left, or-right, or-cases, and-both, and-left, and-right, refuted, decides, decides-map}
 use Rattle.graphs.proofs.Claims.{says-itself, says-alone, says-any}
 

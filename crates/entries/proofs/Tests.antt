@@ -3,9 +3,9 @@ use Prim.Native.Nat.{ℕ}
 use mathlib.Core.Path.{_≡_, refl, sym, _∙_}
 use mathlib.Core.Bool.{Bool, true, false, false≢true}
 use Rattle.strings.specs.declared.Values.{Values}
-use Rattle.strings.specs.Strings.{holdsValue, ValuesWithin}
+use Rattle.strings.specs.contracts.Promises.{holdsValue, ValuesWithin}
 use Rattle.summaries.specs.Summaries.{Within}
-use Rattle.entries.specs.Passing.{Decides}
+use Rattle.entries.specs.contracts.Passing.{Decides}
 pub use Rattle.graphs.proofs.Tests.{or-left, or-right, or-cases, and-both, and-left, and-right, alike, refuted}
 
 module _ {P : Type 0} where

@@ -14,9 +14,9 @@ use Rattle.summaries.specs.Proposal.{Claim, root, edge, string, gapFrom, attrib
 use Rattle.summaries.specs.Summaries.{Summary, Strings, Within, plugSummary, plugStringSummary, saysClaim, held}
 use Rattle.strings.specs.declared.Values.{Values}
 use Rattle.entries.specs.declared.Passing.{Passing}
-use Rattle.summaries.specs.Listed.{HoldingFits, Listed}
-use Rattle.strings.specs.Strings.{holdsValue}
-use Rattle.entries.specs.Passing.{passed, wholly, withoutRoots, plugging, filling, Decides}
+use Rattle.summaries.specs.contracts.Listed.{HoldingFits, Listed}
+use Rattle.strings.specs.contracts.Promises.{holdsValue}
+use Rattle.entries.specs.contracts.Passing.{passed, wholly, withoutRoots, plugging, filling, Decides}
 use Rattle.entries.proofs.Tests.{or-left, or-right, or-cases, and-right, decided-true, decided-false, decides-map}
 use Rattle.graphs.proofs.Claims.{says-alone}
 

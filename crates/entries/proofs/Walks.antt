@@ -10,7 +10,7 @@ use Rattle.summaries.specs.declared.ClaimHere.{ClaimHere}
 use Rattle.summaries.specs.declared.ClaimHere.the-variants.{Item}
 use Rattle.summaries.specs.declared.StringHere.{StringHere}
 use Rattle.summaries.specs.declared.StringHere.the-variants.{One, Any}
-use Rattle.summaries.specs.Listed.{Listed, meaningOf, ClaimMoves, StringMoves, Moves}
+use Rattle.summaries.specs.contracts.Listed.{Listed, meaningOf, ClaimMoves, StringMoves, Moves}
 use Rattle.summaries.proofs.Steps.{First}
 
 module _ (x : Context) (s : List ℕ) where

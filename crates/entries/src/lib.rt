@@ -4,15 +4,15 @@ ghost use mathlib.Core.List.{List};
 ghost use mathlib.Core.Bool.{true};
 ghost use Prim.Native.Nat.{ℕ, _<_};
 ghost use Rattle.sets.specs.Sets.{member};
-ghost use Rattle.strings.specs.Strings.{holdsValue};
+ghost use Rattle.strings.specs.contracts.Promises.{holdsValue};
 ghost use Rattle.pages.specs.Items.{Items};
-ghost use Rattle.pages.specs.Gaps.{GapsAre};
+ghost use Rattle.pages.specs.contracts.Gaps.{GapsAre};
 ghost use Rattle.summaries.specs.Proposal.{root, gapFrom, attributeGapFrom, Holding, claim};
 ghost use Rattle.summaries.specs.Summaries.{Summary, Strings, Within, fragment, plugSummary, plugStringSummary, saysClaim, saysString, held};
-ghost use Rattle.summaries.specs.Listed.{Listed, meaningOf};
-ghost use Rattle.graphs.specs.Graphs.{holds, Keeps, nothing};
-ghost use Rattle.entries.specs.Passing.{passed, Decides};
-ghost use Rattle.entries.specs.Entries.{Loads, Unloads, ItemHolds, WithRoot, originOf};
+ghost use Rattle.summaries.specs.contracts.Listed.{Listed, meaningOf};
+ghost use Rattle.graphs.specs.contracts.Graphs.{holds, Keeps, nothing};
+ghost use Rattle.entries.specs.contracts.Passing.{passed, Decides};
+ghost use Rattle.entries.specs.contracts.Entries.{Loads, Unloads, ItemHolds, WithRoot, originOf};
 use commands::Context;
 use commands::Position;
 use graphs::Graph;
@@ -63,6 +63,13 @@ fn unload(s: &[u8], here: Position, graph: &mut Graph)
     }
 }
 
+// Whether a template is one of those to which a gap has edges.
+fn edge_holds(edges: u64, m: u8) -> bool
+    ensures { λ r. ⌜ r ≡ member edges m ⌝ }
+{
+    sets::is_member(edges, m)
+}
+
 // Whether a string is one of the values.
 fn string_holds(values: Values, t: u8) -> bool
     ensures { λ r. ⌜ r ≡ holdsValue values t ⌝ }
@@ -106,7 +113,7 @@ fn item_holds(graph: &Graph, item: Claim, how: Passing) -> bool
 {
     match item {
         Claim::Root(n) => root_holds(graph, n, how),
-        Claim::Edge(n, g, m) => sets::is_member(graphs::edges(graph, n, g), m),
+        Claim::Edge(n, g, m) => edge_holds(graphs::edges(graph, n, g), m),
         Claim::String(n, h, t) => string_holds(graphs::strings_at(graph, n, h), t),
         Claim::AnyString(n, h) => {
             let any = strings::any_value();
@@ -275,7 +282,7 @@ fn plug_holds(s: &[u8], first: Position, gap: u8, second: Position, graph: &Grap
     items_hold(s, second, graph, without_roots)
 }
 
-// The same within the entry whose items stand there.
+// Whether the plug of the second entry into a gap of the first lies within the entry whose items stand there.
 pub fn plug_within(
     s: &[u8],
     first: Position,
@@ -294,7 +301,7 @@ pub fn plug_within(
     holds
 }
 
-// The same for the plug of strings into an attribute gap of an entry.
+// Whether an entry with strings plugged into an attribute gap lies within the entry whose items stand there.
 pub fn fill_within(
     s: &[u8],
     from: Position,

@@ -12,13 +12,13 @@ use borrow.Author.Tests.{eqb-true, eqb-false}
 use Rattle.sets.specs.Sets.{member}
 use Rattle.summaries.specs.Proposal.{Claim, root, edge, string, gapFrom, attributeGapFrom, Holding, claim, anyAt}
 use Rattle.summaries.specs.Summaries.{Summary, saysClaim}
-use Rattle.summaries.specs.Listed.{HoldingFits, meaningOf}
+use Rattle.summaries.specs.contracts.Listed.{HoldingFits, meaningOf}
 use Rattle.summaries.specs.declared.Claim as Declared
 use Rattle.summaries.specs.declared.Claim.the-variants.{Root, Edge, String, AnyString, GapFrom, AttributeGapFrom}
 use Rattle.summaries.proofs.Laws.{zeros}
 use Rattle.graphs.specs.declared.Slot.{Slot}
-use Rattle.graphs.specs.Graphs.{holdingWord, holdingBit, holds, InWords, Keeps, nothing, adding}
-use Rattle.graphs.specs.Promises.{SlotOf}
+use Rattle.graphs.specs.contracts.Graphs.{holdingWord, holdingBit, holds, InWords, Keeps, nothing, adding}
+use Rattle.graphs.specs.contracts.Promises.{SlotOf}
 use Rattle.graphs.proofs.Slots.{holds-claim, holds-any, holds-none}
 
 pub none-keeps : (graph : List ℕ) → graph ≡ replicate 544 0 → Keeps graph nothing

@@ -6,14 +6,15 @@ use mathlib.Core.Bool.{Bool, true, false, _&&_, _||_, or-false, and-false}
 use native.Mathlib.Omega.{arith}
 use lib.Dec.{eqb, ltb}
 use borrow.Author.Tests.{eq-eqb, eqb-true, eqb-false, lt-ltb, le-ltb, ltb-true, ltb-false}
-use Rattle.sets.specs.Sets.{member, FirstMember}
+use Rattle.sets.specs.Sets.{member}
+use Rattle.sets.specs.contracts.Promises.{FirstMember}
 use Rattle.summaries.specs.Proposal.{Claim, root, edge, string, gapFrom, attributeGapFrom, claim}
 use Rattle.summaries.specs.Summaries.{Summary, sameCode, saysClaim}
 use Rattle.summaries.specs.Languages.{closedSummary}
-use Rattle.summaries.specs.Listed.{HoldingFits, meaningOf}
+use Rattle.summaries.specs.contracts.Listed.{HoldingFits, meaningOf}
 use Rattle.summaries.specs.declared.Claim as Declared
-use Rattle.graphs.specs.Graphs.{holds, InWords, Keeps, adding}
-use Rattle.graphs.specs.Promises.{closing, closedAt}
+use Rattle.graphs.specs.contracts.Graphs.{holds, InWords, Keeps, adding}
+use Rattle.graphs.specs.contracts.Promises.{closing, closedAt}
 use Rattle.graphs.proofs.Tests.{alike, and-both, and-left, and-right}
 use Rattle.graphs.proofs.Claims.{says-itself, says-alone}
 

@@ -13,12 +13,12 @@ use Rattle.sets.specs.Sets.{member}
 use Rattle.sets.proofs.Laws.{member-zero}
 use Rattle.summaries.specs.Proposal.{Claim, root, edge, string, gapFrom, attributeGapFrom, claim, anyAt}
 use Rattle.summaries.specs.Summaries.{Summary, saysClaim}
-use Rattle.summaries.specs.Listed.{HoldingFits, meaningOf}
+use Rattle.summaries.specs.contracts.Listed.{HoldingFits, meaningOf}
 use Rattle.summaries.specs.declared.Claim as Declared
 use Rattle.summaries.specs.declared.Claim.the-variants.{Root, Edge, String, AnyString, GapFrom, AttributeGapFrom}
 use Rattle.graphs.specs.declared.Slot.{Slot}
-use Rattle.graphs.specs.Graphs.{claimWord, isKept, holds, Keeps, Forgotten}
-use Rattle.graphs.specs.Promises.{SlotOf, OtherWord}
+use Rattle.graphs.specs.contracts.Graphs.{claimWord, isKept, holds, Keeps, Forgotten}
+use Rattle.graphs.specs.contracts.Promises.{SlotOf, OtherWord}
 use Rattle.graphs.proofs.Tests.{or-left, or-right, or-cases, and-both, and-left, and-right, alike, refuted}
 use Rattle.graphs.proofs.Claims.{says-alone}
 

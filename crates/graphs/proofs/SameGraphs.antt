@@ -10,7 +10,7 @@ use borrow.Author.Tests.{eqb-true, eqb-false}
 use Rattle.sets.specs.Sets.{member}
 use Rattle.summaries.specs.Proposal.{Claim, root, edge, string, gapFrom, attributeGapFrom}
 use Rattle.summaries.specs.Summaries.{Summary}
-use Rattle.graphs.specs.Graphs.{Keeps, SameGraph}
+use Rattle.graphs.specs.contracts.Graphs.{Keeps, SameGraph}
 
 module _ (a b : List ℕ) where
   -- The words below a place are the same.

@@ -3,13 +3,13 @@ ghost use mathlib.Core.Path.{_≡_};
 ghost use mathlib.Core.Bool.{true};
 ghost use Prim.Native.Nat.{ℕ, _+_, _*_, _<_};
 ghost use Rattle.sets.specs.Sets.{member};
-ghost use Rattle.strings.specs.Strings.{holdsValue};
+ghost use Rattle.strings.specs.contracts.Promises.{holdsValue};
 ghost use Rattle.summaries.specs.Proposal.{claim, root, edge, string, gapFrom, attributeGapFrom};
 ghost use Rattle.summaries.specs.Summaries.{Summary};
 ghost use Rattle.summaries.specs.Languages.{closedSummary};
-ghost use Rattle.summaries.specs.Listed.{HoldingFits, meaningOf};
-ghost use Rattle.graphs.specs.Graphs.{holds, Keeps, SameGraph, Forgotten, nothing, adding};
-ghost use Rattle.graphs.specs.Promises.{SlotOf, OtherWord, closing, closedAt};
+ghost use Rattle.summaries.specs.contracts.Listed.{HoldingFits, meaningOf};
+ghost use Rattle.graphs.specs.contracts.Graphs.{holds, Keeps, SameGraph, Forgotten, nothing, adding};
+ghost use Rattle.graphs.specs.contracts.Promises.{SlotOf, OtherWord, closing, closedAt};
 use strings::Values;
 use summaries::Claim;
 

@@ -12,25 +12,25 @@ use Rattle.commands.specs.declared.Position.{Position}
 use Rattle.commands.specs.declared.Part.{Part}
 use Rattle.commands.specs.declared.Part.the-variants.{Whole, Refused}
 use Rattle.commands.specs.Reading.{Read, whole, refused, andThen, enough}
-use Rattle.commands.specs.Parts.{AgreesAs}
+use Rattle.commands.specs.contracts.Parts.{AgreesAs}
 use Rattle.vocabularies.specs.declared.VocabularyRead.{VocabularyRead}
 use Rattle.vocabularies.specs.Vocabulary.{Vocabulary, declared}
 use Rattle.vocabularies.specs.VocabularyReading.{vocabulary, mostBytes}
-use Rattle.vocabularies.specs.Promises.{Describes, VocabularyReads}
+use Rattle.vocabularies.specs.contracts.Promises.{Describes, VocabularyReads}
 use Rattle.pages.specs.declared.TemplatesRead.{TemplatesRead}
 use Rattle.pages.specs.Items.{Items}
 use Rattle.pages.specs.ItemReading.{templates}
-use Rattle.pages.specs.Promises.{Located, TemplatesFrom}
+use Rattle.pages.specs.contracts.Promises.{Located, TemplatesFrom}
 use Rattle.programs.specs.declared.ProgramRead.{ProgramRead}
 use Rattle.programs.specs.Program.{Statement}
 use Rattle.programs.specs.ProgramReading.{program}
-use Rattle.programs.specs.Promises.{Tabled, ProgramReads}
+use Rattle.programs.specs.contracts.Promises.{Tabled, ProgramReads}
 use Rattle.programs.proofs.Laws.{WholeAs, agrees-whole, agrees-refuses, whole-agrees, refused-agrees, whole-then, enough-enough}
 use Rattle.summaries.specs.ProposalReading.{proposal}
-use Rattle.summaries.specs.Promises.{Kept, ProposalReads}
+use Rattle.summaries.specs.contracts.Promises.{Kept, ProposalReads}
 use Rattle.jobs.specs.declared.JobRead.{JobRead}
 use Rattle.jobs.specs.Job.{Script, Job, script, job}
-use Rattle.jobs.specs.Promises.{JobKept, JobReads}
+use Rattle.jobs.specs.contracts.Promises.{JobKept, JobReads}
 
 -- What is read after each part.
 module _ (s : List ℕ) where

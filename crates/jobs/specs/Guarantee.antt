@@ -3,9 +3,8 @@
 use Prim.Native.Nat.{ℕ}
 use mathlib.Core.Path.{_≡_}
 use mathlib.Core.List.{List}
-use mathlib.Core.Bool.{true}
-use Rattle.verdicts.specs.declared.Verdict.{Verdict}
-use Rattle.verdicts.specs.Acceptance.{accepts}
+use Rattle.verdicts.specs.declared.Numbers.{Numbers}
+use Rattle.verdicts.specs.Printed.{prints}
 use Rattle.commands.specs.Reading.{whole}
 use Rattle.pages.specs.Items.{Items}
 use Rattle.pages.specs.RightPages.{Right, _∈_}
@@ -17,7 +16,7 @@ abbrev pub ShowsOnlyRightPages : Script → List Choice → Type 0
 ShowsOnlyRightPages π choices =
     (page : Items) → page ∈ shown (π .templates) (π .program) choices → Right (π .vocabulary) page
 
--- What an answer to a job's bytes claims: if it is acceptance, the job reads, and every run of its script shows only right pages.
-abbrev pub Guarantee : List ℕ → Verdict → Type 0
-Guarantee s answer =
-    accepts answer ≡ true → (j : Job) × (end : ℕ) × (job s ≡ whole j end) × ((choices : List Choice) → ShowsOnlyRightPages (j .script) choices)
+-- What a verdict of a job's bytes claims: if it is acceptance, 0 0 0 0, the job reads, and every run of its script shows only right pages.
+abbrev pub Guarantee : List ℕ → Numbers → Type 0
+Guarantee s verdict =
+    verdict ≡ prints 0 0 0 0 → (j : Job) × (end : ℕ) × (job s ≡ whole j end) × ((choices : List Choice) → ShowsOnlyRightPages (j .script) choices)

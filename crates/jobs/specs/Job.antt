@@ -1,4 +1,4 @@
--- Jobs as trees, and reading one whole (document 01, "A job, command by command").
+-- Jobs as trees, and reading one whole (document 01, "A job, command by command"; "Verdicts", Check a job).
 use Prim.Native.Nat.{ℕ}
 use mathlib.Core.List.{List}
 use lib.ListN.{length}

@@ -7,11 +7,8 @@ use mathlib.Core.List.{List}
 use mathlib.Core.Bool.{Bool, true, false, cond}
 use mathlib.Core.Option.{some}
 use Rattle.verdicts.specs.declared.Form.{Form}
-use Rattle.verdicts.specs.declared.Cover.the-variants.{Start, Step}
-use Rattle.verdicts.specs.declared.Fault.the-variants.{NotRoot, WrongElement}
-use Rattle.verdicts.specs.declared.Refusal.the-variants as Refusals
-use Rattle.verdicts.specs.declared.Verdict.{Verdict}
-use Rattle.verdicts.specs.declared.Verdict.the-variants.{Accepted, Refused}
+use Rattle.verdicts.specs.declared.Numbers.{Numbers}
+use Rattle.verdicts.specs.Printed.{prints, formNumber}
 use Rattle.commands.specs.Reading.{whole, refused}
 use Rattle.pages.specs.Items.{Items}
 use Rattle.pages.specs.RightPages.{Right, RootAlone, SomeElement, WrongAt}
@@ -72,23 +69,23 @@ abbrev pub nextOf : Statement → Bool → ℕ
 nextOf (step a q q′) second = cond second q′ q
 nextOf stop second = 0
 
--- The verdict of a script with the entries of all its points: 9, 10, 11 or 12, or acceptance.
-pub data ScriptVerdict (π : Script) (E : ℕ → Environment) : Verdict → Type 0 where
+-- The verdict of a script with the entries of all its points, as its four numbers: 9, 10, 11 or 12, or acceptance.
+pub data ScriptVerdict (π : Script) (E : ℕ → Environment) : Numbers → Type 0 where
   start-uncovered : {v : ℕ} → v < 8 → (StartHolds π E v → ⊥) → ((v′ : ℕ) → v′ < v → StartHolds π E v′)
-      → ScriptVerdict π E (Refused (Refusals.Cover (Start v)))
+      → ScriptVerdict π E (prints 9 0 0 v)
   step-uncovered : {p v : ℕ} (second : Bool) → ((v′ : ℕ) → v′ < 8 → StartHolds π E v′)
       → v < 8 → (StepHolds π E p second v → ⊥) → StepsBefore π E p second v
-      → ScriptVerdict π E (Refused (Refusals.Cover (Step p (nextOf (statementAt (π .program) p) second) v)))
+      → ScriptVerdict π E (prints 10 p (nextOf (statementAt (π .program) p) second) v)
   not-root : {p t : ℕ} → AllCovered π E → ((p′ : ℕ) → p′ < p → ShowHolds π E p′)
       → NotRootAt π E p t → ((t′ : ℕ) → NotRootAt π E p t′ → t ≤ t′)
-      → ScriptVerdict π E (Refused (Refusals.Page (NotRoot p t)))
+      → ScriptVerdict π E (prints 11 p t 0)
   wrong-element : {p t at : ℕ} → AllCovered π E → ((p′ : ℕ) → p′ < p → ShowHolds π E p′)
       → ((t′ : ℕ) → NotRootAt π E p t′ → ⊥)
       → WrongIn π E p t at → ((t′ at′ : ℕ) → WrongIn π E p t′ at′ → at ≤ at′)
-      → ScriptVerdict π E (Refused (Refusals.Page (WrongElement p t at)))
-  accepted : AllCovered π E → ((p : ℕ) → ShowHolds π E p) → ScriptVerdict π E Accepted
+      → ScriptVerdict π E (prints 12 p t at)
+  accepted : AllCovered π E → ((p : ℕ) → ShowHolds π E p) → ScriptVerdict π E (prints 0 0 0 0)
 
--- The verdict of a job: where it cannot be read; otherwise that of its script with the entries that its proposal gives.
-pub data JobVerdict (s : List ℕ) : Verdict → Type 0 where
-  unreadable : {f : Form} {at : ℕ} → job s ≡ refused f at → JobVerdict s (Refused (Refusals.Form f (record { at = at; slice = 0 })))
-  readable : {j : Job} {end : ℕ} {a : Verdict} → job s ≡ whole j end → ScriptVerdict (j .script) (entries (j .proposal)) a → JobVerdict s a
+-- The verdict of a job: 1 to 8 where it cannot be read; otherwise that of its script with the entries that its proposal gives.
+pub data JobVerdict (s : List ℕ) : Numbers → Type 0 where
+  unreadable : {f : Form} {at : ℕ} → job s ≡ refused f at → JobVerdict s (prints (formNumber f) at 0 0)
+  readable : {j : Job} {end : ℕ} {v : Numbers} → job s ≡ whole j end → ScriptVerdict (j .script) (entries (j .proposal)) v → JobVerdict s v

@@ -1,4 +1,4 @@
 pub mod Job
 pub mod JobVerdict
 pub mod Guarantee
-pub mod Promises
+pub mod contracts

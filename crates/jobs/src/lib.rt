@@ -1,7 +1,7 @@
 // Jobs: a vocabulary, templates, a program and a proposal, read from one string of bytes.
 ghost use mathlib.Core.Path.{_≡_};
 ghost use lib.ListN.{replicate};
-ghost use Rattle.jobs.specs.Promises.{JobReads};
+ghost use Rattle.jobs.specs.contracts.Promises.{JobReads};
 use commands::Part;
 use pages::MOST_BYTES;
 use pages::TemplatesRead;

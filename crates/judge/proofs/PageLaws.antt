@@ -12,34 +12,38 @@ use Rattle.verdicts.specs.declared.Form.the-variants.{TooLong, NotAllowed}
 use Rattle.verdicts.specs.declared.Refusal.the-variants as Refusals
 use Rattle.verdicts.specs.declared.Verdict.{Verdict}
 use Rattle.verdicts.specs.declared.Verdict.the-variants.{Accepted, Refused}
+use Rattle.verdicts.specs.Printed.{numbersOf}
+use Rattle.verdicts.specs.TheVerdict.{TheVerdict}
 use Rattle.sets.specs.Sets.{member}
 use Rattle.commands.specs.declared.Position.{Position}
 use Rattle.commands.specs.declared.Part.{Part}
 use Rattle.commands.specs.declared.Part.the-variants as Parts
 use Rattle.commands.specs.Commands.{byte}
 use Rattle.commands.specs.Reading.{whole, enough}
-use Rattle.commands.specs.Parts.{Agrees}
+use Rattle.commands.specs.contracts.Parts.{Agrees}
 use Rattle.vocabularies.specs.declared.Tables.{Tables}
 use Rattle.vocabularies.specs.declared.VocabularyRead.{VocabularyRead}
 use Rattle.vocabularies.specs.Vocabulary.{Vocabulary, declared}
 use Rattle.vocabularies.specs.VocabularyReading.{vocabulary, vocabularySlice}
-use Rattle.vocabularies.specs.Promises.{Describes, VocabularyReads}
+use Rattle.vocabularies.specs.contracts.Promises.{Describes, VocabularyReads}
 use Rattle.vocabularies.proofs.Laws.{agrees-whole, agrees-refused}
 use Rattle.pages.specs.declared.Kind.the-variants.{Page}
 use Rattle.pages.specs.declared.ItemHere.{ItemHere}
 use Rattle.pages.specs.declared.ItemHere.the-variants.{Text, Gap, Element, End}
 use Rattle.pages.specs.Items.{Items, none, more}
 use Rattle.pages.specs.ItemReading.{items, pageSlice}
-use Rattle.pages.specs.Steps.{itemHere}
+use Rattle.pages.specs.contracts.Steps.{itemHere}
 use Rattle.pages.proofs.Whole.{never-unfinished, items-whole}
 use Rattle.pages.proofs.Steps.{ElementFirst, text-first, gap-first, element-first, end-first}
 use Rattle.judging.specs.declared.Judged.{Judged}
-use Rattle.judging.specs.Judgement.{firstWrong, isNone, isAlone, wrongVerdict, judged, pageVerdict}
-use Rattle.judging.specs.Promises.{markOf, JudgesItem}
+use Rattle.pages.specs.PageVerdict.{PageVerdict}
+use Rattle.judging.specs.contracts.Judgement.{firstWrong, isNone, isAlone, wrongVerdict, judged, pageVerdict}
+use Rattle.agreement.proofs.Verdicts.{the-page-verdict}
+use Rattle.judging.specs.contracts.Promises.{markOf, JudgesItem}
 use Rattle.judging.proofs.Booleans.{by-test}
 use Rattle.judging.proofs.AttributeLaws.{no-template}
 use Rattle.judging.proofs.ItemLaws.{or-none}
-use Rattle.judge.specs.Answers.{notRoot, firstRefusal, JudgesRead, JudgesPage}
+use Rattle.judge.specs.contracts.Answers.{notRoot, firstRefusal, JudgesRead, JudgesPage}
 
 is-none : (φ : Items) → isNone φ ≡ true → φ ≡ none
 is-none none e = refl
@@ -178,3 +182,7 @@ module _ (v p : List ℕ) (r : Verdict) where
       vocabulary-read ended R =
           let q = agrees-whole (λ D n. Describes v D (read .tables)) (vocabulary v) end (rw e at A) in
           R (q .0) (q .2) ∙ whole-read (q .0) (q .1) ended
+
+-- The judgement that was computed is the page's one verdict.
+pub the-verdict : (v p : List ℕ) (r : Verdict) → r ≡ pageVerdict v p → TheVerdict (PageVerdict v p) (numbersOf r)
+the-verdict v p r e = rw e (the-page-verdict v p)

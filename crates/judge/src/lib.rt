@@ -1,13 +1,14 @@
 // The judge of one page under a vocabulary (document 01, "Verdicts", Judge a page).
 ghost use mathlib.Core.Path.{_≡_};
 ghost use mathlib.Core.Bool.{cond};
-ghost use Prim.Native.Nat.{_^_, _≤_};
-ghost use lib.ListN.{length};
 ghost use lib.Dec.{eqb};
+ghost use Rattle.verdicts.specs.Printed.{numbersOf};
+ghost use Rattle.verdicts.specs.TheVerdict.{TheVerdict};
 ghost use Rattle.commands.specs.Commands.{byte};
-ghost use Rattle.judging.specs.Judgement.{pageVerdict, wrongVerdict};
-ghost use Rattle.judging.specs.Promises.{markOf};
-ghost use Rattle.judge.specs.Answers.{notRoot, firstRefusal, JudgesRead, JudgesPage};
+ghost use Rattle.pages.specs.PageVerdict.{PageVerdict};
+ghost use Rattle.judging.specs.contracts.Judgement.{wrongVerdict};
+ghost use Rattle.judging.specs.contracts.Promises.{markOf};
+ghost use Rattle.judge.specs.contracts.Answers.{notRoot, firstRefusal, JudgesRead, JudgesPage};
 use commands::Part;
 use commands::Past;
 use commands::Position;
@@ -74,7 +75,6 @@ fn first_refusal(first: Verdict, second: Verdict) -> Verdict
 
 // 11, unless the page is exactly one element, the root; then 12.
 fn judge_read(vocabulary: &[u8], tables: Tables, page: &[u8]) -> Verdict
-    requires { ⌜ length (now page) ≤ 2 ^ 16 ⌝ }
     ensures { λ r. ⌜ JudgesRead (now (vocabulary .entry)) (now (page .entry)) tables r ⌝ }
 {
     let start = Position::new(0);
@@ -123,9 +123,9 @@ fn judge_page(vocabulary: &[u8], tables: Tables, page: &[u8]) -> Verdict
     }
 }
 
-// The verdict of a page under a vocabulary. Neither slice is written to.
+// The verdict of a page under a vocabulary. Both slices are lent as `&`: `untouched` holds by their type.
 pub fn judge(vocabulary: &[u8], page: &[u8]) -> Verdict
-    ensures verdict { λ r. ⌜ r ≡ pageVerdict (now (vocabulary .entry)) (now (page .entry)) ⌝ }
+    ensures verdict { λ r. ⌜ TheVerdict (PageVerdict (now (vocabulary .entry)) (now (page .entry))) (numbersOf r) ⌝ }
     ensures untouched { λ _. ⌜ (now (vocabulary .exit) ≡ now (vocabulary .entry)) × (now (page .exit) ≡ now (page .entry)) ⌝ }
 {
     if MOST_BYTES < vocabulary.len() {

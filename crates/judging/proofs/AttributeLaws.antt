@@ -20,11 +20,11 @@ use Rattle.pages.specs.declared.AttributeHere.the-variants.{Fixed, Open, Done}
 use Rattle.pages.specs.Items.{string, Attribute}
 use Rattle.pages.specs.ItemReading.{attributes}
 use Rattle.pages.specs.RightPages.{names}
-use Rattle.pages.specs.Steps.{attributeHere}
+use Rattle.pages.specs.contracts.Steps.{attributeHere}
 use Rattle.pages.proofs.Steps.{fixed-first, open-first, none-first}
 use Rattle.judging.specs.declared.Named.{Named}
-use Rattle.judging.specs.Judgement.{holdsValue}
-use Rattle.judging.specs.Promises.{Names}
+use Rattle.judging.specs.contracts.Judgement.{holdsValue}
+use Rattle.judging.specs.contracts.Promises.{Names}
 use Rattle.judging.proofs.Booleans.{by-test, or-right}
 
 -- What the attributes δ add to the names and the strings before them. None of the names read before is among theirs.

@@ -12,14 +12,15 @@ use Rattle.verdicts.specs.declared.Form.{Form}
 use Rattle.commands.specs.declared.Position.{Position}
 use Rattle.commands.specs.declared.Decoded.{Decoded}
 use Rattle.commands.specs.declared.Decoded.the-variants.{Moved, Refused}
-use Rattle.commands.specs.Commands.{byte, setAt, operandBytes, stepped}
+use Rattle.commands.specs.Commands.{byte, setAt, operandBytes}
+use Rattle.commands.specs.contracts.Parts.{stepped}
 use Rattle.commands.proofs.Laws.{SteppedOver, stepped-over, stepped-refused}
 use Rattle.vocabularies.specs.Vocabulary.{Formula, conj, disj, neg, truth, attr, content, order, value}
 use Rattle.vocabularies.specs.VocabularyReading.{Shape, leaf, shapeAt}
 use Rattle.judging.specs.declared.Held.{Held}
 use Rattle.judging.specs.declared.Shape as Shapes
-use Rattle.judging.specs.Judgement.{Atoms, truthOf}
-use Rattle.judging.specs.Promises.{tableAtoms, Walks, Holds, Shaped, Decided, Decides}
+use Rattle.judging.specs.contracts.Judgement.{Atoms, truthOf}
+use Rattle.judging.specs.contracts.Promises.{tableAtoms, Walks, Holds, Shaped, Decided, Decides}
 use Rattle.judging.proofs.Booleans.{by-test, and-left, and-right}
 use Rattle.judging.proofs.Formulas.{two-walk, one-walk, leaf-walk, past-walk, none-walk}
 

@@ -17,8 +17,8 @@ use Rattle.vocabularies.specs.Vocabulary.{Formula, conj, disj, neg, truth, attr
 use Rattle.vocabularies.specs.VocabularyReading.{Shape, binary, unary, leaf, shapeAt, formula, formulaNesting, clauses, mostFacts}
 use Rattle.vocabularies.specs.Facts.{factsOf}
 use Rattle.judging.specs.declared.Held.{Held}
-use Rattle.judging.specs.Judgement.{Atoms, truthOf, allTrue}
-use Rattle.judging.specs.Promises.{Walks, Holds, AllHold}
+use Rattle.judging.specs.contracts.Judgement.{Atoms, truthOf, allTrue}
+use Rattle.judging.specs.contracts.Promises.{Walks, Holds, AllHold}
 
 -- What follows a formula's first command, by its shape.
 abbrev second : ℕ → List ℕ → ℕ → (Formula → Formula → Formula) → Formula → ℕ → Read Formula

@@ -1,5 +1,5 @@
 -- Items and lists of items: what the judgement of the parts says of the whole.
-use Prim.Native.Nat.{ℕ, _+_, _≤_, _<_}
+use Prim.Native.Nat.{ℕ, _+_, _≤_}
 use mathlib.Core.Path.{_≡_, refl, sym, ap, subst, _∙_}
 use mathlib.Core.Logic.{_⊎_, inl, inr}
 use mathlib.Core.List.{List, [], _∷_, _++_, append-assoc, append-nil}
@@ -18,17 +18,17 @@ use Rattle.pages.specs.declared.ItemHere.the-variants.{Text, Gap, Element, End}
 use Rattle.pages.specs.Items.{Item, text, element, Items, more}
 use Rattle.pages.specs.ItemReading.{item, items}
 use Rattle.pages.specs.RightPages.{word, wordItem}
-use Rattle.pages.specs.Steps.{itemHere}
+use Rattle.pages.specs.contracts.Steps.{itemHere}
 use Rattle.pages.proofs.Steps.{no-attribute, text-first, gap-first, element-first, end-first, text-item, gap-item, element-item, no-item}
+use Rattle.judging.specs.declared.Contents.{Contents}
 use Rattle.judging.specs.declared.FirstWrong.{FirstWrong}
 use Rattle.judging.specs.declared.FirstWrong.the-variants.{Nowhere, At}
 use Rattle.judging.specs.declared.Judged.{Judged}
 use Rattle.judging.specs.declared.Listed.{Listed}
 use Rattle.judging.specs.declared.Named.{Named}
-use Rattle.judging.specs.Judgement.{rightUnder, orElse, firstWrong, firstWrongItem}
-use Rattle.judging.specs.Promises.{markOf, firstMark, elementMark, stepNext, Containing, Remembered, Names, IsRight, ruleAt, Tabled, ItemJudged, JudgesItem, ItemsJudged, JudgesItems, wrongOf}
+use Rattle.judging.specs.contracts.Judgement.{rightUnder, orElse, firstWrong, firstWrongItem}
+use Rattle.judging.specs.contracts.Promises.{markOf, firstMark, elementMark, stepNext, Counted, Containing, Remembered, Names, IsRight, ruleAt, Tabled, ItemJudged, JudgesItem, ItemsJudged, JudgesItems, wrongOf}
 use Rattle.judging.proofs.AttributeLaws.{no-template}
-use Rattle.judging.proofs.WordLaws.{later-content}
 
 pub or-none : (o : Option ℕ) → orElse o none ≡ o
 or-none none = refl
@@ -89,7 +89,7 @@ module _ (D : Vocabulary) (p : List ℕ) where
           let n = N (P .fuel) (P .inside) (P .named) (P .reads-attributes) done in
           let l = L (P .fuel) (depth + 1) end (P .contents) (subst (λ (m : ℕ). items (P .fuel) Page ruled p (depth + 1) m ≡ whole (P .contents) end) (sym (n .0)) (P .reads-contents)) in
           let rule = found-rule (ruleOf (D .rules) e) (P .has-rule) in
-          let r : right ≡ rightUnder (rule .0) (P .named) (word (P .contents)) = R (rule .0) (P .named) (word (P .contents)) end (T e (rule .0) (rule .1)) (n .1) (l .contains) in
+          let r : right ≡ rightUnder (rule .0) (P .named) (word (P .contents)) = R (rule .0) (P .named) (word (P .contents)) (l .count) (T e (rule .0) (rule .1)) (n .1) (l .contains) in
           rw (P .is-it) (record {
             ends = l .ends;
             finds = element-marked right at (list .wrong) ∙ rw (rule .1, ← r, l .finds);
@@ -107,36 +107,37 @@ module _ (D : Vocabulary) (p : List ℕ) where
       finds : firstWrong D φ ≡ orElse wrong (firstWrong D left)
 
     -- Where judging has come, of a list that reads.
-    pub record Judging (order : List (List ℕ)) (at contents : ℕ) (wrong : FirstWrong) : Type 0 where
+    pub record Judging (order : List (List ℕ)) (at : ℕ) (inside : Contents) (wrong : FirstWrong) : Type 0 where
       before : List ℕ
-      contains : Containing before contents order at
+      contains : Containing before (inside .set) order (inside .count)
       left : Left before (markOf wrong) at
 
-    pub all-left : (f at : ℕ) (order : List (List ℕ)) → items f Page ruled p depth at ≡ whole φ end → Containing [] 0 order at → Judging order at 0 Nowhere
+    pub all-left : (f at : ℕ) (order : List (List ℕ)) → items f Page ruled p depth at ≡ whole φ end → Containing [] 0 order 0 → Judging order at (record { set = 0; count = 0 }) Nowhere
     all-left f at order e C = record { before = []; contains = C; left = record { fuel = f; left = φ; reads = e; is = refl; finds = refl } }
 
-    module _ (order : List (List ℕ)) (at contents : ℕ) (wrong : FirstWrong) (J : Judging order at contents wrong) (h : ItemHere) (is : h ≡ itemHere p at) where
-      pub list-ends : (next : Position) → h ≡ End next → at ≤ next .at → ItemsJudged D φ end (record { contents = contents; next = next; wrong = wrong }) order
+    module _ (order : List (List ℕ)) (at : ℕ) (inside : Contents) (wrong : FirstWrong) (J : Judging order at inside wrong) (h : ItemHere) (is : h ≡ itemHere p at) where
+      pub list-ends : (next : Position) → h ≡ End next → ItemsJudged D φ end (record { contents = inside .set; next = next; wrong = wrong }) order
       unfolding word firstWrong
-      list-ends next e on =
+      list-ends next e =
           let L = J .left in
           let E = end-first (L .fuel) Page ruled p depth at (L .left) end (L .reads) h is next e in
           let w : word φ ≡ J .before = L .is ∙ rw (E .no-more) (append-nil (J .before)) in
           record {
-            contains = rw w (later-content (J .contains) end (omega (arith, E .after)));
+            count = inside .count;
+            contains = rw w (J .contains);
             ends = E .after;
             finds = sym (L .finds ∙ rw (E .no-more) (or-none (markOf wrong)));
           }
 
       -- One content more.
-      module _ (c r : ℕ) (last : List (List ℕ)) (next : ℕ)
-          (one : (w : List ℕ) (end′ : ℕ) → at < end′ → Containing w contents order at → Containing (w ++ (c ∷ [])) r last end′) (on : at < next) where
+      module _ (c : ℕ) (r : Contents) (last : List (List ℕ)) (next : ℕ)
+          (one : (w : List ℕ) → Containing w (inside .set) order (inside .count) → Containing (w ++ (c ∷ [])) (r .set) last (r .count)) where
         item-left : (fuel : ℕ) (i : Item) (rest : Items) → J .left .left ≡ more i rest → ((w : List ℕ) → wordItem i w ≡ c ∷ w)
             → items fuel Page ruled p depth next ≡ whole rest end → (w : FirstWrong) → orElse (markOf wrong) (firstWrongItem D i) ≡ markOf w → Judging last next r w
         unfolding word firstWrong
         item-left fuel i rest is-more is-c reads w found = record {
           before = J .before ++ (c ∷ []);
-          contains = one (J .before) next on (J .contains);
+          contains = one (J .before) (J .contains);
           left = record {
             fuel = fuel;
             left = rest;
@@ -148,35 +149,35 @@ module _ (D : Vocabulary) (p : List ℕ) where
           };
         }
 
-      pub text-more : (next : Position) → h ≡ Text next → at < next .at → (r : ℕ) (last : List (List ℕ))
-          → ((w : List ℕ) (end′ : ℕ) → at < end′ → Containing w contents order at → Containing (w ++ (0 ∷ [])) r last end′) → Judging last (next .at) r wrong
+      pub text-more : (next : Position) → h ≡ Text next → (r : Contents) (last : List (List ℕ))
+          → ((w : List ℕ) → Containing w (inside .set) order (inside .count) → Containing (w ++ (0 ∷ [])) (r .set) last (r .count)) → Judging last (next .at) r wrong
       unfolding wordItem firstWrongItem
-      text-more next e on r last one =
+      text-more next e r last one =
           let L = J .left in
           let F = text-first (L .fuel) Page ruled p depth at (L .left) end (L .reads) h is next e in
-          item-left 0 r last (next .at) one on (F .fuel) text (F .rest) (F .is-more) (λ w. refl) (F .reads-rest) wrong (or-none (markOf wrong))
+          item-left 0 r last (next .at) one (F .fuel) text (F .rest) (F .is-more) (λ w. refl) (F .reads-rest) wrong (or-none (markOf wrong))
 
       pub gap-more : {A : Type 0} (g : ℕ) (next : Position) → h ≡ Gap g next → A
       gap-more g next e =
           let L = J .left in
           no-template (gap-first (L .fuel) Page ruled p depth at (L .left) end (L .reads) h is g next e .in-template)
 
-      pub element-more : (x : ℕ) (start : Position) → h ≡ Element x start → (i : Judged) → JudgesItem D p at i → at < i .next .at
-          → (r : ℕ) (last : List (List ℕ))
-          → ((w : List ℕ) (end′ : ℕ) → at < end′ → Containing w contents order at → Containing (w ++ (x ∷ [])) r last end′)
+      pub element-more : (x : ℕ) (start : Position) → h ≡ Element x start → (i : Judged) → JudgesItem D p at i → (r : Contents) (last : List (List ℕ))
+          → ((w : List ℕ) → Containing w (inside .set) order (inside .count) → Containing (w ++ (x ∷ [])) (r .set) last (r .count))
           → Judging last (i .next .at) r (firstMark wrong (i .wrong))
       unfolding wordItem
-      element-more x start e i judges on r last one =
+      element-more x start e i judges r last one =
           let L = J .left in
           let F = element-first (L .fuel) Page ruled p depth at (L .left) end (L .reads) h is x start e in
           let j = judges (F .fuel) depth (F .middle) _ (F .reads-first) in
-          item-left x r last (i .next .at) one on (F .fuel) _ (F .rest) (F .is-more) (λ w. refl) (rw (j .ends) (F .reads-rest)) (firstMark wrong (i .wrong))
+          item-left x r last (i .next .at) one (F .fuel) _ (F .rest) (F .is-more) (λ w. refl) (rw (j .ends) (F .reads-rest)) (firstMark wrong (i .wrong))
           (rw (← j .finds) (sym (first-marked wrong (i .wrong))))
 
 -- The state of the walk over a list.
-pub record Going (v attributes contents clauses p : List ℕ) (at₀ : ℕ) (order shapes : List (List ℕ)) (at inside : ℕ) (wrong : FirstWrong) : Type 0 where
+pub record Going (v attributes contents clauses p : List ℕ) (at₀ : ℕ) (order shapes : List (List ℕ)) (at : ℕ) (inside : Contents) (wrong : FirstWrong) : Type 0 where
   pub forward : at₀ ≤ at
   pub room : length order ≡ 64
+  pub counted : Counted inside
   pub remembered : Remembered v shapes
   pub judging : (D : Vocabulary) → Tabled v D attributes contents clauses → (f depth : ℕ) (φ : Items) (end : ℕ) → items f Page (declared (D .rules)) p depth at₀ ≡ whole φ end
       → Judging D p depth φ end order at inside wrong

@@ -7,16 +7,17 @@ use native.Mathlib.Omega.{arith}
 use lib.ListN.{length, getD}
 use lib.Dec.{eqb, ltb}
 use borrow.Author.Tests.{eq-eqb, eqb-true}
-use Rattle.sets.specs.Sets.{member, MembersWithin}
+use Rattle.sets.specs.Sets.{member}
+use Rattle.sets.specs.contracts.Promises.{MembersWithin}
 use Rattle.vocabularies.specs.Vocabulary.{Formula, conj, disj, neg, truth, attr, content, order, value, isIn}
 use Rattle.vocabularies.specs.Vocabulary as Vocabularies
-use Rattle.vocabularies.specs.Promises.{RuleTables}
+use Rattle.vocabularies.specs.contracts.Promises.{RuleTables}
 use Rattle.pages.specs.Items.{Attribute}
 use Rattle.pages.specs.RightPages.{names}
 use Rattle.judging.specs.declared.Shape.{Shape}
 use Rattle.judging.specs.declared.Rule.{Rule}
-use Rattle.judging.specs.Judgement.{Atoms, truthOf, allTrue, atomsOf, allIn, rightUnder, precedes, holdsValue}
-use Rattle.judging.specs.Promises.{firstPlace, lastPlace, tableAtoms, AllHold, Naming, Containing, IsRight}
+use Rattle.judging.specs.contracts.Judgement.{Atoms, truthOf, allTrue, atomsOf, allIn, rightUnder, precedes, holdsValue}
+use Rattle.judging.specs.contracts.Promises.{firstPlace, lastPlace, tableAtoms, AllHold, Naming, Containing, IsRight}
 use Rattle.judging.proofs.Booleans.{by-test, and-false-left, and-false-right, or-right}
 use Rattle.judging.proofs.WordLaws.{none-precedes, precedes-none}
 
@@ -69,8 +70,8 @@ module _ (A B : Atoms) (s : Same A B) where
   same-all [] = refl
   same-all (ψ ∷ ψs) = ap₂ _&&_ (same-truth ψ) (same-all ψs)
 
-module _ (δ : List Attribute) (w : List ℕ) (shape : Shape) (strings : List ℕ) (order : List (List ℕ)) (end : ℕ)
-    (N : Naming δ (shape .names) strings) (C : Containing w (shape .contents) order end) where
+module _ (δ : List Attribute) (w : List ℕ) (shape : Shape) (strings : List ℕ) (order : List (List ℕ)) (count : ℕ)
+    (N : Naming δ (shape .names) strings) (C : Containing w (shape .contents) order count) where
   order-same : (c d : ℕ) → (member (shape .contents) c && (member (shape .contents) d && ltb (firstPlace order d) (lastPlace order c))) ≡ precedes w d c
   order-same c d = by-test (isIn c w)
       (λ e. by-test (isIn d w)
@@ -121,13 +122,13 @@ module _ (δ : List Attribute) (w : List ℕ) (shape : Shape) (strings : List �
 -- What the three tests tell, in the code's order.
 module _ (v : List ℕ) (rule : Rule) (shape : Shape) (strings : List ℕ) (order : List (List ℕ)) where
   pub names-fail : (t : Bool) → MembersWithin (shape .names) (rule .attributes) t → t ≡ false → IsRight v rule shape strings order false
-  names-fail t h e R δ w end T N C = names-wrong δ w shape strings order end N C v R _ _ _ T (subst (MembersWithin (shape .names) (rule .attributes)) e h)
+  names-fail t h e R δ w count T N C = names-wrong δ w shape strings order count N C v R _ _ _ T (subst (MembersWithin (shape .names) (rule .attributes)) e h)
 
   module _ (t u : Bool) (h : MembersWithin (shape .names) (rule .attributes) t) (e : t ≡ true) (h′ : MembersWithin (shape .contents) (rule .contents) u) where
     pub contents-fail : u ≡ false → IsRight v rule shape strings order false
-    contents-fail e′ R δ w end T N C =
-        contents-wrong δ w shape strings order end N C v R _ _ _ T (subst (MembersWithin (shape .names) (rule .attributes)) e h) (subst (MembersWithin (shape .contents) (rule .contents)) e′ h′)
+    contents-fail e′ R δ w count T N C =
+        contents-wrong δ w shape strings order count N C v R _ _ _ T (subst (MembersWithin (shape .names) (rule .attributes)) e h) (subst (MembersWithin (shape .contents) (rule .contents)) e′ h′)
 
     pub clauses-decide : u ≡ true → (b : Bool) → AllHold (tableAtoms shape strings order) v (rule .clauses .at) b → IsRight v rule shape strings order b
-    clauses-decide e′ b H R δ w end T N C =
-        clauses-tell δ w shape strings order end N C v R _ _ _ T (subst (MembersWithin (shape .names) (rule .attributes)) e h) (subst (MembersWithin (shape .contents) (rule .contents)) e′ h′) b H
+    clauses-decide e′ b H R δ w count T N C =
+        clauses-tell δ w shape strings order count N C v R _ _ _ T (subst (MembersWithin (shape .names) (rule .attributes)) e h) (subst (MembersWithin (shape .contents) (rule .contents)) e′ h′) b H

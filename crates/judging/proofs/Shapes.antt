@@ -12,8 +12,8 @@ use Rattle.sets.specs.Sets.{member}
 use Rattle.commands.specs.Commands.{byte}
 use Rattle.judging.specs.declared.Held.{Held}
 use Rattle.judging.specs.declared.Shape.{Shape}
-use Rattle.judging.specs.Judgement.{Atoms}
-use Rattle.judging.specs.Promises.{firstPlace, lastPlace, tableAtoms, Holds, Shaped, Decides, AllHold, Settled, SettledRow, Remembered}
+use Rattle.judging.specs.contracts.Judgement.{Atoms}
+use Rattle.judging.specs.contracts.Promises.{firstPlace, lastPlace, tableAtoms, Holds, Shaped, Decides, AllHold, Settled, SettledRow, Remembered}
 use Rattle.judging.proofs.Booleans.{by-test}
 use Rattle.judging.proofs.Formulas.{past-left, none-left, first-fails, first-holds}
 

@@ -1,5 +1,5 @@
 -- Words of contents, one content at a time.
-use Prim.Native.Nat.{ℕ, _^_, _≤_, _<_}
+use Prim.Native.Nat.{ℕ, _+_, _^_, _≤_, _<_}
 use mathlib.Core.Path.{_≡_, refl, sym, _∙_}
 use mathlib.Core.List.{List, [], _∷_, _++_}
 use mathlib.Core.Bool.{Bool, true, false, cond, not, _&&_, _||_, and-false, or-false, or-true, or-comm, false≢true}
@@ -9,10 +9,12 @@ use lib.Seq.{getD-set-same, getD-set-other}
 use lib.Dec.{eqb, leb, ltb}
 use borrow.Author.Tests.{eq-eqb, ne-eqb, eqb-true, eqb-false, ltb-true, ltb-false, lt-ltb, le-ltb, le-leb, lt-leb}
 use Rattle.sets.specs.Sets.{member}
+use Rattle.sets.specs.contracts.Promises.{countBelow}
 use Rattle.sets.proofs.Laws.{member-zero, member-high}
+use Rattle.sets.proofs.Counts.{count-more}
 use Rattle.vocabularies.specs.Vocabulary.{isIn}
-use Rattle.judging.specs.Judgement.{precedes}
-use Rattle.judging.specs.Promises.{firstPlace, lastPlace, Containing}
+use Rattle.judging.specs.contracts.Judgement.{precedes}
+use Rattle.judging.specs.contracts.Promises.{firstPlace, lastPlace, Containing}
 use Rattle.judging.proofs.Booleans.{by-test, or-left, or-right}
 
 -- The members of a word are below its width.
@@ -72,24 +74,33 @@ precedes-more d k c (x ∷ w) =
     rw (is-in-more k c w, precedes-more d k c w, eqb-sym d x)
     (regrouped (eqb x d) (isIn k w) (eqb k c) (precedes w d k) (isIn d w))
 
--- One content more, behind all others: it stands last there, and first too, if it was not inside.
-module _ (w : List ℕ) (contents : ℕ) (order : List (List ℕ)) (at : ℕ) (C : Containing w contents order at) (c : ℕ) (room : c < length order)
+-- One content more, behind all others: it stands last there, and first too, if it was not inside. Then it is counted.
+module _ (w : List ℕ) (contents : ℕ) (order : List (List ℕ)) (count : ℕ) (C : Containing w contents order count) (c : ℕ) (room : c < length order)
     (r : ℕ) (with-content : (k : ℕ) → member r k ≡ (eqb k c || member contents k))
-    (first : ℕ) (is-first : first ≡ cond (isIn c w) (firstPlace order c) at) where
+    (first : ℕ) (is-first : first ≡ cond (isIn c w) (firstPlace order c) count)
+    (count′ : ℕ) (is-count : count′ ≡ cond (isIn c w) count (count + 1)) where
   abbrev more : List (List ℕ)
-  more = set order c (first ∷ at ∷ [])
+  more = set order c (first ∷ count ∷ [])
 
   abbrev longer : List ℕ
   longer = w ++ (c ∷ [])
 
-  row-here : getD more c [] ≡ first ∷ at ∷ []
-  row-here = getD-set-same order c (first ∷ at ∷ []) [] room
+  row-here : getD more c [] ≡ first ∷ count ∷ []
+  row-here = getD-set-same order c (first ∷ count ∷ []) [] room
 
   row-other : (k : ℕ) → (k ≡ c → ⊥) → getD more k [] ≡ getD order k []
-  row-other k n = getD-set-other order c k (first ∷ at ∷ []) [] n
+  row-other k n = getD-set-other order c k (first ∷ count ∷ []) [] n
 
   in-before : (k : ℕ) → isIn k longer ≡ true → eqb k c ≡ false → isIn k w ≡ true
   in-before k is e = or-left (isIn k w) (eqb k c) e (sym (is-in-more k c w) ∙ is)
+
+  count-new : isIn c w ≡ false → count′ ≡ count + 1
+  count-new out = is-count ∙ rw out
+
+  count-grows : count ≤ count′
+  count-grows = by-test (isIn c w)
+      (λ i. let e : count′ ≡ count = is-count ∙ rw i in omega (arith, e))
+      (λ i. omega (arith, count-new i))
 
   -- Where contents of the word stand first.
   first-more : (k : ℕ) → isIn k w ≡ true → firstPlace more k ≡ firstPlace order k
@@ -99,28 +110,28 @@ module _ (w : List ℕ) (contents : ℕ) (order : List (List ℕ)) (at : ℕ) (C
       rw (q, row-here) (is-first ∙ rw (← q, is)))
       (λ e. rw (row-other k (eqb-false k c e)))
 
-  first-new : isIn c w ≡ false → firstPlace more c ≡ at
+  first-new : isIn c w ≡ false → firstPlace more c ≡ count
   first-new out = rw row-here (is-first ∙ rw out)
 
-  last-here : lastPlace more c ≡ at
+  last-here : lastPlace more c ≡ count
   last-here = rw row-here
 
   last-other : (k : ℕ) → eqb k c ≡ false → lastPlace more k ≡ lastPlace order k
   last-other k e = rw (row-other k (eqb-false k c e))
 
-  first-within : (k : ℕ) → isIn k longer ≡ true → firstPlace more k ≤ at
+  first-within : (k : ℕ) → isIn k longer ≡ true → firstPlace more k < count′
   first-within k is = by-test (isIn k w)
-      (λ i. omega (arith, first-more k i, C .before k i .0))
+      (λ i. omega (arith, first-more k i, C .before k i .0, count-grows))
       (λ i.
       let e : eqb k c ≡ true = or-right (isIn k w) (eqb k c) i (sym (is-in-more k c w) ∙ is) in
       let q : k ≡ c = eqb-true k c e in
-      let f : firstPlace more c ≡ at = first-new (rw q at i) in
-      rw q (omega (arith, f)))
+      let out : isIn c w ≡ false = rw q at i in
+      rw q (omega (arith, first-new out, count-new out)))
 
-  last-within : (k : ℕ) → isIn k longer ≡ true → lastPlace more k ≤ at
+  last-within : (k : ℕ) → isIn k longer ≡ true → lastPlace more k ≤ count′
   last-within k is = by-test (eqb k c)
-      (λ e. let q : k ≡ c = eqb-true k c e in rw q (omega (arith, last-here)))
-      (λ e. omega (arith, last-other k e, C .before k (in-before k is e) .1))
+      (λ e. let q : k ≡ c = eqb-true k c e in rw q (omega (arith, last-here, count-grows)))
+      (λ e. omega (arith, last-other k e, C .before k (in-before k is e) .1, count-grows))
 
   ordered-more : (k d : ℕ) → isIn k longer ≡ true → isIn d longer ≡ true → ltb (firstPlace more d) (lastPlace more k) ≡ precedes longer d k
   ordered-more k d is is′ = rw (precedes-more d k c w) (by-test (eqb k c)
@@ -130,36 +141,40 @@ module _ (w : List ℕ) (contents : ℕ) (order : List (List ℕ)) (at : ℕ) (C
       (λ i. rw (i, first-more d i, lt-ltb _ _ (C .before d i .0)) (sym (or-true (precedes w d c))))
       (λ i.
       let z : d ≡ c = eqb-true d c (or-right (isIn d w) (eqb d c) i (sym (is-in-more d c w) ∙ is′)) in
-      rw (i, precedes-none w d c i) (rw (z, first-new (rw z at i)) (le-ltb at at (omega arith))))))
+      rw (i, precedes-none w d c i) (rw (z, first-new (rw z at i)) (le-ltb count count (omega arith))))))
       (λ e.
       let in-word : isIn k w ≡ true = in-before k is e in
       rw (e, last-other k e, or-false (precedes w d k)) (by-test (isIn d w)
       (λ i. rw (first-more d i) (C .ordered k d in-word i))
       (λ i.
       let z : d ≡ c = eqb-true d c (or-right (isIn d w) (eqb d c) i (sym (is-in-more d c w) ∙ is′)) in
-      rw (precedes-none w d k i) (rw (z, first-new (rw z at i)) (le-ltb at (lastPlace order k) (omega (arith, C .before k in-word .1))))))))
+      rw (precedes-none w d k i) (rw (z, first-new (rw z at i)) (le-ltb count (lastPlace order k) (C .before k in-word .1)))))))
 
-  pub one-content : (end : ℕ) → at < end → Containing longer r more end
-  one-content end on = record {
+  pub one-content : Containing longer r more count′
+  one-content = record {
     has = λ k. with-content k ∙ rw (is-in-more k c w, C .has k) (or-comm (eqb k c) (isIn k w));
-    before = λ k is. (omega (arith, first-within k is), omega (arith, last-within k is));
+    before = λ k is. (first-within k is, last-within k is);
     ordered = ordered-more;
   }
 
+-- A content that is inside makes no other set; one that is not is one more to count.
+pub with-held : (set c : ℕ) → member set c ≡ true → (k : ℕ) → member set k ≡ (eqb k c || member set k)
+with-held set c is k = by-test (eqb k c)
+    (λ e. rw (e, eqb-true k c e) is)
+    (λ e. rw e)
+
+pub counted-more : (set r count c : ℕ) → c < 64 → member set c ≡ false → ((k : ℕ) → member r k ≡ (eqb k c || member set k))
+    → count ≤ countBelow 64 (member set) → count + 1 ≤ countBelow 64 (member r)
+counted-more set r count c small out with-content counted =
+    let l : countBelow 64 (member set) < countBelow 64 (member r) = count-more 64 (member set) (member r)
+    (λ k h is. with-content k ∙ rw is (or-true (eqb k c))) c small out (with-content c ∙ rw (eq-eqb c c refl)) in
+    omega arith
+
 -- The tables of no content: any will do.
-pub no-content : (order : List (List ℕ)) (end : ℕ) → Containing [] 0 order end
+pub no-content : (order : List (List ℕ)) → Containing [] 0 order 0
 unfolding isIn
-no-content order end = record {
+no-content order = record {
   has = λ k. member-zero k;
   before = λ c is. absurd (false≢true is);
   ordered = λ c d is. absurd (false≢true is);
-}
-
--- Further on, the tables stay what they are.
-pub later-content : {w : List ℕ} {contents : ℕ} {order : List (List ℕ)} {at : ℕ} → Containing w contents order at → (end : ℕ) → at ≤ end
-    → Containing w contents order end
-later-content C end on = record {
-  has = C .has;
-  before = λ c is. (omega (arith, C .before c is .0), omega (arith, C .before c is .1));
-  ordered = C .ordered;
 }

@@ -1,14 +1,14 @@
 // The elements of a page under the rules of a vocabulary: their attributes, their contents, and the clauses that they meet.
 ghost use mathlib.Core.Path.{_≡_};
-ghost use mathlib.Core.Bool.{cond, not, _&&_, _||_};
+ghost use mathlib.Core.Bool.{not, _&&_, _||_};
 ghost use mathlib.Core.List.{List, [], _∷_, _++_};
-ghost use Prim.Native.Nat.{ℕ, _+_, _%_, _^_, _≤_, _<_};
+ghost use Prim.Native.Nat.{ℕ, _%_, _≤_, _<_};
 ghost use lib.ListN.{length, getD};
 ghost use lib.Dec.{ltb};
 ghost use Rattle.sets.specs.Sets.{member};
 ghost use Rattle.vocabularies.specs.Vocabulary.{Vocabulary};
-ghost use Rattle.pages.specs.Steps.{itemHere};
-ghost use Rattle.judging.specs.Promises.{firstPlace, lastPlace, tableAtoms, markOf, firstMark, elementMark, Holds, Decides, AllHold, Settled, Remembered, Names, Containing, IsRight, Tabled, ruleAt, stepNext, JudgesItem, JudgesItems};
+ghost use Rattle.pages.specs.contracts.Steps.{itemHere};
+ghost use Rattle.judging.specs.contracts.Promises.{firstPlace, lastPlace, tableAtoms, markOf, firstMark, elementMark, Holds, Decides, AllHold, Settled, Remembered, Names, Counted, Containing, IsRight, Tabled, ruleAt, stepNext, JudgesItem, JudgesItems};
 use commands::Decoded;
 use commands::Past;
 use commands::Position;
@@ -66,7 +66,13 @@ pub struct Listed {
     pub wrong: FirstWrong,
 }
 
-// Where a content of an element stands first, and where last: its row in the table of the order.
+// The contents of an element so far: as a set, and how many different ones they are.
+pub struct Contents {
+    pub set: u64,
+    pub count: u8,
+}
+
+// A row of the table of the order: how many different contents stand before the first of a kind, and how many before the last.
 const FIRST: usize = 0;
 
 const LAST: usize = 1;
@@ -134,7 +140,7 @@ impl FirstWrong {
 }
 
 // No d stands before a c.
-fn is_ordered(contents: u64, order: &[[u16; 2]; 64], c: u8, d: u8) -> bool
+fn is_ordered(contents: u64, order: &[[u8; 2]; 64], c: u8, d: u8) -> bool
     ensures { λ r. ⌜ r ≡ not (member contents c && (member contents d && ltb (firstPlace (now (order .entry)) d) (lastPlace (now (order .entry)) c))) ⌝ }
 {
     if !sets::is_member(contents, c) {
@@ -166,7 +172,7 @@ fn holds(
     names: u64,
     contents: u64,
     strings: &[u8; 32],
-    order: &[[u16; 2]; 64],
+    order: &[[u8; 2]; 64],
 ) -> Held
     ensures forward { λ r. ⌜ here .at ≤ r .next .at ⌝ }
     ensures truth { λ r. ⌜ Holds (tableAtoms (record { names = names; contents = contents }) (now (strings .entry)) (now (order .entry))) (now (v .entry)) (here .at) r ⌝ }
@@ -267,7 +273,7 @@ fn all_hold(
     to: usize,
     shape: Shape,
     strings: &[u8; 32],
-    order: &[[u16; 2]; 64],
+    order: &[[u8; 2]; 64],
 ) -> Met
     requires { ⌜ Settled (now v) shape to ⌝ }
     ensures truth { λ r. ⌜ AllHold (tableAtoms shape (now (strings .entry)) (now (order .entry))) (now (v .entry)) (from .at) (r .value) ⌝ }
@@ -350,7 +356,7 @@ fn is_right(
     rule: Rule,
     shape: Shape,
     strings: &[u8; 32],
-    order: &[[u16; 2]; 64],
+    order: &[[u8; 2]; 64],
     shapes: &mut [[u64; 3]; 64],
 ) -> bool
     requires { ⌜ Remembered (now v) (now shapes) ⌝ }
@@ -399,29 +405,29 @@ fn read_attributes(p: &[u8], here: Position, strings: &mut [u8; 32]) -> Named
     }
 }
 
-// Where a content stands first that stands at a place, behind those inside.
-fn first_place(order: &[[u16; 2]; 64], contents: u64, c: u8, place: u16) -> u16
-    requires { ⌜ c < 64 ⌝ }
-    ensures { λ r. ⌜ r ≡ cond (member contents c) (firstPlace (now (order .entry)) c) place ⌝ }
-{
-    if !sets::has(contents, c) {
-        return place;
-    }
-    let i = c as usize;
-    order[i][FIRST]
-}
-
-// One content more, at an offset behind those inside.
-fn add_content(order: &mut [[u16; 2]; 64], contents: u64, c: u8, at: usize) -> u64
-    requires { ⌜ (length (now order) ≡ 64) × (c < 64) × (at < 2 ^ 16) ⌝ }
+// One content more, behind those inside.
+fn add_content(order: &mut [[u8; 2]; 64], inside: Contents, c: u8) -> Contents
+    requires { ⌜ (length (now order) ≡ 64) × (c < 64) × Counted inside ⌝ }
     ensures long { λ _. ⌜ length (now (order .exit)) ≡ 64 ⌝ }
-    ensures more { λ r. ⌜ ((w : List ℕ) (end : ℕ) → at < end → Containing w contents (now (order .entry)) at → Containing (w ++ (c ∷ [])) r (now (order .exit)) end) ⌝ }
+    ensures counted { λ r. ⌜ Counted r ⌝ }
+    ensures more { λ r. ⌜ ((w : List ℕ) → Containing w (inside .set) (now (order .entry)) (inside .count) → Containing (w ++ (c ∷ [])) (r .set) (now (order .exit)) (r .count)) ⌝ }
 {
     let i = c as usize;
-    let place = at as u16;
-    let row = [first_place(order, contents, c, place), place];
-    order[i] = row;
-    sets::with(contents, c)
+    let count = inside.count;
+    if sets::has(inside.set, c) {
+        let first = order[i][FIRST];
+        let again = [first, count];
+        order[i] = again;
+        return inside;
+    }
+    let new = [count, count];
+    order[i] = new;
+    let set = sets::with(inside.set, c);
+    let counted = count + 1;
+    Contents {
+        set,
+        count: counted,
+    }
 }
 
 // The rule of an element.
@@ -461,7 +467,7 @@ pub fn judge_item(
     here: Position,
     shapes: &mut [[u64; 3]; 64],
 ) -> Judged
-    requires { ⌜ (length (now p) ≤ 2 ^ 16) × Remembered (now v) (now shapes) ⌝ }
+    requires { ⌜ Remembered (now v) (now shapes) ⌝ }
     ensures remembered { λ _. ⌜ Remembered (now (v .entry)) (now (shapes .exit)) ⌝ }
     ensures forward { λ r. ⌜ stepNext (itemHere (now (p .entry)) (here .at)) .at ≤ r .next .at ⌝ }
     ensures judged { λ r. ⌜ ((D : Vocabulary) → Tabled (now (v .entry)) D (now (attributes .entry)) (now (contents .entry)) (now (clauses .entry)) → JudgesItem D (now (p .entry)) (here .at) r) ⌝ }
@@ -473,7 +479,7 @@ pub fn judge_item(
     let mut strings = [0u8; 32];
     let named = read_attributes(p, start, &mut strings);
     let inside = named.next;
-    let mut order = [[0u16; 2]; 64];
+    let mut order = [[0u8; 2]; 64];
     let list = judge_items(
         v,
         attributes,
@@ -504,22 +510,22 @@ fn judge_items(
     clauses: &[usize; 64],
     p: &[u8],
     here: Position,
-    order: &mut [[u16; 2]; 64],
+    order: &mut [[u8; 2]; 64],
     shapes: &mut [[u64; 3]; 64],
 ) -> Listed
-    requires { ⌜ (length (now p) ≤ 2 ^ 16) × (length (now order) ≡ 64) × Remembered (now v) (now shapes) ⌝ }
+    requires { ⌜ (length (now order) ≡ 64) × Remembered (now v) (now shapes) ⌝ }
     ensures remembered { λ _. ⌜ Remembered (now (v .entry)) (now (shapes .exit)) ⌝ }
     ensures forward { λ r. ⌜ here .at ≤ r .next .at ⌝ }
     ensures judged { λ r. ⌜ ((D : Vocabulary) → Tabled (now (v .entry)) D (now (attributes .entry)) (now (contents .entry)) (now (clauses .entry)) → JudgesItems D (now (p .entry)) (here .at) r (now (order .exit))) ⌝ }
 {
     let mut place = here;
-    let mut inside: u64 = 0;
+    let mut inside = Contents { set: 0, count: 0 };
     let mut wrong = FirstWrong::Nowhere;
     loop {
         let item = pages::item_here(p, place);
         match item {
             ItemHere::Text(next) => {
-                inside = add_content(order, inside, TEXT, place.at);
+                inside = add_content(order, inside, TEXT);
                 place = next;
             }
             ItemHere::Gap(_, next) => {
@@ -527,14 +533,14 @@ fn judge_items(
             }
             ItemHere::Element(e, _) => {
                 let judged = judge_item(v, attributes, contents, clauses, p, place, shapes);
-                inside = add_content(order, inside, e, place.at);
+                inside = add_content(order, inside, e);
                 let later = judged.wrong;
                 wrong = wrong.or(later);
                 place = judged.next;
             }
             ItemHere::End(next) => {
                 return Listed {
-                    contents: inside,
+                    contents: inside.set,
                     next,
                     wrong,
                 };

@@ -5,13 +5,14 @@ use mathlib.Core.List.{List}
 use mathlib.Core.Bool.{Bool, true, false, not, false≢true}
 use native.Mathlib.Omega.{arith}
 use Rattle.strings.specs.declared.Values.{Values}
-use Rattle.strings.specs.Strings.{strings, holdsValue, NoValues}
+use Rattle.strings.specs.Strings.{strings}
+use Rattle.strings.specs.contracts.Promises.{holdsValue, NoValues}
 use Rattle.pages.specs.Items.{open-gap}
 use Rattle.summaries.specs.Proposal as Proposal
 use Rattle.summaries.specs.Summaries.{Summary}
-use Rattle.patterns.specs.Rounds.{valueTakes}
+use Rattle.patterns.specs.contracts.Rounds.{valueTakes}
 use Rattle.patterns.proofs.Tests.{failed, any-below, below-any}
-use Rattle.graphs.specs.Graphs.{holds, Keeps}
+use Rattle.graphs.specs.contracts.Graphs.{holds, Keeps}
 
 pub some-taken : (graph : List ℕ) (n h : ℕ) (values : Values) → ((t : ℕ) → holdsValue values t ≡ holds graph (Proposal.string n h t)) → n < 32
     → (b : Bool) → NoValues values b → (G : Summary) → Keeps graph G → h < 8 → not b ≡ valueTakes G n (open-gap h)

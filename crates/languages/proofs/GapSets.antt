@@ -10,19 +10,20 @@ use lib.ListN.{length, getD, set, length-set}
 use lib.Seq.{getD-set-same, getD-set-other}
 use lib.Dec.{ltb}
 use borrow.Author.Tests.{ltb-true, ltb-false}
-use Rattle.sets.specs.Sets.{member, FirstMember}
+use Rattle.sets.specs.Sets.{member}
+use Rattle.sets.specs.contracts.Promises.{FirstMember}
 use Rattle.pages.specs.Items.{Items}
 use Rattle.summaries.specs.Proposal.{edge}
 use Rattle.summaries.specs.Summaries.{Summary}
-use Rattle.patterns.specs.Morphisms.{Morphism}
-use Rattle.patterns.specs.Given.{Bounded}
-use Rattle.patterns.specs.Rounds.{Sets, anyBelow}
+use Rattle.patterns.specs.contracts.Morphisms.{Morphism}
+use Rattle.patterns.specs.contracts.Given.{Bounded}
+use Rattle.patterns.specs.contracts.Rounds.{Sets, anyBelow}
 use Rattle.patterns.proofs.Tests.{or-left, or-right, or-cases, and-both, and-left, and-right, same-test, failed, any-below, below-any}
-use Rattle.pattern_sets.specs.PatternSets.{holds}
-use Rattle.graphs.specs.Graphs.{Keeps}
-use Rattle.graphs.specs.Graphs as Graphs
-use Rattle.languages.specs.Tables.{SetsAre, GapSetsAre}
-use Rattle.languages.specs.Promises.{UnionOf}
+use Rattle.pattern_sets.specs.contracts.PatternSets.{holds}
+use Rattle.graphs.specs.contracts.Graphs.{Keeps}
+use Rattle.graphs.specs.contracts.Graphs as Graphs
+use Rattle.languages.specs.contracts.Tables.{SetsAre, GapSetsAre}
+use Rattle.languages.specs.contracts.Promises.{UnionOf}
 
 -- ---- stepping through the templates
 

@@ -10,16 +10,16 @@ use lib.Dec.{eqb}
 use borrow.Author.Tests.{ne-eqb}
 use Rattle.sets.specs.Sets.{member}
 use Rattle.sets.proofs.Laws.{member-zero}
-use Rattle.patterns.specs.Morphisms.{Morphism}
-use Rattle.patterns.specs.Rounds.{Set, only, product}
-use Rattle.pattern_sets.specs.PatternSets.{holds, Same}
+use Rattle.patterns.specs.contracts.Morphisms.{Morphism}
+use Rattle.patterns.specs.contracts.Rounds.{Set, only, product}
+use Rattle.pattern_sets.specs.contracts.PatternSets.{holds, Same}
 use Rattle.pattern_sets.proofs.Tables.{all-members}
 use Rattle.schemes.specs.declared.Scheme.{Scheme}
-use Rattle.schemes.specs.Schemes.{StandsFor, Is}
-use Rattle.schemes.specs.Promises.{PatternOfOne, Multiplies, Follows}
+use Rattle.schemes.specs.contracts.Schemes.{StandsFor, Is}
+use Rattle.schemes.specs.contracts.Promises.{PatternOfOne, Multiplies, Follows}
 use Rattle.languages.specs.declared.Line.{Line}
-use Rattle.languages.specs.Tables.{Used}
-use Rattle.languages.specs.Promises.{LineIs, LineOf, LineWithContent, LineWithGap, LineWithElement}
+use Rattle.languages.specs.contracts.Tables.{Used}
+use Rattle.languages.specs.contracts.Promises.{LineIs, LineOf, LineWithContent, LineWithGap, LineWithElement}
 use Rattle.languages.proofs.Uses.{lawful, is-as, product-as}
 
 -- ---- members

@@ -15,23 +15,23 @@ use Rattle.pages.specs.declared.AttributeHere.{AttributeHere}
 use Rattle.pages.specs.declared.AttributeHere.the-variants.{Fixed, Open, Done}
 use Rattle.pages.specs.Items.{open-gap, Attribute, Item, text, gap, element, Items, more}
 use Rattle.pages.specs.ItemReading.{attributes, item, items}
-use Rattle.pages.specs.Steps.{itemHere, attributeHere}
+use Rattle.pages.specs.contracts.Steps.{itemHere, attributeHere}
 use Rattle.pages.proofs.Steps.{text-first, gap-first, element-first, end-first, fixed-first, open-first, none-first}
 use Rattle.summaries.specs.Summaries.{Summary}
-use Rattle.patterns.specs.Morphisms.{Morphism}
-use Rattle.patterns.specs.Rounds.{Set, Sets, only, anyBelow, valueTakes, attributesTake, allTake, itemTakes, product, patterns, itemPatterns}
+use Rattle.patterns.specs.contracts.Morphisms.{Morphism}
+use Rattle.patterns.specs.contracts.Rounds.{Set, Sets, only, anyBelow, valueTakes, attributesTake, allTake, itemTakes, product, patterns, itemPatterns}
 use Rattle.patterns.proofs.Tests.{and-left, and-right, failed, any-below, below-any}
 use Rattle.patterns.proofs.Exact.{in-product, factors}
 use Rattle.patterns.proofs.Products.{product-assoc, product-unit-left, product-unit-right, some-pattern}
-use Rattle.pattern_sets.specs.PatternSets.{holds, IsEmpty}
+use Rattle.pattern_sets.specs.contracts.PatternSets.{holds, IsEmpty}
 use Rattle.schemes.specs.declared.Scheme.{Scheme}
-use Rattle.schemes.specs.Promises.{PatternOfOne}
-use Rattle.graphs.specs.Graphs.{Keeps}
+use Rattle.schemes.specs.contracts.Promises.{PatternOfOne}
+use Rattle.graphs.specs.contracts.Graphs.{Keeps}
 use Rattle.languages.specs.declared.Filled.{Filled}
 use Rattle.languages.specs.declared.Line.{Line}
 use Rattle.languages.specs.declared.Patterned.{Patterned}
-use Rattle.languages.specs.Tables.{GapSetsAre, Lent, Has}
-use Rattle.languages.specs.Promises.{AttributesTake, LineIs, LineOf, LineWithContent, LineWithGap, LineWithElement, ElementPatterns, ListPatterns}
+use Rattle.languages.specs.contracts.Tables.{GapSetsAre, Lent, Has}
+use Rattle.languages.specs.contracts.Promises.{AttributesTake, LineIs, LineOf, LineWithContent, LineWithGap, LineWithElement, ElementPatterns, ListPatterns}
 use Rattle.languages.proofs.Uses.{lawful, monoid, is-as, held-below, product-as, one-pattern, unit-set}
 use Rattle.languages.proofs.Lines.{line-as}
 

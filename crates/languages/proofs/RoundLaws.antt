@@ -16,19 +16,19 @@ use Rattle.pages.specs.Items as Items
 use Rattle.programs.specs.Program.{templateAt}
 use Rattle.summaries.specs.Proposal.{edge}
 use Rattle.summaries.specs.Summaries.{Summary}
-use Rattle.patterns.specs.Morphisms.{Morphism}
-use Rattle.patterns.specs.Given.{Bounded}
-use Rattle.patterns.specs.Rounds.{Set, Sets, only, anyBelow, attributesTake, allTake, patterns, itemPatterns, round}
+use Rattle.patterns.specs.contracts.Morphisms.{Morphism}
+use Rattle.patterns.specs.contracts.Given.{Bounded}
+use Rattle.patterns.specs.contracts.Rounds.{Set, Sets, only, anyBelow, attributesTake, allTake, patterns, itemPatterns, round}
 use Rattle.patterns.proofs.Tests.{or-left, or-right, and-both, and-left, and-right, same-test, failed, eqb-same, any-below, below-any}
 use Rattle.patterns.proofs.Lawful.{Lawful}
 use Rattle.patterns.proofs.Products.{Monoid, some-pattern}
-use Rattle.pattern_sets.specs.PatternSets.{holds}
+use Rattle.pattern_sets.specs.contracts.PatternSets.{holds}
 use Rattle.schemes.specs.declared.Scheme.{Scheme}
-use Rattle.schemes.specs.Schemes.{Is}
-use Rattle.graphs.specs.Graphs as Graphs
+use Rattle.schemes.specs.contracts.Schemes.{Is}
+use Rattle.graphs.specs.contracts.Graphs as Graphs
 use Rattle.languages.specs.declared.Patterned.{Patterned}
-use Rattle.languages.specs.Tables.{SetsAre, GapSetsAre, Shown}
-use Rattle.languages.specs.Promises.{ListPatterns, IsRound, Targets, TargetsTable, OnlyChanged, CameOf, Rounds}
+use Rattle.languages.specs.contracts.Tables.{SetsAre, GapSetsAre, Shown}
+use Rattle.languages.specs.contracts.Promises.{ListPatterns, IsRound, Targets, TargetsTable, OnlyChanged, CameOf, Rounds}
 use Rattle.languages.proofs.Uses.{lawful, monoid, is-as, product-as, unit-set}
 use Rattle.languages.proofs.GapNumbers.{gaps-low}
 use Rattle.languages.proofs.GapSets.{FilledTo, filled-up}

@@ -13,19 +13,19 @@ use Rattle.sets.specs.Sets.{member}
 use Rattle.sets.proofs.Laws.{member-zero}
 use Rattle.pages.specs.Items.{Items}
 use Rattle.summaries.specs.Summaries.{Summary}
-use Rattle.patterns.specs.Morphisms.{Morphism}
-use Rattle.patterns.specs.Rounds.{Sets, iterate, round, rounds, Settled}
-use Rattle.patterns.specs.Exactness.{Exact}
+use Rattle.patterns.specs.contracts.Morphisms.{Morphism}
+use Rattle.patterns.specs.contracts.Rounds.{Sets, iterate, round, rounds, Settled}
+use Rattle.patterns.specs.contracts.Exactness.{Exact}
 use Rattle.patterns.proofs.Tests.{or-left, and-both, and-left, and-right, same-test}
 use Rattle.patterns.proofs.Members.{members, members-more, members-most}
 use Rattle.patterns.proofs.Growing.{round-more}
 use Rattle.patterns.proofs.Settling.{iterate-grows}
 use Rattle.patterns.proofs.Exact.{exact}
-use Rattle.pattern_sets.specs.PatternSets.{holds, IsEmpty}
+use Rattle.pattern_sets.specs.contracts.PatternSets.{holds, IsEmpty}
 use Rattle.pattern_sets.proofs.Laws.{holds-empty}
 use Rattle.schemes.specs.declared.Scheme.{Scheme}
-use Rattle.languages.specs.Tables.{SetsAre, Lent, Shown}
-use Rattle.languages.specs.Promises.{TargetsTable, OnlyChanged, CameOf, Rounds, WithinSet, Lacks, Grown, Grows, SettlesAt, Settles}
+use Rattle.languages.specs.contracts.Tables.{SetsAre, Lent, Shown}
+use Rattle.languages.specs.contracts.Promises.{TargetsTable, OnlyChanged, CameOf, Rounds, WithinSet, Lacks, Grown, Grows, SettlesAt, Settles}
 use Rattle.languages.proofs.Uses.{lawful, is-as, held-below}
 
 -- ---- larger sets

@@ -6,17 +6,17 @@ use mathlib.Core.Bool.{Bool, true, false, false≢true}
 use native.Mathlib.Omega.{arith}
 use lib.Dec.{eqb, ltb}
 use borrow.Author.Tests.{ne-eqb, ltb-true, ltb-false}
-use Rattle.patterns.specs.Morphisms as Morphisms
-use Rattle.patterns.specs.Rounds.{Set, only, product}
+use Rattle.patterns.specs.contracts.Morphisms as Morphisms
+use Rattle.patterns.specs.contracts.Rounds.{Set, only, product}
 use Rattle.patterns.proofs.Tests.{same-test}
 use Rattle.patterns.proofs.Exact.{in-product, factors}
 use Rattle.patterns.proofs.Lawful.{Lawful, clause-lawful, root-lawful}
 use Rattle.patterns.proofs.Products.{Monoid, clause-monoid, root-monoid}
-use Rattle.pattern_sets.specs.PatternSets.{holds}
+use Rattle.pattern_sets.specs.contracts.PatternSets.{holds}
 use Rattle.schemes.specs.declared.Scheme.{Scheme}
-use Rattle.schemes.specs.Schemes.{StandsFor, Is}
+use Rattle.schemes.specs.contracts.Schemes.{StandsFor, Is}
 use Rattle.schemes.proofs.Joining.{empty-pattern}
-use Rattle.languages.specs.Tables.{Used, of-clause, of-root}
+use Rattle.languages.specs.contracts.Tables.{Used, of-clause, of-root}
 
 pub lawful : {M : Morphisms.Morphism} → Used M → Lawful M
 lawful (of-clause ψ) = clause-lawful ψ

@@ -6,12 +6,12 @@ ghost use Prim.Native.Nat.{_≤_, _<_};
 ghost use lib.ListN.{length};
 ghost use Rattle.pages.specs.Items.{open-gap, Items};
 ghost use Rattle.summaries.specs.Summaries.{Summary};
-ghost use Rattle.patterns.specs.Morphisms.{Morphism};
-ghost use Rattle.patterns.specs.Given.{Bounded};
-ghost use Rattle.patterns.specs.Rounds.{Sets, valueTakes};
-ghost use Rattle.graphs.specs.Graphs.{Keeps};
-ghost use Rattle.languages.specs.Tables.{SetsAre, GapSetsAre};
-ghost use Rattle.languages.specs.Promises.{UnionOf, AttributesTake, LineOf, LineWithContent, LineWithGap, LineWithElement, ElementPatterns, ListPatterns, IsRound, Targets, TargetsTable, Rounds, WithinSet, Grows, Settles};
+ghost use Rattle.patterns.specs.contracts.Morphisms.{Morphism};
+ghost use Rattle.patterns.specs.contracts.Given.{Bounded};
+ghost use Rattle.patterns.specs.contracts.Rounds.{Sets, valueTakes};
+ghost use Rattle.graphs.specs.contracts.Graphs.{Keeps};
+ghost use Rattle.languages.specs.contracts.Tables.{SetsAre, GapSetsAre};
+ghost use Rattle.languages.specs.contracts.Promises.{UnionOf, AttributesTake, LineOf, LineWithContent, LineWithGap, LineWithElement, ElementPatterns, ListPatterns, IsRound, Targets, TargetsTable, Rounds, WithinSet, Grows, Settles};
 use commands::Position;
 use graphs::Graph;
 use pages::AttributeHere;
@@ -137,15 +137,15 @@ pub fn with_gap(r: Scheme, line: Line, takes: &[[u64; 4]; 8], g: u8) -> Line
     ensures { λ more. ⌜ LineWithGap r (now (takes .entry)) line g more ⌝ }
 {
     let set = line.set;
-    let more = schemes::product(r, set, takes[g as usize]);
-    if pattern_sets::same(more, set) {
+    let joined = schemes::product(r, set, takes[g as usize]);
+    if pattern_sets::same(joined, set) {
         return Line {
             set,
             contents: line.contents,
             gaps: sets::without(line.gaps, sets::with(0, g)),
         };
     }
-    line_of(more)
+    line_of(joined)
 }
 
 // A list with an element e more, which has a pattern or none.
@@ -299,7 +299,7 @@ fn targets(graph: &Graph, n: usize) -> u64
     all
 }
 
-// The same of every template.
+// For every template those to which it has edges, and `FIRST`.
 fn all_targets(graph: &Graph, count: usize) -> [u64; 32]
     ensures { λ r. ⌜ TargetsTable (now (graph .entry)) count r ⌝ }
 {

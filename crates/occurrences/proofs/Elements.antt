@@ -14,7 +14,7 @@ use Rattle.pages.specs.Items.{Attribute, Item, text, gap, element, Items, none,
 use Rattle.pages.specs.RightPages.{SomeElement, SomeElementOf}
 use Rattle.patterns.proofs.Tests.{or-left, or-right}
 use Rattle.patterns.proofs.Standing.{Saying}
-use Rattle.occurrences.specs.Occurrences.{AllElements, AllElementsOf, Stands, AllTold, Keeps}
+use Rattle.occurrences.specs.contracts.Occurrences.{AllElements, AllElementsOf, Stands, AllTold, Keeps}
 
 module _ (P Q : Saying) (to : (e mark : ℕ) (δ : List Attribute) (φ : Items) → P e mark δ φ → Q e mark δ φ) where
   mutual

@@ -14,12 +14,12 @@ use Rattle.pages.specs.declared.ItemHere.the-variants.{Text, Gap, Element, End}
 use Rattle.pages.specs.Items.{Items}
 use Rattle.pages.specs.Items as Items
 use Rattle.pages.specs.ItemReading.{items}
-use Rattle.pages.specs.Steps.{itemHere, AfterAttributes}
+use Rattle.pages.specs.contracts.Steps.{itemHere, AfterAttributes}
 use Rattle.pages.proofs.Steps.{text-first, gap-first, element-first, end-first, element-item, no-attribute}
 use Rattle.reach.proofs.Outlining.{Outlined, outlined-none, outlined-all, outlined-text, outlined-gap, outlined-element}
 use Rattle.occurrences.specs.declared.Outer.{Outer}
-use Rattle.occurrences.specs.Occurrences.{AllElements, Stands, AllTold, Keeps}
-use Rattle.occurrences.specs.Promises.{TellsElement, TellsItems}
+use Rattle.occurrences.specs.contracts.Occurrences.{AllElements, Stands, AllTold, Keeps}
+use Rattle.occurrences.specs.contracts.Promises.{TellsElement, TellsItems}
 use Rattle.occurrences.proofs.Elements.{still-told}
 
 module _ (s : List ℕ) (n : ℕ) where

@@ -14,13 +14,13 @@ use Rattle.vocabularies.specs.Vocabulary.{isIn}
 use Rattle.pages.specs.Items.{Items}
 use Rattle.pages.specs.RightPages.{word}
 use Rattle.programs.specs.Program.{templateAt}
-use Rattle.pages.specs.Gaps.{hasGap, StartsAt}
-use Rattle.reach.specs.Outlines.{gapAmong}
+use Rattle.pages.specs.contracts.Gaps.{hasGap, StartsAt}
+use Rattle.reach.specs.contracts.Outlines.{gapAmong}
 use Rattle.reach.proofs.Filling.{Filled, filled-zeros, filled-more}
 use Rattle.reach.proofs.Templates.{template-none}
 use Rattle.occurrences.specs.declared.Outer.{Outer}
-use Rattle.occurrences.specs.Occurrences.{AllElements, AllTold, Keeps}
-use Rattle.occurrences.specs.Promises.{TellsItems, TellsTemplates}
+use Rattle.occurrences.specs.contracts.Occurrences.{AllElements, AllTold, Keeps}
+use Rattle.occurrences.specs.contracts.Promises.{TellsItems, TellsTemplates}
 use Rattle.occurrences.proofs.Elements.{still-told}
 
 module _ (φs : List Items) where

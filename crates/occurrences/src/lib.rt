@@ -2,8 +2,8 @@
 ghost use mathlib.Core.Path.{_≡_};
 ghost use Prim.Native.Nat.{_≤_, _<_};
 ghost use lib.ListN.{length};
-ghost use Rattle.occurrences.specs.Occurrences.{Keeps};
-ghost use Rattle.occurrences.specs.Promises.{TellsElement, TellsItems, TellsTemplates};
+ghost use Rattle.occurrences.specs.contracts.Occurrences.{Keeps};
+ghost use Rattle.occurrences.specs.contracts.Promises.{TellsElement, TellsItems, TellsTemplates};
 use commands::Position;
 use pages::ItemHere;
 use pages::TEXT;

@@ -1,9 +1,11 @@
 // Reads a job from standard input and prints its verdict, a line of four numbers.
-use libc::STDIN_FILENO;
+use records::Filled;
 
-// The buffer holds a byte more than a job may have: a job that fills it is too long, whatever follows.
 fn main() {
-    let mut buffer = io::large_buffer();
-    let n = io::read_full(STDIN_FILENO, &mut buffer);
-    records::print_verdict(verdicts::numbers_of(checker::check(&buffer[..n])));
+    let mut buffer = [0u8; 65536];
+    let filled = records::fill(&mut buffer);
+    let Filled::Bytes(n) = filled else {
+        return;
+    };
+    records::print_verdict(buffers::job_numbers(&buffer, n));
 }

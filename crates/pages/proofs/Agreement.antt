@@ -19,13 +19,13 @@ use Rattle.commands.specs.declared.Past.{Past}
 use Rattle.commands.specs.declared.Past.the-variants.{Over, Other}
 use Rattle.commands.specs.Commands.{byte, allowed, command}
 use Rattle.commands.specs.Reading.{Read, whole, andThen}
-use Rattle.commands.specs.Parts.{Agrees, past}
+use Rattle.commands.specs.contracts.Parts.{Agrees, past}
 use Rattle.commands.proofs.Laws.{moved, past-over, past-other}
 use Rattle.vocabularies.specs.Vocabulary.{isIn}
 use Rattle.pages.specs.declared.Kind.{Kind}
 use Rattle.pages.specs.declared.Kind.the-variants.{Template, Page}
 use Rattle.pages.specs.ItemReading.{itemContext, attributeContext, nesting, endOf, attributes, items, item}
-use Rattle.pages.specs.Promises.{AttributesRead, ItemsRead, ItemRead}
+use Rattle.pages.specs.contracts.Promises.{AttributesRead, ItemsRead, ItemRead}
 use Rattle.pages.proofs.Laws.{some-end, item-move, attributes-move}
 use Rattle.pages.proofs.Parts.{agrees-made, refused-first, whole-first}
 

@@ -23,8 +23,8 @@ use Rattle.pages.specs.declared.GapsFound.{GapsFound}
 use Rattle.pages.specs.Items.{Attribute, Items, none, templateAt, gapIn, openIn, attributeGapIn}
 use Rattle.pages.specs.ItemReading.{attributes}
 use Rattle.pages.specs.RightPages.{names}
-use Rattle.pages.specs.Steps.{itemHere, ItemMoves, attributeHere, AttributeMoves, NamesAt}
-use Rattle.pages.specs.Gaps.{hasGap, hasAttributeGap, GapsAre, ItemsStand, StartsAt, GapsAdded, AttributeGaps, ElementGaps, ItemsGaps}
+use Rattle.pages.specs.contracts.Steps.{itemHere, ItemMoves, attributeHere, AttributeMoves, NamesAt}
+use Rattle.pages.specs.contracts.Gaps.{hasGap, hasAttributeGap, GapsAre, ItemsStand, StartsAt, GapsAdded, AttributeGaps, ElementGaps, ItemsGaps}
 use Rattle.pages.proofs.Steps.{AttributeFirst, fixed-first, open-first, none-first, fixed-moves, open-moves, text-first, gap-first, element-first, end-first, text-moves, gap-moves, element-moves, no-attribute}
 
 -- What a walk that has come from an offset to another, and has gathered so much, has still to find.

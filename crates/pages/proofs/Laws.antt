@@ -18,14 +18,14 @@ use Rattle.commands.specs.declared.Decoded.{Decoded}
 use Rattle.commands.specs.declared.Decoded.the-variants.{Moved, Refused}
 use Rattle.commands.specs.Commands.{byte, operandsOf, allInRange, allowed, command}
 use Rattle.commands.specs.Reading.{Read, whole, refused, unfinished, andThen, onDecoded, when}
-use Rattle.commands.specs.Parts.{Enough}
+use Rattle.commands.specs.contracts.Parts.{Enough}
 use Rattle.commands.proofs.Laws.{MovedOver, moved, byte-past}
 use Rattle.vocabularies.specs.Vocabulary.{isIn}
 use Rattle.pages.specs.declared.Kind.{Kind}
 use Rattle.pages.specs.declared.Kind.the-variants.{Template, Page}
 use Rattle.pages.specs.Items.{Attribute, Item, Items}
 use Rattle.pages.specs.ItemReading.{itemContext, attributeContext, nesting, endOf, attributes, items, item, mostTemplates, templates}
-use Rattle.pages.specs.Promises.{EnoughForItem}
+use Rattle.pages.specs.contracts.Promises.{EnoughForItem}
 use Rattle.pages.proofs.Whole.{never-unfinished, attributes-whole, items-whole, item-whole, templates-whole}
 
 pub and-left : (a b : Bool) → (a && b) ≡ true → a ≡ true

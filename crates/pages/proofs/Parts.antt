@@ -6,7 +6,7 @@ use Rattle.commands.specs.declared.Position.{Position}
 use Rattle.commands.specs.declared.Part.{Part}
 use Rattle.commands.specs.declared.Part.the-variants.{Whole, Refused}
 use Rattle.commands.specs.Reading.{Read, whole, refused, unfinished, andThen}
-use Rattle.commands.specs.Parts.{Agrees, AgreesAs}
+use Rattle.commands.specs.contracts.Parts.{Agrees, AgreesAs}
 
 module _ {A : Type 0} (P : A → ℕ → Type 0) where
   at-whole : (x : Read A) (p : Position) → AgreesAs P x (Whole p) → (a : A) × (x ≡ whole a (p .at)) × P a (p .at)

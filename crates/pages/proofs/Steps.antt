@@ -23,7 +23,7 @@ use Rattle.pages.specs.declared.AttributeHere.{AttributeHere}
 use Rattle.pages.specs.declared.AttributeHere.the-variants.{Fixed, Open, Done}
 use Rattle.pages.specs.Items.{string, open-gap, Attribute, Item, text, gap, element, Items, none, more}
 use Rattle.pages.specs.ItemReading.{itemContext, attributeContext, nesting, valueAt, attributes, items, item}
-use Rattle.pages.specs.Steps.{itemHere, Steps, ItemMoves, attributeHere, AttributeMoves}
+use Rattle.pages.specs.contracts.Steps.{itemHere, Steps, ItemMoves, attributeHere, AttributeMoves}
 use Rattle.pages.proofs.Whole.{never-unfinished, LeafRead, ElementRead, AttributeMore, ItemsEnd, ItemsMore, attributes-whole, items-whole, item-whole}
 use Rattle.pages.proofs.Laws.{and-left, and-right, or-cases, ended-inside, attribute-range, element-range}
 

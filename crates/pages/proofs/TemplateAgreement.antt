@@ -18,13 +18,13 @@ use Rattle.commands.specs.declared.Decoded.the-variants as Decoded
 use Rattle.commands.specs.declared.Part.{Part}
 use Rattle.commands.specs.declared.Part.the-variants.{Whole, Refused}
 use Rattle.commands.specs.Commands.{command}
-use Rattle.commands.specs.Parts.{AgreesAs, Enough}
+use Rattle.commands.specs.contracts.Parts.{AgreesAs, Enough}
 use Rattle.commands.proofs.Laws.{moved}
 use Rattle.pages.specs.declared.Kind.the-variants.{Template}
 use Rattle.pages.specs.declared.TemplatesRead.{TemplatesRead}
 use Rattle.pages.specs.Items.{Items, none}
 use Rattle.pages.specs.ItemReading.{items, mostTemplates, templates}
-use Rattle.pages.specs.Promises.{ItemsRead, StandsAt, Located, TemplatesFrom}
+use Rattle.pages.specs.contracts.Promises.{ItemsRead, StandsAt, Located, TemplatesFrom}
 use Rattle.pages.proofs.Laws.{items-move}
 use Rattle.pages.proofs.Parts.{agrees-made, refused-first}
 use Rattle.pages.proofs.Trees.{TreeRead}

@@ -10,11 +10,11 @@ use Rattle.commands.specs.declared.Position.{Position}
 use Rattle.commands.specs.declared.Part.{Part}
 use Rattle.commands.specs.declared.Part.the-variants.{Whole}
 use Rattle.commands.specs.Reading.{whole}
-use Rattle.commands.specs.Parts.{Enough}
+use Rattle.commands.specs.contracts.Parts.{Enough}
 use Rattle.pages.specs.declared.Kind.{Kind}
 use Rattle.pages.specs.Items.{Items}
 use Rattle.pages.specs.ItemReading.{attributes, items, item}
-use Rattle.pages.specs.Promises.{AttributesRead, ItemsRead, ItemRead}
+use Rattle.pages.specs.contracts.Promises.{AttributesRead, ItemsRead, ItemRead}
 use Rattle.pages.proofs.Laws.{Onward, attributes-move, items-move, item-move, items-settle}
 use Rattle.pages.proofs.Parts.{agrees-whole}
 

@@ -6,7 +6,7 @@ use native.Mathlib.Omega.{arith}
 use Rattle.commands.specs.declared.Position.{Position}
 use Rattle.pages.specs.declared.AttributeHere.{AttributeHere}
 use Rattle.pages.specs.declared.AttributeHere.the-variants.{Fixed, Open, Done}
-use Rattle.pages.specs.Steps.{attributeHere, AttributeMoves, AfterAttributes}
+use Rattle.pages.specs.contracts.Steps.{attributeHere, AttributeMoves, AfterAttributes}
 use Rattle.pages.proofs.Steps.{fixed-first, open-first, none-first, fixed-moves, open-moves}
 
 -- What a walk that has come from an offset to another has still to find.

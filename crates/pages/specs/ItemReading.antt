@@ -1,5 +1,5 @@
--- Reading items: the templates of a job, and a page (document 01, "A job, command by command", Templates; "Judge a page"). The two
--- differ in which commands may stand, in how deep elements may nest, and in what ends them; one definition reads both.
+-- Reading items: the templates of a job, and a page (document 01, "A job, command by command", Templates; "Verdicts",
+-- Judge a page). The two differ in which commands may stand, in how deep elements may nest, and in what ends them; one definition reads both.
 use Prim.Native.Nat.{ℕ, zero, suc, _+_}
 use mathlib.Core.List.{List, [], _∷_}
 use mathlib.Core.Bool.{Bool, cond}

@@ -4,10 +4,8 @@ use Prim.Native.Nat.{ℕ, _≤_}
 use mathlib.Core.Path.{_≡_}
 use mathlib.Core.List.{List}
 use Rattle.verdicts.specs.declared.Form.{Form}
-use Rattle.verdicts.specs.declared.Fault.the-variants.{NotRoot, WrongElement}
-use Rattle.verdicts.specs.declared.Refusal.the-variants as Refusals
-use Rattle.verdicts.specs.declared.Verdict.{Verdict}
-use Rattle.verdicts.specs.declared.Verdict.the-variants.{Accepted, Refused}
+use Rattle.verdicts.specs.declared.Numbers.{Numbers}
+use Rattle.verdicts.specs.Printed.{prints, formNumber}
 use Rattle.commands.specs.Reading.{whole, refused}
 use Rattle.vocabularies.specs.Vocabulary.{Vocabulary}
 use Rattle.vocabularies.specs.VocabularyReading.{vocabularySlice}
@@ -22,14 +20,15 @@ pub record Readable (v p : List ℕ) (D : Vocabulary) (page : Items) : Type 0 wh
   pub vocabulary-reads : vocabularySlice v ≡ whole D vocabularyEnd
   pub page-reads : pageSlice D p ≡ whole page pageEnd
 
-pub data PageVerdict (v p : List ℕ) : Verdict → Type 0 where
+-- The verdict as its four numbers.
+pub data PageVerdict (v p : List ℕ) : Numbers → Type 0 where
   unreadable-vocabulary : {f : Form} {at : ℕ} → vocabularySlice v ≡ refused f at
-      → PageVerdict v p (Refused (Refusals.Form f (record { at = at; slice = 0 })))
+      → PageVerdict v p (prints (formNumber f) at 0 0)
   unreadable-page : {D : Vocabulary} {end : ℕ} {f : Form} {at : ℕ} → vocabularySlice v ≡ whole D end → pageSlice D p ≡ refused f at
-      → PageVerdict v p (Refused (Refusals.Form f (record { at = at; slice = 1 })))
+      → PageVerdict v p (prints (formNumber f) at 1 0)
   not-root : {D : Vocabulary} {page : Items} → Readable v p D page → (RootAlone D page → ⊥)
-      → PageVerdict v p (Refused (Refusals.Page (NotRoot 0 0)))
+      → PageVerdict v p (prints 11 0 0 0)
   wrong-element : {D : Vocabulary} {page : Items} {at : ℕ} → Readable v p D page → RootAlone D page
       → WrongAt D at page → ((at′ : ℕ) → WrongAt D at′ page → at ≤ at′)
-      → PageVerdict v p (Refused (Refusals.Page (WrongElement 0 0 at)))
-  accepted : {D : Vocabulary} {page : Items} → Readable v p D page → Right D page → PageVerdict v p Accepted
+      → PageVerdict v p (prints 12 0 0 at)
+  accepted : {D : Vocabulary} {page : Items} → Readable v p D page → Right D page → PageVerdict v p (prints 0 0 0 0)

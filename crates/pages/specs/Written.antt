@@ -1,5 +1,5 @@
--- Items written out as bytes, with what ends them (document 01, "A job, command by command", Templates; "Judge a page"). Marks are not
--- written, and all strings outside the named ones are written alike.
+-- Items written out as bytes, with what ends them (document 01, "A job, command by command", Templates; "Verdicts", Judge a
+-- page). Marks are not written, and all strings outside the named ones are written alike.
 use Prim.Native.Nat.{ℕ, _+_}
 use mathlib.Core.List.{List, [], _∷_, _++_}
 use mathlib.Core.Bool.{cond}

@@ -5,12 +5,12 @@ ghost use Prim.Native.Nat.{ℕ, _≤_, _<_};
 ghost use lib.ListN.{length, getD};
 ghost use Rattle.sets.specs.Sets.{member};
 ghost use Rattle.commands.specs.Reading.{enough};
-ghost use Rattle.commands.specs.Parts.{Agrees};
+ghost use Rattle.commands.specs.contracts.Parts.{Agrees};
 ghost use Rattle.pages.specs.ItemReading.{itemContext, attributeContext, nesting, endOf, items};
-ghost use Rattle.pages.specs.Steps.{itemHere, ItemMoves, attributeHere, AttributeMoves, AfterAttributes, NamesAt};
-ghost use Rattle.pages.specs.Gaps.{AttributeGaps, ElementGaps, ItemsGaps, ItemsStand, StartsAt, GapsAre};
+ghost use Rattle.pages.specs.contracts.Steps.{itemHere, ItemMoves, attributeHere, AttributeMoves, AfterAttributes, NamesAt};
+ghost use Rattle.pages.specs.contracts.Gaps.{AttributeGaps, ElementGaps, ItemsGaps, ItemsStand, StartsAt, GapsAre};
 ghost use Rattle.pages.specs.Items.{Items, templateAt};
-ghost use Rattle.pages.specs.Promises.{AttributesRead, ItemsRead, ItemRead, TemplatesFrom};
+ghost use Rattle.pages.specs.contracts.Promises.{AttributesRead, ItemsRead, ItemRead, TemplatesFrom};
 use commands::Context;
 use commands::Decoded;
 use commands::Part;
@@ -233,7 +233,7 @@ fn attribute_gaps(s: &[u8], here: Position, gaps: u64) -> GapsFound
     }
 }
 
-// The same of an element, whose attributes stand here.
+// The gaps of an element whose attributes stand here, added to others.
 fn element_gaps(s: &[u8], here: Position, gaps: u64) -> GapsFound
     ensures forward { λ r. ⌜ here .at ≤ r .next .at ⌝ }
     ensures found { λ r. ⌜ ElementGaps (now (s .entry)) (here .at) gaps r ⌝ }
@@ -242,7 +242,7 @@ fn element_gaps(s: &[u8], here: Position, gaps: u64) -> GapsFound
     items_gaps(s, named.next, named.gaps)
 }
 
-// The same of a list of items.
+// The gaps of a list of items, added to others.
 fn items_gaps(s: &[u8], here: Position, gaps: u64) -> GapsFound
     ensures forward { λ r. ⌜ here .at ≤ r .next .at ⌝ }
     ensures found { λ r. ⌜ ItemsGaps (now (s .entry)) (here .at) gaps r ⌝ }

@@ -10,7 +10,7 @@ use lib.Pow.{pow-pos, pow-lt}
 use borrow.Author.Tests.{ne-eqb, eqb-true, ltb-true, ltb-false}
 use Rattle.sets.specs.Sets.{member}
 use Rattle.sets.proofs.Laws.{member-and, member-or, member-zero, member-high, member-single, same-members}
-use Rattle.pattern_sets.specs.Images.{numberOf, pattern, raisedAt}
+use Rattle.pattern_sets.specs.contracts.Images.{numberOf, pattern, raisedAt}
 use Rattle.sets.proofs.Members.{double-head, double-tail}
 
 doubled : (b : Bool) (n m : ℕ) → n < m → cond b 1 0 + 2 * n < 2 * m

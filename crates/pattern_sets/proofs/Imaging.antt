@@ -10,8 +10,8 @@ use lib.Dec.{eqb, ltb}
 use borrow.Author.Tests.{eq-eqb, eqb-true, eqb-false, lt-ltb, le-ltb, ltb-true, ltb-false, not-true}
 use Rattle.sets.specs.Sets.{member}
 use Rattle.sets.proofs.Laws.{member-high, member-zero}
-use Rattle.pattern_sets.specs.PatternSets.{holds}
-use Rattle.pattern_sets.specs.Images.{pattern, raisedAt, crossedAt, flagAt, raisedBy, crossedBy, joinedBy, AllFlagged, Shifted, Image, Apart}
+use Rattle.pattern_sets.specs.contracts.PatternSets.{holds}
+use Rattle.pattern_sets.specs.contracts.Images.{pattern, raisedAt, crossedAt, flagAt, raisedBy, crossedBy, joinedBy, AllFlagged, Shifted, Image, Apart}
 use Rattle.pattern_sets.proofs.Booleans.{or-left, or-right, or-cases, and-both, and-left, and-right}
 use Rattle.pattern_sets.proofs.Laws.{held-small}
 use Rattle.pattern_sets.proofs.Flags.{pattern-bit, pattern-high, pattern-is, pattern-same, member-large, added, added-below, lacks, raised-same, raised-more}

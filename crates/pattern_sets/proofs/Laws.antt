@@ -9,9 +9,10 @@ use lib.ListN.{length, getD, set, List·getD-eq-default}
 use lib.Seq.{getD-set-same, getD-set-other}
 use lib.Dec.{eqb, ltb}
 use borrow.Author.Tests.{eq-eqb, ne-eqb, ltb-true, ltb-false}
-use Rattle.sets.specs.Sets.{member, FirstMember}
+use Rattle.sets.specs.Sets.{member}
+use Rattle.sets.specs.contracts.Promises.{FirstMember}
 use Rattle.sets.proofs.Laws.{member-zero}
-use Rattle.pattern_sets.specs.PatternSets.{holds, First, IsEmpty, SameMembers, Same}
+use Rattle.pattern_sets.specs.contracts.PatternSets.{holds, First, IsEmpty, SameMembers, Same}
 use Rattle.pattern_sets.proofs.Booleans.{or-absent}
 
 -- A number is told by its quotient and its remainder.

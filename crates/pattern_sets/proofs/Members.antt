@@ -9,7 +9,7 @@ use lib.Dec.{eqb}
 use borrow.Author.Tests.{eqb-true, eqb-false}
 use Rattle.sets.specs.Sets.{member}
 use Rattle.sets.proofs.Laws.{same-members}
-use Rattle.pattern_sets.specs.PatternSets.{SameMembers}
+use Rattle.pattern_sets.specs.contracts.PatternSets.{SameMembers}
 
 differ : (a b : Bool) → ((a ≡ b) ⊎ (a ≡ b → ⊥))
 differ true true = inl refl

@@ -11,8 +11,8 @@ use lib.ListN.{getD}
 use lib.Dec.{eqb, lit<}
 use lib.Pow.{pow-lt, shl-exact, shl-shr, shr-shr, field, mod-mod-pow}
 use Rattle.sets.specs.Sets.{member}
-use Rattle.pattern_sets.specs.PatternSets.{holds}
-use Rattle.pattern_sets.specs.Images.{ShiftedMembers, Shifted}
+use Rattle.pattern_sets.specs.contracts.PatternSets.{holds}
+use Rattle.pattern_sets.specs.contracts.Images.{ShiftedMembers, Shifted}
 use Rattle.pattern_sets.proofs.Flags.{member-large}
 
 -- ---- a word shifted up

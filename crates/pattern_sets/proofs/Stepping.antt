@@ -8,8 +8,8 @@ use native.Mathlib.Omega.{arith}
 use lib.ListN.{length}
 use lib.Dec.{ltb}
 use borrow.Author.Tests.{ltb-true, ltb-false}
-use Rattle.pattern_sets.specs.PatternSets.{holds, First}
-use Rattle.pattern_sets.specs.Images.{Image, Joined}
+use Rattle.pattern_sets.specs.contracts.PatternSets.{holds, First}
+use Rattle.pattern_sets.specs.contracts.Images.{Image, Joined}
 use Rattle.pattern_sets.proofs.Laws.{held-small}
 use Rattle.pattern_sets.proofs.Booleans.{or-left, or-right, or-cases}
 

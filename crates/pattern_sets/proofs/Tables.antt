@@ -9,8 +9,8 @@ use native.Mathlib.Omega.{arith}
 use lib.Dec.{T}
 use Rattle.sets.specs.Sets.{member}
 use Rattle.sets.proofs.Laws.{member-high}
-use Rattle.pattern_sets.specs.PatternSets.{holds}
-use Rattle.pattern_sets.specs.Images.{AllFlagged}
+use Rattle.pattern_sets.specs.contracts.PatternSets.{holds}
+use Rattle.pattern_sets.specs.contracts.Images.{AllFlagged}
 use Rattle.pattern_sets.proofs.Laws.{holds-empty}
 
 -- The test passes at every number below n.

@@ -1,2 +1,1 @@
-pub mod PatternSets
-pub mod Images
+pub mod contracts

@@ -3,8 +3,8 @@ ghost use mathlib.Core.Path.{_≡_};
 ghost use mathlib.Core.Bool.{not, _&&_, _||_, true, false};
 ghost use Prim.Native.Nat.{ℕ, _<_, _≤_};
 ghost use lib.Dec.{eqb};
-ghost use Rattle.pattern_sets.specs.PatternSets.{holds, First, IsEmpty, SameMembers, Same};
-ghost use Rattle.pattern_sets.specs.Images.{AllFlagged, ShiftedMembers, Shifted, Image, raisedAt, crossedAt, raisedBy, crossedBy, joinedBy, Apart, Joined};
+ghost use Rattle.pattern_sets.specs.contracts.PatternSets.{holds, First, IsEmpty, SameMembers, Same};
+ghost use Rattle.pattern_sets.specs.contracts.Images.{AllFlagged, ShiftedMembers, Shifted, Image, raisedAt, crossedAt, raisedBy, crossedBy, joinedBy, Apart, Joined};
 
 pub fn empty() -> [u64; 4]
     ensures { λ r. ⌜ ((y : ℕ) → holds r y ≡ false) ⌝ }

@@ -12,8 +12,8 @@ use Rattle.pages.specs.Items.{Value, string, open-gap, Attribute, Items}
 use Rattle.summaries.specs.Proposal as Proposal
 use Rattle.summaries.specs.Summaries.{Summary}
 use Rattle.summaries.specs.Languages.{AttributesDerive, no-attribute, fixed, filled}
-use Rattle.patterns.specs.Given.{Bounded}
-use Rattle.patterns.specs.Rounds.{anyNamed, valueTakes, attributesTake}
+use Rattle.patterns.specs.contracts.Given.{Bounded}
+use Rattle.patterns.specs.contracts.Rounds.{anyNamed, valueTakes, attributesTake}
 use Rattle.patterns.proofs.Tests.{and-both, and-left, and-right, either, any-below, below-any}
 
 -- Where the strings outside the named ones are alike, the least of them stands for all.

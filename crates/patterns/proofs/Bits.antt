@@ -14,8 +14,8 @@ use borrow.Author.Tests.{eqb-true, eqb-false}
 use Rattle.sets.specs.Sets.{member}
 use Rattle.vocabularies.specs.Vocabulary.{Formula, conj, disj, neg, truth, attr, content, order, value, isIn}
 use Rattle.vocabularies.specs.Facts.{Fact, present, ordered, valued, sameFact, isAmong, add, withFacts, factsOf}
-use Rattle.judging.specs.Judgement.{precedes, holdsValue}
-use Rattle.patterns.specs.Patterns.{flagged, numbered, patternOf, flagIn}
+use Rattle.judging.specs.contracts.Judgement.{precedes, holdsValue}
+use Rattle.patterns.specs.contracts.Patterns.{flagged, numbered, patternOf, flagIn}
 use Rattle.patterns.proofs.Tests.{or-left, or-right, either, failed}
 use Rattle.patterns.proofs.Facts.{fact-same}
 use Rattle.patterns.proofs.Clauses.{lowest, higher, numbered-same}

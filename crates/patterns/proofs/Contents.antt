@@ -15,10 +15,10 @@ use Rattle.programs.specs.Program.{templateAt}
 use Rattle.summaries.specs.Proposal.{edge}
 use Rattle.summaries.specs.Summaries.{Summary}
 use Rattle.summaries.specs.Languages.{Derives, ItemDerives, nothing, item-then, text-stays, gap-takes, element-keeps}
-use Rattle.patterns.specs.Given.{Bounded, contents, NamesInRange}
-use Rattle.patterns.specs.Rounds.{Set, Sets, iterate}
-use Rattle.patterns.specs.Reached.{Yields, contentsOf, itemContents, contentRound, contentRounds}
-use Rattle.patterns.specs.Exactness.{Occurs, ContentsExact, YieldsExact}
+use Rattle.patterns.specs.contracts.Given.{Bounded, contents, NamesInRange}
+use Rattle.patterns.specs.contracts.Rounds.{Set, Sets, iterate}
+use Rattle.patterns.specs.contracts.Reached.{Yields, contentsOf, itemContents, contentRound, contentRounds}
+use Rattle.patterns.specs.contracts.Exactness.{Occurs, ContentsExact, YieldsExact}
 use Rattle.patterns.proofs.Tests.{or-left, or-right, or-cases, and-both, and-left, and-right, any-below, below-any}
 use Rattle.patterns.proofs.Words.{in-append, word-⋈}
 

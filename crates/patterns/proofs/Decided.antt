@@ -20,10 +20,10 @@ use Rattle.agreement.proofs.Elements.{wrong-iff}
 use Rattle.agreement.proofs.Roots.{decided-alone}
 use Rattle.agreement.proofs.Gaps.{NoGap}
 use Rattle.agreement.proofs.Pages.{Found, no-wrong, wrong, found, accepts-right}
-use Rattle.patterns.specs.Given.{Bounded, contents, NamesInRange, SoundVocabulary}
-use Rattle.patterns.specs.Reached.{Reached, CanBe}
-use Rattle.patterns.specs.Elements.{wrongElement}
-use Rattle.patterns.specs.Shows.{Least, nowhere, Tables, ExactTables, notRoot, lowestMark, lowestRoot, lowestWrongIn, lowestWrong}
+use Rattle.patterns.specs.contracts.Given.{Bounded, contents, NamesInRange, SoundVocabulary}
+use Rattle.patterns.specs.contracts.Reached.{Reached, CanBe}
+use Rattle.patterns.specs.contracts.Elements.{wrongElement}
+use Rattle.patterns.specs.contracts.Shows.{Least, nowhere, Tables, ExactTables, notRoot, lowestMark, lowestRoot, lowestWrongIn, lowestWrong}
 use Rattle.patterns.proofs.Closed.{derived-no-gap, derived-closed}
 use Rattle.patterns.proofs.NotRoot.{not-root-exact}
 use Rattle.patterns.proofs.Standing.{Saying, Made, standing, reached-yields}

@@ -15,17 +15,17 @@ use Rattle.vocabularies.specs.Vocabulary.{Formula, conj, disj, neg, truth, attr
 use Rattle.vocabularies.specs.Facts.{Fact, present, ordered, valued, isAmong, add, withFacts, factsOf}
 use Rattle.pages.specs.Items.{Value, string, open-gap, Attribute, Items}
 use Rattle.pages.specs.RightPages.{names, word}
-use Rattle.judging.specs.Judgement.{truthOf, holdsValue, atomsOf}
+use Rattle.judging.specs.contracts.Judgement.{truthOf, holdsValue, atomsOf}
 use Rattle.summaries.specs.Proposal as Proposal
 use Rattle.summaries.specs.Summaries.{Summary}
 use Rattle.summaries.specs.Languages.{AttributesDerive, no-attribute, fixed, filled}
-use Rattle.patterns.specs.Patterns.{flagged, patternOf, join, atomsBy}
-use Rattle.patterns.specs.Morphisms.{factMorphism}
-use Rattle.patterns.specs.Given.{Bounded, NamedOnly}
-use Rattle.patterns.specs.Rounds.{Sets, only, anyBelow, patterns}
-use Rattle.patterns.specs.Reached.{CanBe}
-use Rattle.patterns.specs.Elements.{attributePattern, valuePatterns, attributePatterns, elementPatterns, clauseFails}
-use Rattle.patterns.specs.Exactness.{Exact}
+use Rattle.patterns.specs.contracts.Patterns.{flagged, patternOf, join, atomsBy}
+use Rattle.patterns.specs.contracts.Morphisms.{factMorphism}
+use Rattle.patterns.specs.contracts.Given.{Bounded, NamedOnly}
+use Rattle.patterns.specs.contracts.Rounds.{Sets, only, anyBelow, patterns}
+use Rattle.patterns.specs.contracts.Reached.{CanBe}
+use Rattle.patterns.specs.contracts.Elements.{attributePattern, valuePatterns, attributePatterns, elementPatterns, clauseFails}
+use Rattle.patterns.specs.contracts.Exactness.{Exact}
 use Rattle.patterns.proofs.Tests.{and-both, and-left, and-right, eqb-same, any-below, below-any}
 use Rattle.patterns.proofs.Facts.{Closed, facts-closed, among-add-cases}
 use Rattle.patterns.proofs.Clauses.{numbered-same, pattern-append, pattern-element, pattern-below, truth-of-pattern}

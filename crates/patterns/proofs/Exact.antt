@@ -16,10 +16,10 @@ use Rattle.programs.specs.Program.{templateAt}
 use Rattle.summaries.specs.Proposal.{edge}
 use Rattle.summaries.specs.Summaries.{Summary}
 use Rattle.summaries.specs.Languages.{Derives, ItemDerives, nothing, item-then, text-stays, gap-takes, element-keeps}
-use Rattle.patterns.specs.Morphisms.{Morphism}
-use Rattle.patterns.specs.Given.{Bounded}
-use Rattle.patterns.specs.Rounds.{Set, Sets, only, anyBelow, iterate, attributesTake, allTake, itemTakes, product, patterns, itemPatterns, round, rounds, Settled}
-use Rattle.patterns.specs.Exactness.{Derivable, Exact}
+use Rattle.patterns.specs.contracts.Morphisms.{Morphism}
+use Rattle.patterns.specs.contracts.Given.{Bounded}
+use Rattle.patterns.specs.contracts.Rounds.{Set, Sets, only, anyBelow, iterate, attributesTake, allTake, itemTakes, product, patterns, itemPatterns, round, rounds, Settled}
+use Rattle.patterns.specs.contracts.Exactness.{Derivable, Exact}
 use Rattle.patterns.proofs.Tests.{and-both, and-left, and-right, eqb-same, any-below, below-any}
 use Rattle.patterns.proofs.Words.{word-⋈}
 use Rattle.patterns.proofs.Lawful.{Lawful}

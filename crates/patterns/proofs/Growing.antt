@@ -10,9 +10,9 @@ use Rattle.pages.specs.Items.{Item, text, gap, element, Items, none, more}
 use Rattle.programs.specs.Program.{templateAt}
 use Rattle.summaries.specs.Proposal.{root, edge}
 use Rattle.summaries.specs.Summaries.{Summary}
-use Rattle.patterns.specs.Morphisms.{Morphism}
-use Rattle.patterns.specs.Rounds.{Set, Sets, only, anyBelow, anyTemplate, attributesTake, gapTakes, allTake, itemTakes, patterns, itemPatterns, round}
-use Rattle.patterns.specs.Reached.{leadsTo, contentsOf, itemContents, reachRound, contentRound}
+use Rattle.patterns.specs.contracts.Morphisms.{Morphism}
+use Rattle.patterns.specs.contracts.Rounds.{Set, Sets, only, anyBelow, anyTemplate, attributesTake, gapTakes, allTake, itemTakes, patterns, itemPatterns, round}
+use Rattle.patterns.specs.contracts.Reached.{leadsTo, contentsOf, itemContents, reachRound, contentRound}
 use Rattle.patterns.proofs.Tests.{or-left, or-right, or-cases, and-both, and-left, and-right, same-test, any-below, below-any}
 use Rattle.patterns.proofs.Members.{Within, Same}
 use Rattle.patterns.proofs.Exact.{in-product, factors}

@@ -12,8 +12,8 @@ use Rattle.summaries.specs.Summaries.{Summary, Environment}
 use Rattle.summaries.specs.Languages.{Language, DerivedFrom, graphShown}
 use Rattle.jobs.specs.Job.{Script}
 use Rattle.jobs.specs.JobVerdict.{ShowHolds, NotRootAt, WrongIn}
-use Rattle.patterns.specs.Reached.{Reached}
-use Rattle.patterns.specs.Shows.{Least, Tables, ExactTables, lowestRoot, lowestWrongIn, lowestWrong}
+use Rattle.patterns.specs.contracts.Reached.{Reached}
+use Rattle.patterns.specs.contracts.Shows.{Least, Tables, ExactTables, lowestRoot, lowestWrongIn, lowestWrong}
 use Rattle.patterns.proofs.Standing.{some-into, Made, standing}
 use Rattle.patterns.proofs.Lowest.{least-iff, least-of, least-below, none-of}
 use Rattle.patterns.proofs.Settling.{worked-out}

@@ -7,7 +7,7 @@ use mathlib.Core.Bool.{Bool, true, false, cond}
 use lib.Dec.{eqb}
 use Rattle.vocabularies.specs.Vocabulary.{Formula}
 use Rattle.vocabularies.specs.Facts.{Fact, factsOf}
-use Rattle.patterns.specs.Morphisms.{Morphism, factMorphism, rootMorphism, classOf, joinClasses, empty, alone, other}
+use Rattle.patterns.specs.contracts.Morphisms.{Morphism, factMorphism, rootMorphism, classOf, joinClasses, empty, alone, other}
 use Rattle.patterns.proofs.Facts.{Closed, facts-closed}
 use Rattle.patterns.proofs.Clauses.{pattern-append, pattern-below}
 

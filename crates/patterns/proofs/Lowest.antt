@@ -11,7 +11,7 @@ use borrow.Author.Tests.{leb-true, leb-false, eqb-true, eqb-false}
 use Rattle.pages.specs.Items.{Attribute, Item, text, gap, element, Items, more}
 use Rattle.pages.specs.Items as Items
 use Rattle.pages.specs.RightPages.{SomeElement, SomeElementOf}
-use Rattle.patterns.specs.Shows.{Least, nowhere, least, lower, onlyIf, lowestOver, lowestMark, lowestMarkIn}
+use Rattle.patterns.specs.contracts.Shows.{Least, nowhere, least, lower, onlyIf, lowestOver, lowestMark, lowestMarkIn}
 use Rattle.patterns.proofs.Tests.{or-left, or-right, or-cases, either}
 use Rattle.patterns.proofs.Standing.{some-into, some-either}
 

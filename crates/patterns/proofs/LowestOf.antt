@@ -17,9 +17,9 @@ use Rattle.pages.specs.RightPages.{SomeElement, SomeElementOf}
 use Rattle.programs.specs.Program.{templateAt}
 use Rattle.patterns.specs.declared.Wrong.{Wrong}
 use Rattle.patterns.specs.declared.Wrong.the-variants.{Nowhere, At}
-use Rattle.patterns.specs.Shows.{Least, nowhere, least, lower, lowestMark}
-use Rattle.patterns.specs.LowestWrong.{lowerWrong, wrongIn, LowestWrong, lowest, Test, Passing}
-use Rattle.patterns.specs.LowestWrong as LowestWrong
+use Rattle.patterns.specs.contracts.Shows.{Least, nowhere, least, lower, lowestMark}
+use Rattle.patterns.specs.contracts.LowestWrong.{lowerWrong, wrongIn, LowestWrong, lowest, Test, Passing}
+use Rattle.patterns.specs.contracts.LowestWrong as LowestWrong
 use Rattle.patterns.proofs.Tests.{or-left, or-right, or-cases, either}
 use Rattle.patterns.proofs.Standing.{some-into, some-either}
 use Rattle.patterns.proofs.Lowest.{least-mark}

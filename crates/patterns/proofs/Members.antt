@@ -3,11 +3,13 @@
 use Prim.Native.Nat.{ℕ, zero, suc, _+_, _*_, _≤_, _<_}
 use native.Mathlib.Omega.{arith}
 use mathlib.Core.Path.{_≡_, refl, sym, ap, _∙_}
-use mathlib.Core.Bool.{Bool, true, false, cond, not, _&&_, false≢true, true≢false}
+use mathlib.Core.Bool.{Bool, true, false, not, _&&_, true≢false}
 use mathlib.Core.Logic.{_⊎_, inl, inr, ⊎-elim}
 use lib.Dec.{eqb}
 use borrow.Author.Tests.{eqb-true, eqb-false, not-true}
-use Rattle.patterns.specs.Rounds.{Set, Sets, anyBelow}
+use Rattle.sets.specs.contracts.Promises.{countBelow}
+use Rattle.sets.proofs.Counts.{count-grows, count-more, count-most}
+use Rattle.patterns.specs.contracts.Rounds.{Set, Sets, anyBelow}
 use Rattle.patterns.proofs.Tests.{and-both, and-left, and-right, either, same-test, any-below, below-any}
 
 -- Y holds what X holds, of the first N templates and the numbers below M.
@@ -17,59 +19,11 @@ Within N M X Y = (n x : ℕ) → n < N → x < M → X n x ≡ true → Y n x �
 abbrev pub Same : ℕ → ℕ → Sets → Sets → Type 0
 Same N M X Y = (n x : ℕ) → n < N → x < M → X n x ≡ Y n x
 
--- How many numbers below n a set holds, and how many members the sets of the first N templates have below M.
-unfoldable pub countBelow : ℕ → Set → ℕ
-countBelow zero A = 0
-countBelow (suc n) A = countBelow n A + cond (A n) 1 0
-
+-- How many members the sets of the first N templates have below M.
 unfoldable pub members : ℕ → ℕ → Sets → ℕ
 unfolding countBelow
 members zero M X = 0
 members (suc N) M X = members N M X + countBelow M (X N)
-
-one-grows : (a b : Bool) → (a ≡ true → b ≡ true) → cond a 1 0 ≤ cond b 1 0
-one-grows true true h = omega arith
-one-grows true false h = absurd (false≢true (h refl))
-one-grows false true h = omega arith
-one-grows false false h = omega arith
-
-pub count-grows : (n : ℕ) (A B : Set) → ((x : ℕ) → x < n → A x ≡ true → B x ≡ true) → countBelow n A ≤ countBelow n B
-unfolding countBelow
-count-grows zero A B h = omega arith
-count-grows (suc n) A B h =
-    let below : countBelow n A ≤ countBelow n B = count-grows n A B (λ x k. h x (omega arith)) in
-    let last = one-grows (A n) (B n) (h n (omega arith)) in
-    omega arith
-
--- A number that only the larger set holds.
-pub count-more : (n : ℕ) (A B : Set) → ((x : ℕ) → x < n → A x ≡ true → B x ≡ true) → (y : ℕ) → y < n → A y ≡ false → B y ≡ true
-    → countBelow n A < countBelow n B
-unfolding countBelow
-count-more zero A B h y k no-a yes-b = absurd (omega arith)
-count-more (suc n) A B h y k no-a yes-b = ⊎-elim
-    (λ (e : eqb y n ≡ true). here (eqb-true y n e))
-    (λ (e : eqb y n ≡ false).
-    let ne : y ≡ n → ⊥ = eqb-false y n e in
-    let below : countBelow n A < countBelow n B = count-more n A B (λ x i. h x (omega arith)) y (omega arith) no-a yes-b in
-    let last = one-grows (A n) (B n) (h n (omega arith)) in
-    omega arith)
-    (either (eqb y n))
-  where
-    here : y ≡ n → countBelow n A + cond (A n) 1 0 < countBelow n B + cond (B n) 1 0
-    here e =
-        let a : A n ≡ false = rw (← e) no-a in
-        let b : B n ≡ true = rw (← e) yes-b in
-        let below : countBelow n A ≤ countBelow n B = count-grows n A B (λ x i. h x (omega arith)) in
-        rw (a, b) (omega arith)
-
-pub count-most : (n : ℕ) (A : Set) → countBelow n A ≤ n
-unfolding countBelow
-count-most zero A = omega arith
-count-most (suc n) A = go (A n) (count-most n A)
-  where
-    go : (b : Bool) → countBelow n A ≤ n → countBelow n A + cond b 1 0 ≤ suc n
-    go true h = omega arith
-    go false h = omega arith
 
 pub members-grow : (N M : ℕ) (X Y : Sets) → Within N M X Y → members N M X ≤ members N M Y
 unfolding members

@@ -11,18 +11,18 @@ use borrow.Author.Tests.{ne-eqb}
 use Rattle.vocabularies.specs.Vocabulary.{Vocabulary}
 use Rattle.pages.specs.Items.{Item, text, gap, element, Items, none, more, gapIn, gapInItem}
 use Rattle.pages.specs.RightPages.{word, wordItem, RootAlone}
-use Rattle.judging.specs.Judgement.{isAlone}
+use Rattle.judging.specs.contracts.Judgement.{isAlone}
 use Rattle.summaries.specs.Proposal.{root}
 use Rattle.summaries.specs.Summaries.{Summary}
 use Rattle.summaries.specs.Languages.{DerivedFrom}
 use Rattle.agreement.proofs.Deciding.{false-iff}
 use Rattle.agreement.proofs.Gaps.{NoGap}
 use Rattle.agreement.proofs.Roots.{decided-alone}
-use Rattle.patterns.specs.Morphisms.{rootMorphism, classOf, empty, alone, other}
-use Rattle.patterns.specs.Given.{Bounded}
-use Rattle.patterns.specs.Rounds.{Sets}
-use Rattle.patterns.specs.Exactness.{Exact}
-use Rattle.patterns.specs.Shows.{notRoot}
+use Rattle.patterns.specs.contracts.Morphisms.{rootMorphism, classOf, empty, alone, other}
+use Rattle.patterns.specs.contracts.Given.{Bounded}
+use Rattle.patterns.specs.contracts.Rounds.{Sets}
+use Rattle.patterns.specs.contracts.Exactness.{Exact}
+use Rattle.patterns.specs.contracts.Shows.{notRoot}
 use Rattle.patterns.proofs.Tests.{or-left, or-right, or-cases, and-both, and-left, and-right, eqb-same}
 use Rattle.patterns.proofs.Lawful.{root-lawful}
 use Rattle.patterns.proofs.Closed.{derived-no-gap}

@@ -11,13 +11,13 @@ use borrow.Author.Tests.{eqb-true}
 use Rattle.vocabularies.specs.Vocabulary.{Formula, isIn}
 use Rattle.vocabularies.specs.Facts.{Fact, present, ordered, valued, isAmong, factsOf}
 use Rattle.pages.specs.Items.{Item, text, gap, element, Items, none, more}
-use Rattle.judging.specs.Judgement.{precedes, holdsValue}
+use Rattle.judging.specs.contracts.Judgement.{precedes, holdsValue}
 use Rattle.summaries.specs.Proposal.{edge}
 use Rattle.summaries.specs.Summaries.{Summary}
-use Rattle.patterns.specs.Patterns.{flagged, patternOf, flagIn, joinedFlag, join}
-use Rattle.patterns.specs.Morphisms.{Morphism, factMorphism, rootMorphism, classOf, joinClasses, empty, other}
-use Rattle.patterns.specs.Given.{Bounded}
-use Rattle.patterns.specs.Rounds.{Set, Sets, only, product, anyBelow, allTake, itemTakes, patterns, itemPatterns}
+use Rattle.patterns.specs.contracts.Patterns.{flagged, patternOf, flagIn, joinedFlag, join}
+use Rattle.patterns.specs.contracts.Morphisms.{Morphism, factMorphism, rootMorphism, classOf, joinClasses, empty, other}
+use Rattle.patterns.specs.contracts.Given.{Bounded}
+use Rattle.patterns.specs.contracts.Rounds.{Set, Sets, only, product, anyBelow, allTake, itemTakes, patterns, itemPatterns}
 use Rattle.patterns.proofs.Tests.{and-both, and-left, and-right, same-test, eqb-same, any-below, below-any}
 use Rattle.patterns.proofs.Facts.{Closed, facts-closed}
 use Rattle.patterns.proofs.Clauses.{numbered-below, numbered-same, flag-numbered, flag-of}

@@ -12,11 +12,11 @@ use Rattle.pages.specs.RightPages.{word}
 use Rattle.programs.specs.Program.{templateAt}
 use Rattle.summaries.specs.Proposal.{root, edge}
 use Rattle.summaries.specs.Summaries.{Summary}
-use Rattle.patterns.specs.Morphisms.{Morphism}
-use Rattle.patterns.specs.Given.{Bounded}
-use Rattle.patterns.specs.Rounds.{Set, Sets, anyBelow, anyTemplate, iterate}
-use Rattle.patterns.specs.Reached.{Yields, Reached, from-root, through-gap, leadsTo, itemLeadsTo, reachRound, reachRounds}
-use Rattle.patterns.specs.Exactness.{Exact, YieldsExact, ReachedExact}
+use Rattle.patterns.specs.contracts.Morphisms.{Morphism}
+use Rattle.patterns.specs.contracts.Given.{Bounded}
+use Rattle.patterns.specs.contracts.Rounds.{Set, Sets, anyBelow, anyTemplate, iterate}
+use Rattle.patterns.specs.contracts.Reached.{Yields, Reached, from-root, through-gap, leadsTo, itemLeadsTo, reachRound, reachRounds}
+use Rattle.patterns.specs.contracts.Exactness.{Exact, YieldsExact, ReachedExact}
 use Rattle.patterns.proofs.Tests.{or-left, or-right, or-cases, and-both, and-left, and-right, eqb-same, any-below, below-any}
 use Rattle.patterns.proofs.Lawful.{Lawful}
 

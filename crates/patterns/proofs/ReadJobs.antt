@@ -12,7 +12,7 @@ use Rattle.summaries.specs.Summaries.{Summary, Environment, entries}
 use Rattle.summaries.specs.Languages.{graphShown}
 use Rattle.jobs.specs.Job.{Script, Job, script, job}
 use Rattle.agreement.proofs.Readings.{Gives, gives, given, gives-any, gives-then, gives-alone}
-use Rattle.patterns.specs.Given.{Bounded, NamesInRange, SoundVocabulary}
+use Rattle.patterns.specs.contracts.Given.{Bounded, NamesInRange, SoundVocabulary}
 use Rattle.patterns.proofs.ReadVocabularies.{Bytes, vocabulary-sound}
 use Rattle.patterns.proofs.ReadTemplates.{templates-in-range}
 use Rattle.patterns.proofs.ReadProposals.{proposal-in-range, shown-bounded}

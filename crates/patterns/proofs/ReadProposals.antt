@@ -23,7 +23,7 @@ use Rattle.summaries.specs.ProposalReading.{holdingAt, holdingThere, rank, hold
 use Rattle.summaries.specs.Summaries.{Summary, Environment, sameCode, saysClaim, held, sameVariable, under, entries}
 use Rattle.summaries.specs.Languages.{closedSummary, summaryShown, closedIfShown, statementGraph, graphShown}
 use Rattle.agreement.proofs.Readings.{Gives, gives, refuses, runs-out, gives-when, gives-then}
-use Rattle.patterns.specs.Given.{Bounded}
+use Rattle.patterns.specs.contracts.Given.{Bounded}
 use Rattle.patterns.proofs.Tests.{or-cases, and-left, and-right}
 use Rattle.patterns.proofs.Ranges.{Ranged, ranges-of, gives-ranged}
 

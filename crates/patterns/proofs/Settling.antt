@@ -11,12 +11,12 @@ use Rattle.pages.specs.Items.{Items}
 use Rattle.vocabularies.specs.Vocabulary.{Vocabulary}
 use Rattle.vocabularies.specs.Facts.{factsOf}
 use Rattle.summaries.specs.Summaries.{Summary}
-use Rattle.patterns.specs.Morphisms.{Morphism, factMorphism, rootMorphism}
-use Rattle.patterns.specs.Given.{Bounded, contents, NamesInRange}
-use Rattle.patterns.specs.Rounds.{Set, Sets, anyBelow, iterate, round, rounds, Settled}
-use Rattle.patterns.specs.Reached.{reachRound, reachRounds, contentRound, contentRounds}
-use Rattle.patterns.specs.Exactness.{YieldsExact}
-use Rattle.patterns.specs.Shows.{Tables, ExactTables}
+use Rattle.patterns.specs.contracts.Morphisms.{Morphism, factMorphism, rootMorphism}
+use Rattle.patterns.specs.contracts.Given.{Bounded, contents, NamesInRange}
+use Rattle.patterns.specs.contracts.Rounds.{Set, Sets, anyBelow, iterate, round, rounds, Settled}
+use Rattle.patterns.specs.contracts.Reached.{reachRound, reachRounds, contentRound, contentRounds}
+use Rattle.patterns.specs.contracts.Exactness.{YieldsExact}
+use Rattle.patterns.specs.contracts.Shows.{Tables, ExactTables}
 use Rattle.patterns.proofs.Lawful.{clause-lawful, root-lawful}
 use Rattle.patterns.proofs.Members.{Within, Same, members, members-most, same-or-more}
 use Rattle.patterns.proofs.Growing.{round-more, content-round-more, reach-round-more}

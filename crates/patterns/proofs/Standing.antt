@@ -13,7 +13,7 @@ use Rattle.programs.specs.Program.{templateAt}
 use Rattle.summaries.specs.Proposal.{edge}
 use Rattle.summaries.specs.Summaries.{Summary}
 use Rattle.summaries.specs.Languages.{Derives, ItemDerives, Language, nothing, item-then, text-stays, gap-takes, element-keeps}
-use Rattle.patterns.specs.Reached.{Yields, Reached, from-root, through-gap, CanBe}
+use Rattle.patterns.specs.contracts.Reached.{Yields, Reached, from-root, through-gap, CanBe}
 use Rattle.patterns.proofs.Tests.{or-left, or-right, or-cases, eqb-same}
 
 -- What is said of an element: its name, mark, attributes and contents.

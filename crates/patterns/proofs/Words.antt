@@ -7,7 +7,7 @@ use lib.Dec.{eqb}
 use Rattle.vocabularies.specs.Vocabulary.{isIn}
 use Rattle.pages.specs.Items.{Attribute, Item, text, gap, element, Items, none, more, _⋈_}
 use Rattle.pages.specs.RightPages.{word, wordItem}
-use Rattle.judging.specs.Judgement.{precedes, holdsValue, hasString}
+use Rattle.judging.specs.contracts.Judgement.{precedes, holdsValue, hasString}
 use Rattle.patterns.proofs.Tests.{eqb-sym}
 
 pub in-append : (c : ℕ) (u v : List ℕ) → isIn c (u ++ v) ≡ (isIn c u || isIn c v)

@@ -11,17 +11,17 @@ use Rattle.vocabularies.specs.Vocabulary.{Formula, Rule, Vocabulary, ruleOf, is
 use Rattle.vocabularies.specs.Facts.{factsOf}
 use Rattle.pages.specs.Items.{Attribute, Items}
 use Rattle.pages.specs.RightPages.{_∈_, names, word, ElementRight, SomeElement}
-use Rattle.judging.specs.Judgement.{truthOf, atomsOf, allIn, allTrue, rightUnder, rightBy}
+use Rattle.judging.specs.contracts.Judgement.{truthOf, atomsOf, allIn, allTrue, rightUnder, rightBy}
 use Rattle.summaries.specs.Summaries.{Summary}
 use Rattle.summaries.specs.Languages.{AttributesDerive, Derives}
 use Rattle.agreement.proofs.Deciding.{false-iff}
 use Rattle.agreement.proofs.Elements.{decided-right}
-use Rattle.patterns.specs.Morphisms.{factMorphism}
-use Rattle.patterns.specs.Given.{Bounded, contents, NamesInRange, NamedOnly}
-use Rattle.patterns.specs.Rounds.{Sets}
-use Rattle.patterns.specs.Reached.{CanBe, contentsOf}
-use Rattle.patterns.specs.Elements.{clauseFails, someClauseFails, contentOutside, wrongUnder, wrongBy, wrongElement}
-use Rattle.patterns.specs.Exactness.{Exact, ContentsExact}
+use Rattle.patterns.specs.contracts.Morphisms.{factMorphism}
+use Rattle.patterns.specs.contracts.Given.{Bounded, contents, NamesInRange, NamedOnly}
+use Rattle.patterns.specs.contracts.Rounds.{Sets}
+use Rattle.patterns.specs.contracts.Reached.{CanBe, contentsOf}
+use Rattle.patterns.specs.contracts.Elements.{clauseFails, someClauseFails, contentOutside, wrongUnder, wrongBy, wrongElement}
+use Rattle.patterns.specs.contracts.Exactness.{Exact, ContentsExact}
 use Rattle.patterns.proofs.Tests.{or-left, or-right, or-cases, and-both, and-left, and-right, eqb-same, any-below, below-any}
 use Rattle.patterns.proofs.Contents.{occurs-small, items-contents-exact}
 use Rattle.patterns.proofs.ElementPatterns.{names-kept, clause-exact}

@@ -1,9 +1,1 @@
-pub mod Patterns
-pub mod Morphisms
-pub mod Given
-pub mod Rounds
-pub mod Reached
-pub mod Exactness
-pub mod Elements
-pub mod Shows
-pub mod LowestWrong
+pub mod contracts

@@ -1,6 +1,6 @@
 // The sets of fact patterns that decide a show exactly; and wrong elements as the search for them answers.
 ghost use mathlib.Core.Path.{_≡_};
-ghost use Rattle.patterns.specs.LowestWrong.{lowerWrong};
+ghost use Rattle.patterns.specs.contracts.LowestWrong.{lowerWrong};
 
 // An element that is wrong in some page (document 01, verdict 12), by its template and the offset of its `23`; or there is none.
 pub enum Wrong {

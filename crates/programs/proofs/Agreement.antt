@@ -13,7 +13,7 @@ use Rattle.commands.specs.declared.Part.{Part}
 use Rattle.commands.specs.declared.Part.the-variants.{Whole, Refused}
 use Rattle.commands.specs.Commands.{command}
 use Rattle.commands.specs.Reading.{Read, whole, refused, unfinished, andThen, enough}
-use Rattle.commands.specs.Parts.{AgreesAs, Enough}
+use Rattle.commands.specs.contracts.Parts.{AgreesAs, Enough}
 use Rattle.commands.proofs.Laws.{MovedOver, moved}
 
 -- Code that agrees with a reading agrees with what the reading is made into.

@@ -7,7 +7,7 @@ use mathlib.Core.Option.{some}
 use Rattle.commands.specs.Commands.{gap, string, variable, byte, operandsOf, allInRange}
 use Rattle.programs.specs.declared.Statement.{Statement}
 use Rattle.programs.specs.ProgramReading.{statementOf}
-use Rattle.programs.specs.Promises.{asStatement, statementHere, StatementFits}
+use Rattle.programs.specs.contracts.Promises.{asStatement, statementHere, StatementFits}
 use Rattle.programs.proofs.Ranges.{nth, variable-low, gap-low, string-low}
 use Rattle.programs.proofs.Statements.{read-cases}
 

@@ -14,7 +14,7 @@ use Rattle.commands.specs.Commands.{command}
 use Rattle.commands.proofs.Laws.{moved}
 use Rattle.programs.specs.declared.Statement.{Statement}
 use Rattle.programs.specs.ProgramReading.{statementRead, templatesThere, mostPoints, statementContext}
-use Rattle.programs.specs.Promises.{asStatement, statementHere, testedHere, testedStatement}
+use Rattle.programs.specs.contracts.Promises.{asStatement, statementHere, testedHere, testedStatement}
 
 module _ (count : ℕ) (s : List ℕ) (before at : ℕ) (x : Context) (d : Decoded) (x-is : x ≡ statementContext before) (d-is : d ≡ command x s at) where
   told : testedHere count s before at d ≡ testedStatement count s before at

@@ -10,7 +10,7 @@ use Rattle.sets.proofs.Laws.{member-zero}
 use Rattle.programs.specs.declared.Act.{Act}
 use Rattle.programs.specs.declared.Statement.{Statement}
 use Rattle.programs.specs.Program.{copyTemplate, setTemplate, copyString, setString, anyString, plug, plugString, show, stop, Variable, templateVariable, stringVariable, actNames, statementNames}
-use Rattle.programs.specs.Promises.{asAct, asStatement, ActFits, StatementFits, numberOf, IsVariable, isTemplate, isString, Adds, Names}
+use Rattle.programs.specs.contracts.Promises.{asAct, asStatement, ActFits, StatementFits, numberOf, IsVariable, isTemplate, isString, Adds, Names}
 
 same-shifted : (k y : ℕ) → eqb (4 + k) (4 + y) ≡ eqb k y
 same-shifted k y = decided (eqb k y) refl

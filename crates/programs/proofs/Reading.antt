@@ -18,7 +18,7 @@ use Rattle.commands.specs.declared.Part.the-variants as Parts
 use Rattle.commands.specs.Commands.{command}
 use Rattle.commands.specs.Reading.{Read, whole, refused, andThen, onDecoded, when}
 use Rattle.commands.proofs.Laws.{MovedOver, moved}
-use Rattle.vocabularies.specs.Promises.{partOf}
+use Rattle.vocabularies.specs.contracts.Promises.{partOf}
 use Rattle.programs.specs.declared.ProgramRead.{ProgramRead}
 use Rattle.programs.specs.declared.Statement as Declared
 use Rattle.programs.specs.Program.{statementNames, named}
@@ -26,7 +26,7 @@ use Rattle.programs.specs.ProgramReading.{Placed, statementRead, templat
 use Rattle.programs.proofs.Agreement.{agrees-map, enough-after, Stay}
 use Rattle.programs.proofs.Statements.{next-place}
 use Rattle.programs.proofs.Decoding.{statement-fits}
-use Rattle.programs.specs.Promises.{asStatement, statementHere, StatementFits, testedHere, testedStatement, numberOf, Names, placedAt, placed, Stands, Kept, StatementsRead}
+use Rattle.programs.specs.contracts.Promises.{asStatement, statementHere, StatementFits, testedHere, testedStatement, numberOf, Names, placedAt, placed, Stands, Kept, StatementsRead}
 
 never-ends : {A : Type 0} (f : Form) (n code : ℕ) (next : Position) → Refused f n ≡ Moved code next → A
 never-ends f n code next e = absurd (let z : _≡_ {A = ℕ} 0 1 = cc in omega arith)

@@ -11,7 +11,7 @@ use lib.Dec.{eqb}
 use borrow.Author.Tests.{ne-eqb, eqb-true, not-true, not-false}
 use Rattle.programs.specs.declared.Statement as Declared
 use Rattle.programs.specs.Program.{copyTemplate, setTemplate, copyString, setString, anyString, plug, plugString, show, Statement, step, stop}
-use Rattle.programs.specs.Promises.{asStatement, statementHere, placedAt, placed}
+use Rattle.programs.specs.contracts.Promises.{asStatement, statementHere, placedAt, placed}
 use Rattle.programs.specs.ProgramReading.{statementOf, pointsThere, strayed}
 
 picked : {A : Type 0} (P : A → Type 0) (b : Bool) (x y : A) → (b ≡ true → P x) → (b ≡ false → P y) → P (cond b x y)

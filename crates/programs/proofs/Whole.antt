@@ -15,14 +15,14 @@ use Rattle.commands.specs.declared.Position.{Position}
 use Rattle.commands.specs.declared.Part.the-variants.{Whole, Refused}
 use Rattle.commands.specs.Commands.{byte}
 use Rattle.commands.specs.Reading.{whole, enough}
-use Rattle.commands.specs.Parts.{Enough}
+use Rattle.commands.specs.contracts.Parts.{Enough}
 use Rattle.programs.proofs.Agreement.{WholeAs, agrees-whole, agrees-refused, whole-agrees, refused-agrees, enough-enough}
 use Rattle.programs.specs.declared.ProgramRead.{ProgramRead}
 use Rattle.programs.specs.declared.Stray.{Stray}
 use Rattle.programs.specs.declared.Stray.the-variants.{At, Nowhere}
 use Rattle.programs.specs.Program.{statementAt}
 use Rattle.programs.specs.ProgramReading.{Placed, statementRead, mostPoints, pointsThere, statements, strayed, unlessStrayed, program}
-use Rattle.programs.specs.Promises.{numberOf, placedAt, placed, strayOf, Kept, StatementsRead, Tabled, ProgramReads}
+use Rattle.programs.specs.contracts.Promises.{numberOf, placedAt, placed, strayOf, Kept, StatementsRead, Tabled, ProgramReads}
 
 pub refused-whole : (s : List ℕ) (count at : ℕ) (r : ProgramRead) (f : Form) (n : ℕ) → StatementsRead s count 0 0 at r → r .part ≡ Refused f n → ProgramReads s count at r
 unfolding program

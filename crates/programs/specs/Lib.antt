@@ -1,4 +1,4 @@
 pub mod Program
 pub mod ProgramReading
 pub mod Runs
-pub mod Promises
+pub mod contracts

@@ -1,5 +1,5 @@
 -- Programs as trees (document 01, "A job, command by command", Program; source 000, section 2, "Programs"). The statement of point i
--- is the i-th of the list. Variables x and y are 0 to 3, templates are numbered from 1, template 0 is empty.
+-- is the i-th of the list, from 0. Variables x and y are 0 to 3, templates are numbered from 1, template 0 is empty.
 use Prim.Native.Nat.{ℕ, zero, suc}
 use mathlib.Core.List.{List, [], _∷_}
 use mathlib.Core.Bool.{Bool, false, _||_}

@@ -6,7 +6,7 @@ ghost use lib.Seq.{slice};
 ghost use Rattle.commands.specs.Commands.{byte};
 ghost use Rattle.programs.specs.Program.{actNames, statementNames};
 ghost use Rattle.programs.specs.ProgramReading.{statementContext, actTemplatesThere, templatesThere, pointsThere, strayed};
-ghost use Rattle.programs.specs.Promises.{asAct, asStatement, statementHere, ActFits, StatementFits, testedStatement, isTemplate, isString, Adds, Names, StatementsRead, placed, strayOf, ProgramReads};
+ghost use Rattle.programs.specs.contracts.Promises.{asAct, asStatement, statementHere, ActFits, StatementFits, testedStatement, isTemplate, isString, Adds, Names, StatementsRead, placed, strayOf, ProgramReads};
 use commands::Context;
 use commands::Decoded;
 use commands::Part;

@@ -10,13 +10,13 @@ use Rattle.sets.specs.Sets.{member}
 use Rattle.pages.specs.Items.{Items}
 use Rattle.summaries.specs.Proposal.{edge}
 use Rattle.summaries.specs.Summaries.{Summary}
-use Rattle.graphs.specs.Graphs.{holds}
-use Rattle.patterns.specs.Given.{contents}
-use Rattle.patterns.specs.Rounds.{Sets, anyTemplate}
+use Rattle.graphs.specs.contracts.Graphs.{holds}
+use Rattle.patterns.specs.contracts.Given.{contents}
+use Rattle.patterns.specs.contracts.Rounds.{Sets, anyTemplate}
 use Rattle.patterns.proofs.Tests.{and-both, and-left, and-right, same-test, any-below, below-any}
-use Rattle.reach.specs.Closures.{United}
-use Rattle.reach.specs.Promises.{GraphKept}
-use Rattle.reach.specs.Walking.{ContentsKept, TellsBrings}
+use Rattle.reach.specs.contracts.Closures.{United}
+use Rattle.reach.specs.contracts.Promises.{GraphKept}
+use Rattle.reach.specs.contracts.Walking.{ContentsKept, TellsBrings}
 use Rattle.reach.proofs.Sets.{not-in-zero}
 use Rattle.reach.proofs.Filling.{Filled}
 

@@ -7,7 +7,7 @@ use mathlib.Core.Bool.{Bool, true, false, not, _&&_, false≢true}
 use mathlib.Core.Logic.{⊎-elim}
 use lib.ListN.{getD}
 use Rattle.sets.specs.Sets.{member}
-use Rattle.reach.specs.Closures.{United, ClosedUnder, Closure}
+use Rattle.reach.specs.contracts.Closures.{United, ClosedUnder, Closure}
 use Rattle.reach.proofs.Sets.{larger}
 
 -- A set that has the start, and lies in every closed set that has it. What its members other than the fresh ones lead to is in it.

@@ -11,9 +11,9 @@ use borrow.Author.Tests.{lt-ltb, ltb-true}
 use Rattle.sets.specs.Sets.{member}
 use Rattle.summaries.specs.Proposal.{edge}
 use Rattle.summaries.specs.Summaries.{Summary}
-use Rattle.graphs.specs.Graphs.{holds, Keeps}
+use Rattle.graphs.specs.contracts.Graphs.{holds, Keeps}
 use Rattle.patterns.proofs.Tests.{and-both, and-left, and-right, same-test, any-below, below-any}
-use Rattle.reach.specs.Promises.{edgesBy, EdgeTable}
+use Rattle.reach.specs.contracts.Promises.{edgesBy, EdgeTable}
 use Rattle.reach.proofs.Sets.{not-in-zero}
 use Rattle.reach.proofs.Unions.{UnitedTo}
 use Rattle.reach.proofs.Filling.{Filled}

@@ -16,15 +16,15 @@ use Rattle.pages.specs.RightPages.{word}
 use Rattle.programs.specs.Program.{templateAt}
 use Rattle.summaries.specs.Proposal.{edge}
 use Rattle.summaries.specs.Summaries.{Summary}
-use Rattle.patterns.specs.Rounds.{Sets}
-use Rattle.patterns.specs.Reached.{Yields, contentsOf}
-use Rattle.patterns.specs.Exactness.{YieldsExact, ContentsExact}
+use Rattle.patterns.specs.contracts.Rounds.{Sets}
+use Rattle.patterns.specs.contracts.Reached.{Yields, contentsOf}
+use Rattle.patterns.specs.contracts.Exactness.{YieldsExact, ContentsExact}
 use Rattle.patterns.proofs.Tests.{and-both, and-left, and-right, same-test, eqb-same, any-below, below-any}
 use Rattle.patterns.proofs.Contents.{occurs-made, occurs-found}
-use Rattle.pages.specs.Gaps.{hasGap}
-use Rattle.reach.specs.Closures.{ClosedUnder}
-use Rattle.reach.specs.Outlines.{gapAmong, Outline}
-use Rattle.reach.specs.Promises.{EdgeTable, GraphKept, OutlinesTo, LedContents}
+use Rattle.pages.specs.contracts.Gaps.{hasGap}
+use Rattle.reach.specs.contracts.Closures.{ClosedUnder}
+use Rattle.reach.specs.contracts.Outlines.{gapAmong, Outline}
+use Rattle.reach.specs.contracts.Promises.{EdgeTable, GraphKept, OutlinesTo, LedContents}
 use Rattle.reach.proofs.Sets.{not-in-zero}
 use Rattle.reach.proofs.Outlining.{contents-from, contents-own, contents-brought}
 use Rattle.reach.proofs.Reaching.{edge-yields, edge-gap, gap-edge}

@@ -17,20 +17,20 @@ use Rattle.pages.specs.declared.ItemHere.the-variants.{Text, Gap, Element, End}
 use Rattle.pages.specs.Items.{Attribute, Items, one}
 use Rattle.pages.specs.Items as Items
 use Rattle.pages.specs.ItemReading.{items}
-use Rattle.pages.specs.Steps.{itemHere, NamesAt}
+use Rattle.pages.specs.contracts.Steps.{itemHere, NamesAt}
 use Rattle.pages.proofs.Steps.{text-first, gap-first, element-first, end-first, element-item, no-attribute}
 use Rattle.summaries.specs.Summaries.{Summary}
 use Rattle.patterns.specs.declared.Wrong.{Wrong}
 use Rattle.patterns.specs.declared.Wrong.the-variants.{Nowhere}
-use Rattle.patterns.specs.Rounds.{Sets}
-use Rattle.patterns.specs.Shows.{lower, onlyIf, lowestMark}
-use Rattle.patterns.specs.LowestWrong.{lowerWrong, wrongIn}
+use Rattle.patterns.specs.contracts.Rounds.{Sets}
+use Rattle.patterns.specs.contracts.Shows.{lower, onlyIf, lowestMark}
+use Rattle.patterns.specs.contracts.LowestWrong.{lowerWrong, wrongIn}
 use Rattle.patterns.proofs.LowestOf.{lower-in, lower-nowhere, lower-assoc}
 use Rattle.reach.specs.declared.WalkedElement.{WalkedElement}
 use Rattle.reach.specs.declared.WalkedItems.{WalkedItems}
-use Rattle.reach.specs.Closures.{United}
-use Rattle.reach.specs.PlainlyWrong.{plainlyUnder, plainlyWrong}
-use Rattle.reach.specs.Walking.{RulesKept, Brings, TellsOutside, WalksElement, WalksItems}
+use Rattle.reach.specs.contracts.Closures.{United}
+use Rattle.reach.specs.contracts.PlainlyWrong.{plainlyUnder, plainlyWrong}
+use Rattle.reach.specs.contracts.Walking.{RulesKept, Brings, TellsOutside, WalksElement, WalksItems}
 use Rattle.reach.proofs.Marks.{lower-none, mark-first}
 use Rattle.reach.proofs.Outlining.{Outlined, outlined-none, outlined-all, outlined-text, outlined-gap, outlined-element, contents-by}
 

@@ -5,7 +5,7 @@ use mathlib.Core.List.{List}
 use mathlib.Core.Bool.{Bool}
 use mathlib.Core.Option.{Option, some, none}
 use Rattle.pages.specs.Items.{Attribute, Item, Items, more, one}
-use Rattle.patterns.specs.Shows.{lower, lowestMark, lowestMarkIn}
+use Rattle.patterns.specs.contracts.Shows.{lower, lowestMark, lowestMarkIn}
 
 -- With none.
 pub lower-none : (a : Option ℕ) → lower a none ≡ a

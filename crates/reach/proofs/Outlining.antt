@@ -15,14 +15,14 @@ use Rattle.pages.specs.Items.{Attribute, Item, text, gap, element, Items, none,
 use Rattle.pages.specs.RightPages.{word, wordItem}
 use Rattle.summaries.specs.Proposal.{edge}
 use Rattle.summaries.specs.Summaries.{Summary}
-use Rattle.patterns.specs.Given.{contents}
-use Rattle.patterns.specs.Rounds.{Sets, anyTemplate}
-use Rattle.patterns.specs.Reached.{contentsOf, itemContents}
+use Rattle.patterns.specs.contracts.Given.{contents}
+use Rattle.patterns.specs.contracts.Rounds.{Sets, anyTemplate}
+use Rattle.patterns.specs.contracts.Reached.{contentsOf, itemContents}
 use Rattle.patterns.proofs.Tests.{or-left, or-right, or-cases, and-both, and-left, and-right, same-test, eqb-same}
-use Rattle.pages.specs.Gaps.{hasGap}
-use Rattle.reach.specs.Closures.{United}
-use Rattle.reach.specs.Outlines.{isGap, gapAmong, Outline}
-use Rattle.reach.specs.Walking.{Brings}
+use Rattle.pages.specs.contracts.Gaps.{hasGap}
+use Rattle.reach.specs.contracts.Closures.{United}
+use Rattle.reach.specs.contracts.Outlines.{isGap, gapAmong, Outline}
+use Rattle.reach.specs.contracts.Walking.{Brings}
 use Rattle.reach.proofs.Sets.{not-in-zero, moved-first}
 
 no-gap : (g : ℕ) → hasGap 0 g ≡ false

@@ -3,21 +3,22 @@ use Prim.Native.Nat.{ℕ, _<_}
 use mathlib.Core.Path.{_≡_, sym, ap, _∙_}
 use mathlib.Core.List.{List}
 use mathlib.Core.Bool.{Bool, true, false, not, _&&_, false≢true}
-use Rattle.sets.specs.Sets.{member, MembersWithin}
+use Rattle.sets.specs.Sets.{member}
+use Rattle.sets.specs.contracts.Promises.{MembersWithin}
 use Rattle.vocabularies.specs.Vocabulary.{isIn}
 use Rattle.pages.specs.Items.{Items}
 use Rattle.pages.specs.RightPages.{names}
-use Rattle.judging.specs.Judgement.{allIn}
+use Rattle.judging.specs.contracts.Judgement.{allIn}
 use Rattle.judging.proofs.Rules.{within-lists}
 use Rattle.summaries.specs.Summaries.{Summary}
 use Rattle.patterns.specs.declared.Wrong.the-variants.{Nowhere, At}
-use Rattle.patterns.specs.Given.{contents}
-use Rattle.patterns.specs.Rounds.{Sets, anyBelow}
-use Rattle.patterns.specs.Reached.{contentsOf}
-use Rattle.patterns.specs.Elements.{contentOutside}
+use Rattle.patterns.specs.contracts.Given.{contents}
+use Rattle.patterns.specs.contracts.Rounds.{Sets, anyBelow}
+use Rattle.patterns.specs.contracts.Reached.{contentsOf}
+use Rattle.patterns.specs.contracts.Elements.{contentOutside}
 use Rattle.patterns.proofs.Tests.{and-both, and-left, and-right, failed, any-below, below-any}
-use Rattle.reach.specs.PlainlyWrong.{plainlyUnder}
-use Rattle.reach.specs.Walking.{TellsOutside}
+use Rattle.reach.specs.contracts.PlainlyWrong.{plainlyUnder}
+use Rattle.reach.specs.contracts.Walking.{TellsOutside}
 
 module _ (φs : List Items) (G : Summary) (C : Sets) (n : ℕ) (allowed : List ℕ) (φ : Items) (inside held : ℕ)
     (is : (c : ℕ) → c < contents → member inside c ≡ contentsOf φs G C n φ c) (is-held : (c : ℕ) → member held c ≡ isIn c allowed) where

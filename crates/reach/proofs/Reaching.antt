@@ -11,17 +11,17 @@ use lib.Dec.{ltb}
 use borrow.Author.Tests.{lt-ltb, ltb-true, ltb-false}
 use Rattle.sets.specs.Sets.{member}
 use Rattle.pages.specs.Items.{Items}
-use Rattle.pages.specs.Gaps.{GapsTable}
+use Rattle.pages.specs.contracts.Gaps.{GapsTable}
 use Rattle.summaries.specs.Proposal.{root, edge}
 use Rattle.summaries.specs.Summaries.{Summary}
-use Rattle.graphs.specs.Graphs.{holds}
-use Rattle.patterns.specs.Rounds.{Set}
-use Rattle.patterns.specs.Reached.{Reached, from-root, through-gap}
-use Rattle.patterns.specs.Exactness.{YieldsExact, ReachedExact}
+use Rattle.graphs.specs.contracts.Graphs.{holds}
+use Rattle.patterns.specs.contracts.Rounds.{Set}
+use Rattle.patterns.specs.contracts.Reached.{Reached, from-root, through-gap}
+use Rattle.patterns.specs.contracts.Exactness.{YieldsExact, ReachedExact}
 use Rattle.patterns.proofs.Tests.{and-both, and-left, and-right, either, same-test, any-below, below-any}
 use Rattle.patterns.proofs.Reaching.{reached-there}
-use Rattle.reach.specs.Closures.{ClosedUnder, Closure}
-use Rattle.reach.specs.Promises.{edgesBy, EdgeTable, GraphKept}
+use Rattle.reach.specs.contracts.Closures.{ClosedUnder, Closure}
+use Rattle.reach.specs.contracts.Promises.{edgesBy, EdgeTable, GraphKept}
 use Rattle.reach.proofs.Sets.{not-in-zero}
 
 -- What an edge of the table tells.

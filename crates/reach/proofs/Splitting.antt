@@ -7,9 +7,9 @@ use mathlib.Core.Option.{Option, some, none}
 use Rattle.vocabularies.specs.Vocabulary.{Formula, Rule, Vocabulary, ruleOf}
 use Rattle.pages.specs.Items.{Attribute, Items}
 use Rattle.summaries.specs.Summaries.{Summary}
-use Rattle.patterns.specs.Rounds.{Sets}
-use Rattle.patterns.specs.Elements.{wrongUnder, wrongBy, wrongElement}
-use Rattle.reach.specs.PlainlyWrong.{plainlyUnder, plainlyBy, plainlyWrong, clauseBy, wrongByClause}
+use Rattle.patterns.specs.contracts.Rounds.{Sets}
+use Rattle.patterns.specs.contracts.Elements.{wrongUnder, wrongBy, wrongElement}
+use Rattle.reach.specs.contracts.PlainlyWrong.{plainlyUnder, plainlyBy, plainlyWrong, clauseBy, wrongByClause}
 
 module _ (φs : List Items) (G : Summary) (X : Formula → Sets) (C : Sets) where
   by-split : (o : Option Rule) (n : ℕ) (δ : List Attribute) (φ : Items)

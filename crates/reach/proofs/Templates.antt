@@ -6,23 +6,24 @@ use mathlib.Core.List.{List, [], _∷_}
 use mathlib.Core.Bool.{true}
 use mathlib.Core.Logic.{_⊎_, ⊎-elim}
 use lib.ListN.{length, getD}
-use Rattle.sets.specs.Sets.{member, FirstMember}
+use Rattle.sets.specs.Sets.{member}
+use Rattle.sets.specs.contracts.Promises.{FirstMember}
 use Rattle.commands.specs.Reading.{whole}
 use Rattle.vocabularies.specs.declared.Tables.{Tables}
 use Rattle.vocabularies.specs.Vocabulary.{Vocabulary, declared}
-use Rattle.vocabularies.specs.Promises.{Describes}
+use Rattle.vocabularies.specs.contracts.Promises.{Describes}
 use Rattle.pages.specs.Items.{Items, none}
-use Rattle.pages.specs.Promises.{Located}
+use Rattle.pages.specs.contracts.Promises.{Located}
 use Rattle.programs.specs.Program.{templateAt}
 use Rattle.summaries.specs.Summaries.{Summary}
 use Rattle.patterns.specs.declared.Wrong.{Wrong}
 use Rattle.patterns.specs.declared.Wrong.the-variants.{Nowhere}
-use Rattle.patterns.specs.Rounds.{Sets}
-use Rattle.patterns.specs.LowestWrong.{lowerWrong, LowestWrong}
+use Rattle.patterns.specs.contracts.Rounds.{Sets}
+use Rattle.patterns.specs.contracts.LowestWrong.{lowerWrong, LowestWrong}
 use Rattle.patterns.proofs.LowestOf.{Below, looked-none, looked-more, looked-all}
-use Rattle.reach.specs.PlainlyWrong.{plainlyWrong}
-use Rattle.reach.specs.Promises.{GraphKept}
-use Rattle.reach.specs.Walking.{RulesKept, ContentsKept, TellsWrongIn, TellsPlainlyWrong}
+use Rattle.reach.specs.contracts.PlainlyWrong.{plainlyWrong}
+use Rattle.reach.specs.contracts.Promises.{GraphKept}
+use Rattle.reach.specs.contracts.Walking.{RulesKept, ContentsKept, TellsWrongIn, TellsPlainlyWrong}
 
 -- Template 0 is empty, and the others stand in the list from its first place on.
 pub template-none : (φs : List Items) → templateAt φs 0 ≡ none

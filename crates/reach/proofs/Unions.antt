@@ -11,8 +11,8 @@ use lib.Dec.{ltb}
 use borrow.Author.Tests.{ltb-true, ltb-false}
 use Rattle.sets.specs.Sets.{member}
 use Rattle.patterns.proofs.Tests.{or-left, or-right, or-cases, either}
-use Rattle.sets.specs.Sets.{FirstMember}
-use Rattle.reach.specs.Closures.{United}
+use Rattle.sets.specs.contracts.Promises.{FirstMember}
+use Rattle.reach.specs.contracts.Closures.{United}
 use Rattle.reach.proofs.Sets.{not-in-zero, member-low}
 
 module _ (first set : ℕ) (leads : ℕ → ℕ → Bool) where

@@ -11,13 +11,13 @@ use lib.Dec.{eqb, ltb}
 use borrow.Author.Tests.{eq-eqb, ne-eqb, ltb-true, ltb-false}
 use Rattle.sets.specs.Sets.{member}
 use Rattle.sets.proofs.Laws.{member-zero}
-use Rattle.patterns.specs.Morphisms.{rootMorphism}
-use Rattle.patterns.specs.Rounds.{anyBelow}
+use Rattle.patterns.specs.contracts.Morphisms.{rootMorphism}
+use Rattle.patterns.specs.contracts.Rounds.{anyBelow}
 use Rattle.patterns.proofs.Tests.{either, any-below, below-any}
 use Rattle.patterns.proofs.Lawful.{root-lawful}
 use Rattle.patterns.proofs.Reaching.{yields-exact}
-use Rattle.pattern_sets.specs.PatternSets.{holds, IsEmpty}
-use Rattle.reach.specs.Promises.{TellsYielding}
+use Rattle.pattern_sets.specs.contracts.PatternSets.{holds, IsEmpty}
+use Rattle.reach.specs.contracts.Promises.{TellsYielding}
 
 -- Of the templates below n those with some class, and no other template.
 pub record YieldingTo (classes : List (List ℕ)) (n set : ℕ) : Type 0 where

@@ -1,5 +1,1 @@
-pub mod Closures
-pub mod Outlines
-pub mod PlainlyWrong
-pub mod Promises
-pub mod Walking
+pub mod contracts

@@ -5,10 +5,10 @@ ghost use Prim.Native.Nat.{ℕ, _≤_, _<_};
 ghost use lib.ListN.{length};
 ghost use Rattle.sets.specs.Sets.{member};
 ghost use Rattle.summaries.specs.Summaries.{Summary};
-ghost use Rattle.graphs.specs.Graphs.{Keeps};
-ghost use Rattle.reach.specs.Closures.{United, Closure};
-ghost use Rattle.reach.specs.Promises.{TellsYielding, edgesBy, EdgeTable, TellsReached, LedContents, TellsContents};
-ghost use Rattle.reach.specs.Walking.{TellsOutside, WalksElement, WalksItems, TellsBrings, TellsWrongIn, TellsPlainlyWrong};
+ghost use Rattle.graphs.specs.contracts.Graphs.{Keeps};
+ghost use Rattle.reach.specs.contracts.Closures.{United, Closure};
+ghost use Rattle.reach.specs.contracts.Promises.{TellsYielding, edgesBy, EdgeTable, TellsReached, LedContents, TellsContents};
+ghost use Rattle.reach.specs.contracts.Walking.{TellsOutside, WalksElement, WalksItems, TellsBrings, TellsWrongIn, TellsPlainlyWrong};
 use commands::Position;
 use graphs::Graph;
 use pages::ItemHere;
@@ -112,7 +112,8 @@ pub struct WalkedElement {
     pub wrong: Wrong,
 }
 
-// The same of a list of items, with the contents and the gaps that stand among the outer ones.
+// A list of items that was walked over: the contents and the gaps among the outer ones, the position after it, and the lowest element in it
+// that is plainly wrong.
 pub struct WalkedItems {
     pub inside: u64,
     pub gaps: u64,

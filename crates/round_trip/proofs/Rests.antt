@@ -16,7 +16,8 @@ use Rattle.commands.specs.Commands.{Operand, element, attribute, content, gap, 
 use Rattle.commands.specs.Reading.{Read, whole}
 use Rattle.commands.proofs.Laws.{moves}
 use Rattle.vocabularies.specs.VocabularyReading.{alone}
-use Rattle.round_trip.specs.Written.{highest-first, IsElement}
+use Rattle.round_trip.specs.Written.{highest-first}
+use Rattle.round_trip.specs.InRange.{IsElement}
 
 -- `w` is what stands in the bytes s from an offset on.
 pub record Rest (s : List ℕ) (at : ℕ) (w : List ℕ) : Type 0 where

@@ -2,7 +2,7 @@
 use Prim.Native.Nat.{ℕ, zero, suc, _+_, _≤_, _<_}
 use native.Mathlib.Omega.{arith}
 use mathlib.Core.Path.{_≡_, refl, sym, _∙_}
-use mathlib.Core.List.{List, [], _∷_, _++_, map, append-nil}
+use mathlib.Core.List.{List, [], _∷_, _++_, append-nil}
 use mathlib.Core.Bool.{Bool, true, false, cond, _&&_, _||_, not}
 use mathlib.Core.Option.{Option, some}
 use lib.ListN.{length, length-append}
@@ -17,8 +17,9 @@ use Rattle.commands.specs.Reading.{enough, whole, andThen}
 use Rattle.vocabularies.specs.Vocabulary.{Formula, conj, disj, neg, truth, attr, content, order, value, Rule, Vocabulary, ruleOf, isSome, declared}
 use Rattle.vocabularies.specs.VocabularyReading.{ruleBody, formula, rising, clauses, rules, vocabulary, vocabularySlice}
 use Rattle.vocabularies.specs.Facts.{factsOf}
-use Rattle.round_trip.specs.Written.{highest-first, written-formula, written-numbers, written-clauses, written-rules, written-vocabulary, Rising, Distinct, connective-depth, NamesInRange, ClausesInRange, RuleInRange, RulesInRange, VocabularyInRange, IsElement}
-use Rattle.round_trip.proofs.Once.{NoneOf, none-of-none, either-false, none-after}
+use Rattle.round_trip.specs.Written.{highest-first, written-formula, written-numbers, written-clauses, written-rules, written-vocabulary}
+use Rattle.round_trip.specs.InRange.{Rising, Distinct, connective-depth, NamesInRange, ClausesInRange, RuleInRange, RulesInRange, VocabularyInRange, IsElement}
+use Rattle.round_trip.proofs.Once.{NoneOf, none-of-none, either-false, none-after, elements}
 use Rattle.round_trip.proofs.Rests.{Rest, all, head, byte-at, first, behind, grouped, taken, element-goes, ends-at, reads-alone, reads-set, length-highest-first}
 
 -- A formula is read back, whatever stands behind it.
@@ -123,7 +124,7 @@ abbrev NoPart : ℕ → Type 0
 NoPart c = (eqb c 0x02 ≡ false) × (eqb c 0x03 ≡ false) × (eqb c 0x04 ≡ false)
 
 -- What is written behind `01 e`.
-abbrev written-body : Rule → List ℕ
+abbrev pub written-body : Rule → List ℕ
 written-body d = written-numbers 0x02 (d .attributes) ++ written-numbers 0x03 (d .contents) ++ written-clauses (d .clauses)
 
 reads-body : (f : ℕ) (d : Rule) → RuleInRange d → (s : List ℕ) (at : ℕ) (w : List ℕ) → NoPart (head w) → Rest s at (written-body d ++ w) → length s < at + f
@@ -144,14 +145,11 @@ reads-body f d i s at w e r h =
     )
     (ends-at refl (omega (arith, length-append (w₁ ++ w₂) w₃, length-append w₁ w₂)))
 
-abbrev elements : List Rule → List ℕ
-elements rs = map (λ d. d .element) rs
-
 some-or : (b : Bool) (d : Rule) (o : Option Rule) → isSome (cond b (some d) o) ≡ (b || isSome o)
 some-or true d o = refl
 some-or false d o = refl
 
-declared-cons : (d : Rule) (ds : List Rule) (e : ℕ) → declared (d ∷ ds) e ≡ (eqb (d .element) e || declared ds e)
+pub declared-cons : (d : Rule) (ds : List Rule) (e : ℕ) → declared (d ∷ ds) e ≡ (eqb (d .element) e || declared ds e)
 unfolding ruleOf
 declared-cons d ds e = some-or (eqb (d .element) e) d (ruleOf ds e)
 

@@ -1,1 +1,5 @@
 pub mod Written
+pub mod InRange
+pub mod WrittenJob
+pub mod JobInRange
+pub mod Exact

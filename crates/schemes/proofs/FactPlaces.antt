@@ -12,10 +12,10 @@ use borrow.Author.Tests.{eq-eqb, ne-eqb, ltb-true, ltb-false}
 use Rattle.sets.specs.Sets.{member}
 use Rattle.sets.proofs.Laws.{member-zero}
 use Rattle.vocabularies.specs.Facts.{Fact, present, sameFact}
-use Rattle.patterns.specs.Patterns.{flagIn}
+use Rattle.patterns.specs.contracts.Patterns.{flagIn}
 use Rattle.patterns.proofs.Tests.{failed}
 use Rattle.patterns.proofs.Facts.{same-fact, fact-same}
-use Rattle.schemes.specs.Schemes.{Distinct, placeOf}
+use Rattle.schemes.specs.contracts.Schemes.{Distinct, placeOf}
 use Rattle.sets.proofs.Laws.{member-head, member-tail}
 
 -- A pattern's flag of a fact is its bit at the fact's place.

@@ -13,16 +13,16 @@ use Rattle.sets.specs.Sets.{member}
 use Rattle.sets.proofs.Laws.{member-and, member-or, member-zero, member-high, member-single}
 use Rattle.vocabularies.specs.Vocabulary.{isIn}
 use Rattle.vocabularies.specs.Facts.{Fact, present, ordered, valued, sameFact}
-use Rattle.judging.specs.Judgement.{precedes, holdsValue}
-use Rattle.patterns.specs.Patterns.{flagged, patternOf, flagIn, joinedFlag, join}
-use Rattle.patterns.specs.Morphisms as Morphisms
-use Rattle.patterns.specs.Morphisms.{classOf}
+use Rattle.judging.specs.contracts.Judgement.{precedes, holdsValue}
+use Rattle.patterns.specs.contracts.Patterns.{flagged, patternOf, flagIn, joinedFlag, join}
+use Rattle.patterns.specs.contracts.Morphisms as Morphisms
+use Rattle.patterns.specs.contracts.Morphisms.{classOf}
 use Rattle.patterns.proofs.Clauses.{numbered-below}
 use Rattle.patterns.proofs.Bits.{pattern-of-nothing}
 use Rattle.schemes.specs.declared.Scheme.{Scheme}
-use Rattle.schemes.specs.Schemes.{placeOf, contentOf, pairPlace, beforeOf, afterOf, Lists, StandsForFacts, StandsFor, of-facts, of-root}
-use Rattle.schemes.specs.Promises.{PatternOfOne, FirstPlace}
-use Rattle.pattern_sets.specs.Images.{flagAt, joinedBy, Apart}
+use Rattle.schemes.specs.contracts.Schemes.{placeOf, contentOf, pairPlace, beforeOf, afterOf, Lists, StandsForFacts, StandsFor, of-facts, of-root}
+use Rattle.schemes.specs.contracts.Promises.{PatternOfOne, FirstPlace}
+use Rattle.pattern_sets.specs.contracts.Images.{flagAt, joinedBy, Apart}
 use Rattle.pattern_sets.proofs.Booleans.{or-absent}
 use Rattle.pattern_sets.proofs.Flags.{pattern-below, pattern-bit, pattern-high, pattern-is, pattern-same}
 use Rattle.schemes.proofs.Numbers.{numbered-is}

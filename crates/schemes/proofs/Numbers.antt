@@ -11,7 +11,7 @@ use borrow.Author.Tests.{ltb-true, ltb-false}
 use Rattle.sets.specs.Sets.{member}
 use Rattle.sets.proofs.Laws.{member-high, same-members}
 use Rattle.vocabularies.specs.Facts.{Fact, present}
-use Rattle.patterns.specs.Patterns.{numbered}
+use Rattle.patterns.specs.contracts.Patterns.{numbered}
 use Rattle.patterns.proofs.Clauses.{numbered-below}
 use Rattle.patterns.proofs.Bits.{numbered-bit}
 

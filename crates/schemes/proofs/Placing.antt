@@ -16,10 +16,10 @@ use Rattle.vocabularies.specs.declared.Fact as Kept
 use Rattle.vocabularies.specs.declared.Fact.the-variants.{Present, Ordered, Valued}
 use Rattle.vocabularies.specs.declared.Facts.{Facts}
 use Rattle.vocabularies.specs.Facts.{Fact, present, sameFact}
-use Rattle.vocabularies.specs.Promises.{meaningOf, keptAt, Represents}
+use Rattle.vocabularies.specs.contracts.Promises.{meaningOf, keptAt, Represents}
 use Rattle.patterns.proofs.Facts.{same-fact, fact-same}
-use Rattle.schemes.specs.Schemes.{placeOf, Lists}
-use Rattle.schemes.specs.Promises.{OfFacts, Places, PlacesPair, FirstPlace}
+use Rattle.schemes.specs.contracts.Schemes.{placeOf, Lists}
+use Rattle.schemes.specs.contracts.Promises.{OfFacts, Places, PlacesPair, FirstPlace}
 use Rattle.schemes.proofs.FactPlaces.{place-le, place-first, fact-placed}
 
 -- A table that keeps at most eight facts keeps as many as it says.

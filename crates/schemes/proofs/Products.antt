@@ -7,17 +7,17 @@ use native.Mathlib.Omega.{arith}
 use lib.Dec.{eqb, ltb}
 use borrow.Author.Tests.{eq-eqb, ne-eqb, eqb-true, ltb-true, ltb-false}
 use Rattle.vocabularies.specs.Facts.{Fact}
-use Rattle.patterns.specs.Patterns.{join}
-use Rattle.patterns.specs.Morphisms as Morphisms
-use Rattle.patterns.specs.Morphisms.{factMorphism, joinClasses}
-use Rattle.patterns.specs.Rounds.{Set, only, anyBelow, product}
+use Rattle.patterns.specs.contracts.Patterns.{join}
+use Rattle.patterns.specs.contracts.Morphisms as Morphisms
+use Rattle.patterns.specs.contracts.Morphisms.{factMorphism, joinClasses}
+use Rattle.patterns.specs.contracts.Rounds.{Set, only, anyBelow, product}
 use Rattle.patterns.proofs.Tests.{and-both, and-left, and-right, same-test, failed, any-below, below-any}
 use Rattle.schemes.specs.declared.Scheme.{Scheme}
-use Rattle.pattern_sets.specs.PatternSets.{holds, Same}
-use Rattle.pattern_sets.specs.Images.{joinedBy, Apart, Joined}
+use Rattle.pattern_sets.specs.contracts.PatternSets.{holds, Same}
+use Rattle.pattern_sets.specs.contracts.Images.{joinedBy, Apart, Joined}
 use Rattle.pattern_sets.proofs.Imaging.{joined-zero}
-use Rattle.schemes.specs.Schemes.{StandsForFacts, StandsFor, of-facts, of-root, Is}
-use Rattle.schemes.specs.Promises.{Below, Multiplies, Follows}
+use Rattle.schemes.specs.contracts.Schemes.{StandsForFacts, StandsFor, of-facts, of-root, Is}
+use Rattle.schemes.specs.contracts.Promises.{Below, Multiplies, Follows}
 use Rattle.schemes.proofs.Joining.{joined-op, joined-turned, apart-left, apart-right, size-most, joined-below}
 
 held-below : {R : Morphisms.Morphism} (words : List ℕ) (S : Set) → Is R words S → Below R words

@@ -9,12 +9,12 @@ use native.Mathlib.Omega.{arith}
 use lib.ListN.{length}
 use lib.Dec.{eqb, ltb}
 use borrow.Author.Tests.{ne-eqb, eqb-true, ltb-true, ltb-false}
-use Rattle.patterns.specs.Morphisms.{joinClasses}
+use Rattle.patterns.specs.contracts.Morphisms.{joinClasses}
 use Rattle.patterns.proofs.Tests.{or-left, or-right, or-cases, and-both, and-left, and-right}
-use Rattle.pattern_sets.specs.PatternSets.{holds, First}
-use Rattle.pattern_sets.specs.Images.{Joined}
+use Rattle.pattern_sets.specs.contracts.PatternSets.{holds, First}
+use Rattle.pattern_sets.specs.contracts.Images.{Joined}
 use Rattle.pattern_sets.proofs.Laws.{held-small}
-use Rattle.schemes.specs.Promises.{HasMore, BothHaveMore}
+use Rattle.schemes.specs.contracts.Promises.{HasMore, BothHaveMore}
 
 pub tells-more : (set : List ℕ) (first : ℕ) → length set ≡ 4 → First set 1 first → (t : Bool) → ltb first 256 ≡ t → HasMore set t
 tells-more set first four f true e = (first, f .is-held (ltb-true first 256 e), λ q. let l : 1 ≤ first = f .after in omega arith)

@@ -2,12 +2,12 @@
 ghost use mathlib.Core.Path.{_≡_};
 ghost use mathlib.Core.Bool.{_&&_};
 ghost use Prim.Native.Nat.{ℕ, _≤_, _<_};
-ghost use Rattle.vocabularies.specs.Promises.{meaningOf};
-ghost use Rattle.patterns.specs.Morphisms.{joinClasses, rootMorphism};
-ghost use Rattle.pattern_sets.specs.PatternSets.{holds};
-ghost use Rattle.pattern_sets.specs.Images.{Joined};
-ghost use Rattle.schemes.specs.Schemes.{contentOf, StandsFor};
-ghost use Rattle.schemes.specs.Promises.{Places, PlacesPair, AllContents, AllPairs, KeepsFacts, SameBytes, SameScheme, FirstPlace, PatternOfOne, HasMore, BothHaveMore, Multiplies, Follows};
+ghost use Rattle.vocabularies.specs.contracts.Promises.{meaningOf};
+ghost use Rattle.patterns.specs.contracts.Morphisms.{joinClasses, rootMorphism};
+ghost use Rattle.pattern_sets.specs.contracts.PatternSets.{holds};
+ghost use Rattle.pattern_sets.specs.contracts.Images.{Joined};
+ghost use Rattle.schemes.specs.contracts.Schemes.{contentOf, StandsFor};
+ghost use Rattle.schemes.specs.contracts.Promises.{Places, PlacesPair, AllContents, AllPairs, KeepsFacts, SameBytes, SameScheme, FirstPlace, PatternOfOne, HasMore, BothHaveMore, Multiplies, Follows};
 use vocabularies::Fact;
 use vocabularies::Facts;
 

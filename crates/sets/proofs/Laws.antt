@@ -11,7 +11,8 @@ use lib.Bits.{bitAnd, bitOr, bitXor, differ, and-step, or-step, xor-step, and-sh
 use lib.Dec.{eqb, ltb, lit<}
 use lib.Pow.{pow-mono, pow-lt, pow-add, shl-shr, shl-exact, shr-shr, shr-lt}
 use borrow.Author.Tests.{eq-eqb, ne-eqb, eqb-true, eqb-false, ltb-true, ltb-false}
-use Rattle.sets.specs.Sets.{member, MembersWithin}
+use Rattle.sets.specs.Sets.{member}
+use Rattle.sets.specs.contracts.Promises.{MembersWithin}
 
 -- ---- one bit
 

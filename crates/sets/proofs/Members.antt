@@ -8,7 +8,8 @@ use lib.Count.{trailingZeros, under}
 use lib.Dec.{eqb, ltb, lit<}
 use lib.Pow.{shr-le}
 use borrow.Author.Tests.{eq-eqb, ne-eqb, ltb-true, ltb-false}
-use Rattle.sets.specs.Sets.{member, FirstMember}
+use Rattle.sets.specs.Sets.{member}
+use Rattle.sets.specs.contracts.Promises.{FirstMember}
 use Rattle.sets.proofs.Laws.{member-zero, member-high, member-head, member-tail, member-shift, same-members}
 
 -- A number doubled, with a lowest bit.

@@ -3,7 +3,8 @@ ghost use mathlib.Core.Path.{_≡_};
 ghost use mathlib.Core.Bool.{not, _&&_, _||_};
 ghost use Prim.Native.Nat.{ℕ, _<_};
 ghost use lib.Dec.{eqb};
-ghost use Rattle.sets.specs.Sets.{member, MembersWithin, FirstMember};
+ghost use Rattle.sets.specs.Sets.{member};
+ghost use Rattle.sets.specs.contracts.Promises.{MembersWithin, FirstMember};
 
 pub fn has(set: u64, i: u8) -> bool
     requires { ⌜ i < 64 ⌝ }
@@ -12,7 +13,7 @@ pub fn has(set: u64, i: u8) -> bool
     (set >> i) % 2 == 1
 }
 
-// The same of any number: from 64 on none is a member.
+// Whether a number, whichever it is, is a member: from 64 on none is.
 pub fn is_member(set: u64, i: u8) -> bool
     ensures { λ r. ⌜ r ≡ member set i ⌝ }
 {

@@ -11,16 +11,16 @@ use Rattle.summaries.specs.Languages.{graphShown}
 use Rattle.jobs.specs.Job.{Script}
 use Rattle.jobs.specs.JobVerdict.{NotRootAt, WrongIn}
 use Rattle.patterns.specs.declared.Wrong as Wrongs
-use Rattle.patterns.specs.Shows.{Least, Tables, ExactTables, notRoot, lowestRoot}
-use Rattle.patterns.specs.LowestWrong.{LowestWrong, lowest}
-use Rattle.patterns.specs.LowestWrong as LowestWrong
+use Rattle.patterns.specs.contracts.Shows.{Least, Tables, ExactTables, notRoot, lowestRoot}
+use Rattle.patterns.specs.contracts.LowestWrong.{LowestWrong, lowest}
+use Rattle.patterns.specs.contracts.LowestWrong as LowestWrong
 use Rattle.patterns.proofs.Lowest.{least-iff, least-of, least-below, none-of, least-none, least-unique, least-test, least-over}
 use Rattle.patterns.proofs.ReadJobs.{GivenShows}
 use Rattle.patterns.proofs.JobShows.{lowest-not-root, lowest-wrong-element, show-holds}
 use Rattle.shows.specs.declared.Shown.the-variants.{NotRoot}
 use Rattle.shows.specs.declared.OtherRoot.{OtherRoot}
 use Rattle.shows.specs.declared.OtherRoot.the-variants.{Nowhere, At}
-use Rattle.shows.specs.Promises.{ShowFound, isOther, otherRoot, LowestRoot, shownOf}
+use Rattle.shows.specs.contracts.Promises.{ShowFound, isOther, otherRoot, LowestRoot, shownOf}
 
 module _ (π : Script) (E : ℕ → Environment) (read : GivenShows π E) (p : ℕ) (G : Summary) (shows : graphShown (π .templates) (π .program) E p ≡ some G) (T : Tables)
     (exact : ExactTables (π .templates) G (π .vocabulary) T) (count : ℕ) (count-is : count ≡ length (π .templates)) where

@@ -13,27 +13,27 @@ use Rattle.summaries.specs.Summaries.{entries}
 use Rattle.jobs.specs.Job.{Job}
 use Rattle.jobs.specs.JobVerdict.{WrongIn}
 use Rattle.patterns.specs.declared.Wrong.{Wrong}
-use Rattle.patterns.specs.Morphisms.{rootMorphism}
-use Rattle.patterns.specs.Given.{Bounded}
-use Rattle.patterns.specs.Exactness.{YieldsExact}
-use Rattle.patterns.specs.Elements.{wrongElement}
-use Rattle.patterns.specs.Shows.{Least, nowhere, least, ExactTables, lowestMark, lowestWrongIn, lowestWrong}
-use Rattle.patterns.specs.Shows as Decided
-use Rattle.patterns.specs.LowestWrong.{lowerWrong, LowestWrong, lowest, Test, Passing}
-use Rattle.patterns.specs.LowestWrong as LowestWrong
+use Rattle.patterns.specs.contracts.Morphisms.{rootMorphism}
+use Rattle.patterns.specs.contracts.Given.{Bounded}
+use Rattle.patterns.specs.contracts.Exactness.{YieldsExact}
+use Rattle.patterns.specs.contracts.Elements.{wrongElement}
+use Rattle.patterns.specs.contracts.Shows.{Least, nowhere, least, ExactTables, lowestMark, lowestWrongIn, lowestWrong}
+use Rattle.patterns.specs.contracts.Shows as Decided
+use Rattle.patterns.specs.contracts.LowestWrong.{lowerWrong, LowestWrong, lowest, Test, Passing}
+use Rattle.patterns.specs.contracts.LowestWrong as LowestWrong
 use Rattle.patterns.proofs.Lowest.{least-iff, least-below, none-of, least-none, least-unique, least-over, least-mark}
 use Rattle.patterns.proofs.LowestOf.{lowest-either, lowest-same}
 use Rattle.patterns.proofs.ReadVocabularies.{Bytes}
 use Rattle.patterns.proofs.ReadJobs.{GivenShows, job-given}
 use Rattle.patterns.proofs.JobShows.{lowest-wrong-element, wrong-in}
-use Rattle.languages.specs.Tables.{SetsAre}
-use Rattle.reach.specs.PlainlyWrong.{plainlyWrong, wrongByClause}
-use Rattle.reach.specs.Promises.{GraphKept, TellsYielding, TellsReached, TellsContents}
-use Rattle.reach.specs.Walking.{RulesKept, ContentsKept, TellsPlainlyWrong}
+use Rattle.languages.specs.contracts.Tables.{SetsAre}
+use Rattle.reach.specs.contracts.PlainlyWrong.{plainlyWrong, wrongByClause}
+use Rattle.reach.specs.contracts.Promises.{GraphKept, TellsYielding, TellsReached, TellsContents}
+use Rattle.reach.specs.contracts.Walking.{RulesKept, ContentsKept, TellsPlainlyWrong}
 use Rattle.reach.proofs.Splitting.{wrong-split}
-use Rattle.elements.specs.Rules.{RulesStand, SearchesRules}
+use Rattle.elements.specs.contracts.Rules.{RulesStand, SearchesRules}
 use Rattle.shows.specs.declared.TemplateTables.{TemplateTables}
-use Rattle.shows.specs.Promises.{ShowAt}
+use Rattle.shows.specs.contracts.Promises.{ShowAt}
 
 module _ (s : List ℕ) (rules : Tables) (templates : TemplateTables) (count : ℕ) (starts graph : List ℕ) (j : Job) (p : ℕ)
     (A : ShowAt s rules templates count starts graph j p) (bytes : Bytes s) where

@@ -9,24 +9,24 @@ use Rattle.vocabularies.specs.declared.Tables.{Tables}
 use Rattle.summaries.specs.Proposal.{root}
 use Rattle.summaries.specs.Summaries.{entries}
 use Rattle.jobs.specs.Job.{Job}
-use Rattle.graphs.specs.Graphs.{holds}
+use Rattle.graphs.specs.contracts.Graphs.{holds}
 use Rattle.patterns.specs.declared.Wrong as Wrongs
-use Rattle.patterns.specs.Morphisms.{empty, other, rootMorphism}
-use Rattle.patterns.specs.Shows.{ExactTables, notRoot}
-use Rattle.patterns.specs.Shows as Decided
+use Rattle.patterns.specs.contracts.Morphisms.{empty, other, rootMorphism}
+use Rattle.patterns.specs.contracts.Shows.{ExactTables, notRoot}
+use Rattle.patterns.specs.contracts.Shows as Decided
 use Rattle.patterns.proofs.ReadVocabularies.{Bytes}
 use Rattle.patterns.proofs.Settling.{worked-out}
 use Rattle.schemes.specs.declared.Scheme.{Scheme}
-use Rattle.schemes.specs.Schemes.{StandsFor}
-use Rattle.languages.specs.Tables.{SetsAre, of-root, Lent}
-use Rattle.languages.specs.Promises.{Settles}
+use Rattle.schemes.specs.contracts.Schemes.{StandsFor}
+use Rattle.languages.specs.contracts.Tables.{SetsAre, of-root, Lent}
+use Rattle.languages.specs.contracts.Promises.{Settles}
 use Rattle.languages.proofs.Settling.{settled-exact}
 use Rattle.shows.specs.declared.TemplateTables.{TemplateTables}
 use Rattle.shows.specs.declared.Shown.{Shown}
 use Rattle.shows.specs.declared.Shown.the-variants.{NotRoot}
 use Rattle.shows.specs.declared.OtherRoot.{OtherRoot}
 use Rattle.shows.specs.declared.OtherRoot.the-variants.{Nowhere, At}
-use Rattle.shows.specs.Promises.{ShowFound, ShowAt, isOther, LowestRoot, shownOf, WrongElements}
+use Rattle.shows.specs.contracts.Promises.{ShowFound, ShowAt, isOther, LowestRoot, shownOf, WrongElements}
 use Rattle.shows.proofs.Deciding.{found-other, no-other, found-wrong}
 use Rattle.shows.proofs.Elements.{given, bounded}
 

@@ -8,11 +8,11 @@ use lib.ListN.{getD}
 use lib.Dec.{eqb, ltb}
 use borrow.Author.Tests.{eqb-true, eqb-false, ltb-true, ltb-false}
 use Rattle.sets.specs.Sets.{member}
-use Rattle.pattern_sets.specs.PatternSets.{holds}
-use Rattle.patterns.specs.Morphisms.{empty, other}
-use Rattle.patterns.specs.Shows.{nowhere, least}
+use Rattle.pattern_sets.specs.contracts.PatternSets.{holds}
+use Rattle.patterns.specs.contracts.Morphisms.{empty, other}
+use Rattle.patterns.specs.contracts.Shows.{nowhere, least}
 use Rattle.shows.specs.declared.OtherRoot.the-variants.{Nowhere, At}
-use Rattle.shows.specs.Promises.{isOther, LowestRoot}
+use Rattle.shows.specs.contracts.Promises.{isOther, LowestRoot}
 
 not-true : (b : Bool) → not b ≡ true → b ≡ false
 not-true true h = absurd (false≢true h)

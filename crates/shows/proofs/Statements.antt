@@ -10,17 +10,17 @@ use Rattle.programs.specs.declared.Act.the-variants.{Show}
 use Rattle.programs.specs.declared.Statement as Declared
 use Rattle.programs.specs.declared.Statement.the-variants.{Step, Stop}
 use Rattle.programs.specs.Program.{Statement}
-use Rattle.programs.specs.Promises.{asAct, asStatement, statementHere, StatementFits}
+use Rattle.programs.specs.contracts.Promises.{asAct, asStatement, statementHere, StatementFits}
 use Rattle.programs.proofs.Decoding.{statement-fits}
 use Rattle.summaries.specs.Summaries.{Summary, Environment, entries}
 use Rattle.summaries.specs.Languages.{closedSummary, summaryShown, statementGraph, graphShown}
 use Rattle.jobs.specs.Job.{Job}
-use Rattle.graphs.specs.Graphs.{Keeps}
-use Rattle.entries.specs.Entries.{Loads}
+use Rattle.graphs.specs.contracts.Graphs.{Keeps}
+use Rattle.entries.specs.contracts.Entries.{Loads}
 use Rattle.entries.proofs.Loading.{kept-entry}
 use Rattle.covering.proofs.Steps.{template-listed}
 use Rattle.shows.specs.declared.Showing.the-variants.{Nothing, Variable}
-use Rattle.shows.specs.Promises.{PointStands, shownAt, ShowsAt, HoldsShown}
+use Rattle.shows.specs.contracts.Promises.{PointStands, shownAt, ShowsAt, HoldsShown}
 
 module _ (s : List ℕ) (place : ℕ) (t : Declared.Statement) (is : asStatement t ≡ statementHere s place) where
   shown-by : (heads : List ℕ) (p : ℕ) (j : Job) → PointStands s heads place p j → shownAt j p ≡ statementGraph (j .script .templates) (asStatement t) (entries (j .proposal) p)

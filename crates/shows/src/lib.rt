@@ -1,7 +1,7 @@
 // The shows of a job (document 01, "Verdicts", 11 and 12): what a point shows, and what is wrong in the pages of its language.
 ghost use mathlib.Core.Path.{_≡_};
 ghost use Prim.Native.Nat.{_<_};
-ghost use Rattle.shows.specs.Promises.{ShowsAt, HoldsShown, TabledBy, DecidesShow, isOther, LowestRoot, shownOf, WrongElements};
+ghost use Rattle.shows.specs.contracts.Promises.{ShowsAt, HoldsShown, TabledBy, DecidesShow, isOther, LowestRoot, shownOf, WrongElements};
 use commands::Position;
 use graphs::Graph;
 use pages::MOST_TEMPLATES;

@@ -2,13 +2,13 @@
 use Prim.Native.Nat.{ℕ}
 use mathlib.Core.Path.{_≡_, ap, subst, _∙_}
 use mathlib.Core.List.{List}
-use mathlib.Core.Bool.{Bool, true, false, false≢true}
+use mathlib.Core.Bool.{Bool, true, false}
 use native.Mathlib.Omega.{arith}
 use lib.ListN.{length}
 use lib.Dec.{leb, ltb}
 use Rattle.verdicts.specs.declared.Form.the-variants.{TooLong, NotAllowed}
-use Rattle.verdicts.specs.declared.Verdict.{Verdict}
-use Rattle.verdicts.specs.Acceptance.{accepts}
+use Rattle.verdicts.specs.declared.Numbers.{Numbers}
+use Rattle.verdicts.proofs.Told.{form-refuses}
 use Rattle.commands.specs.Reading.{Read, whole, refused, andThen, when, enough}
 use Rattle.commands.proofs.Laws.{andThen-whole, when-whole}
 use Rattle.vocabularies.specs.Vocabulary.{Vocabulary, declared}
@@ -77,15 +77,15 @@ module _ (s : List ℕ) where
       subst (λ (k : Job). InRange (k .script .program)) q (script-in-range (c .0) (c .1) (c .2))
 
 -- The runs of a script that is accepted with some entries show only right pages.
-script-shows-right : {π : Script} {E : ℕ → Environment} {answer : Verdict} → InRange (π .program) → accepts answer ≡ true → ScriptVerdict π E answer
+script-shows-right : {π : Script} {E : ℕ → Environment} {v : Numbers} → InRange (π .program) → v .n ≡ 0 → ScriptVerdict π E v
     → (choices : List Choice) → ShowsOnlyRightPages π choices
-script-shows-right r e (start-uncovered h n b) = absurd (false≢true e)
-script-shows-right r e (step-uncovered second starts h n b) = absurd (false≢true e)
-script-shows-right r e (not-root c shows n l) = absurd (false≢true e)
-script-shows-right r e (wrong-element c shows n w l) = absurd (false≢true e)
+script-shows-right r e (start-uncovered h n b) = absurd (omega (arith, e))
+script-shows-right r e (step-uncovered second starts h n b) = absurd (omega (arith, e))
+script-shows-right r e (not-root c shows n l) = absurd (omega (arith, e))
+script-shows-right r e (wrong-element c shows n w l) = absurd (omega (arith, e))
 script-shows-right {π} {E} r e (accepted covered shows) = all-right π E r covered shows
 
--- An answer that is the job's verdict keeps what demand 3 claims.
-pub guarantee : (s : List ℕ) (answer : Verdict) → JobVerdict s answer → Guarantee s answer
-guarantee s answer (unreadable q) e = absurd (false≢true e)
-guarantee s answer (readable {j = j} {end = end} reads v) e = (j, end, reads, script-shows-right (in-range s j end reads) e v)
+-- The job's verdict keeps what demand 3 claims.
+pub guarantee : (s : List ℕ) (v : Numbers) → JobVerdict s v → Guarantee s v
+guarantee s v (unreadable {f = f} q) e = absurd (form-refuses f (ap (λ (k : Numbers). k .n) e))
+guarantee s v (readable {j = j} {end = end} reads h) e = (j, end, reads, script-shows-right (in-range s j end reads) (ap (λ (k : Numbers). k .n) e) h)

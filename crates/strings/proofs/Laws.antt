@@ -7,11 +7,13 @@ use native.Mathlib.Nat.{eq-or-lt-of-le, le-of-suc-le-suc}
 use native.Mathlib.Omega.{arith}
 use lib.Dec.{eqb, ltb, lit<}
 use borrow.Author.Tests.{ltb-true, ltb-false, eqb-true, eqb-false}
-use Rattle.sets.specs.Sets.{member, MembersWithin, FirstMember}
+use Rattle.sets.specs.Sets.{member}
+use Rattle.sets.specs.contracts.Promises.{MembersWithin, FirstMember}
 use Rattle.sets.proofs.Laws.{member-high}
 use Rattle.strings.specs.declared.StringSet.{StringSet}
 use Rattle.strings.specs.declared.Values.{Values}
-use Rattle.strings.specs.Strings.{strings, hasString, StringsWithin, FirstString, holdsValue, ValuesWithin, NoValues}
+use Rattle.strings.specs.Strings.{strings}
+use Rattle.strings.specs.contracts.Promises.{hasString, StringsWithin, FirstString, holdsValue, ValuesWithin, NoValues}
 
 -- The word that has every string.
 unfoldable allBelow : ℕ → (ℕ → Bool) → Bool

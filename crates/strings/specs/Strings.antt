@@ -1,11 +1,5 @@
--- Strings and sets of them (document 01, "A job, command by command": `17 a m`). Strings are numbers: those below `strings` are named,
--- those from there on are the others, which exist without end.
-use Prim.Native.Nat.{ℕ, _≤_, _<_}
-use mathlib.Core.Path.{_≡_}
-use mathlib.Core.Bool.{Bool, true, false, _||_}
-use Rattle.sets.specs.Sets.{member}
-use Rattle.strings.specs.declared.StringSet.{StringSet}
-use Rattle.strings.specs.declared.Values.{Values}
+-- Strings (document 01, "A job, command by command", Vocabulary). They are numbers.
+use Prim.Native.Nat.{ℕ}
 
 -- The named strings are 0 to 63; other strings exist without end, and are the numbers from 64 on.
 abbrev pub strings : ℕ
@@ -14,36 +8,3 @@ strings = 64
 -- String 0 is the empty one.
 abbrev pub emptyString : ℕ
 emptyString = 0
-
--- The number m of a set: bit i of m, counted from the lowest, stands for string i.
-abbrev pub setNumber : StringSet → ℕ
-setNumber set = set .word
-
-abbrev pub hasString : StringSet → ℕ → Bool
-hasString set s = member (setNumber set) s
-
--- By the answer: every string of a is one of b; or a has a string that b lacks.
-abbrev pub StringsWithin : StringSet → StringSet → Bool → Type 0
-StringsWithin a b true = (s : ℕ) → hasString a s ≡ true → hasString b s ≡ true
-StringsWithin a b false = (s : ℕ) × (s < strings) × (hasString a s ≡ true) × (hasString b s ≡ false)
-
--- The first string of a set at a place or after it, or the number of strings where there is none.
-pub record FirstString (set : StringSet) (from first : ℕ) : Type 0 where
-  pub after : from ≤ first
-  pub within : first ≤ strings
-  pub is-held : first < strings → hasString set first ≡ true
-  pub skips : (s : ℕ) → from ≤ s → s < first → hasString set s ≡ false
-
--- Whether an attribute gap can take a string.
-abbrev pub holdsValue : Values → ℕ → Bool
-holdsValue values s = values .any || hasString (values .named) s
-
--- By the answer: what the one can take the other can; or there is a string that the one can take and the other cannot.
-abbrev pub ValuesWithin : Values → Values → Bool → Type 0
-ValuesWithin a b true = (s : ℕ) → holdsValue a s ≡ true → holdsValue b s ≡ true
-ValuesWithin a b false = (s : ℕ) × (holdsValue a s ≡ true) × (holdsValue b s ≡ false)
-
--- By the answer: there is nothing to take; or there is.
-abbrev pub NoValues : Values → Bool → Type 0
-NoValues values true = (s : ℕ) → holdsValue values s ≡ false
-NoValues values false = (s : ℕ) × (s ≤ strings) × (holdsValue values s ≡ true)

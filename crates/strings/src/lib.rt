@@ -3,7 +3,8 @@ ghost use mathlib.Core.Path.{_≡_};
 ghost use mathlib.Core.Bool.{true, false, not, _&&_, _||_};
 ghost use Prim.Native.Nat.{ℕ, _≤_, _<_};
 ghost use lib.Dec.{eqb, ltb};
-ghost use Rattle.strings.specs.Strings.{strings, setNumber, hasString, StringsWithin, FirstString, holdsValue, ValuesWithin, NoValues};
+ghost use Rattle.strings.specs.Strings.{strings};
+ghost use Rattle.strings.specs.contracts.Promises.{setNumber, hasString, StringsWithin, FirstString, holdsValue, ValuesWithin, NoValues};
 
 // A set of named strings.
 pub struct StringSet {

@@ -19,14 +19,14 @@ use Rattle.commands.specs.declared.Part.{Part}
 use Rattle.commands.specs.declared.Part.the-variants as Parts
 use Rattle.commands.specs.Commands.{byte, allowed, command, operandsOf}
 use Rattle.commands.specs.Reading.{Read, whole, refused, andThen, onDecoded, when, enough}
-use Rattle.commands.specs.Parts.{AgreesAs, Enough, partOf}
+use Rattle.commands.specs.contracts.Parts.{AgreesAs, Enough, partOf}
 use Rattle.commands.proofs.Laws.{MovedOver, moved}
 use Rattle.programs.specs.Program.{templateVariable, stringVariable}
 use Rattle.programs.proofs.Laws.{nth, entry-low, WholeAs, agrees-map, agrees-whole, agrees-refused, enough-enough, enough-after, fewer-left, Stay}
 use Rattle.summaries.specs.Proposal.{Holding, Head}
 use Rattle.summaries.specs.ProposalReading.{holdings, variableOf, holdingContext, proposal}
 use Rattle.summaries.specs.Summaries.{sameVariable, under}
-use Rattle.summaries.specs.Promises.{Stand, Kept, ProposalReads, HoldingsRead, testedHead, headHere}
+use Rattle.summaries.specs.contracts.Promises.{Stand, Kept, ProposalReads, HoldingsRead, testedHead, headHere}
 use Rattle.summaries.proofs.Here.{HeadStands}
 use Rattle.summaries.proofs.Reading.{holdings-same}
 

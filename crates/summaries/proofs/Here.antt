@@ -15,7 +15,7 @@ use Rattle.commands.specs.declared.Decoded.{Decoded}
 use Rattle.commands.specs.declared.Decoded.the-variants.{Moved, Refused}
 use Rattle.commands.specs.Commands.{byte, command}
 use Rattle.summaries.specs.ProposalReading.{holdingAt, holdingThere, rank}
-use Rattle.summaries.specs.Promises.{Ranked, testedHead, headHere}
+use Rattle.summaries.specs.contracts.Promises.{Ranked, testedHead, headHere}
 
 -- An item with what is tested on it alone, in document 01's order: 8 before 5.
 abbrev pub testedHolding : ℕ → List ℕ → ℕ → ℕ → Decoded → Decoded

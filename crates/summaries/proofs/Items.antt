@@ -8,7 +8,7 @@ use borrow.Author.Tests.{ne-eqb}
 use Rattle.commands.specs.Commands.{byte, operandBytes}
 use Rattle.summaries.specs.Proposal.{oneString, anyString}
 use Rattle.summaries.specs.ProposalReading.{holdingAt, holdingThere, rank}
-use Rattle.summaries.specs.Promises.{presentAt}
+use Rattle.summaries.specs.contracts.Promises.{presentAt}
 
 -- The command is none of `41` to `46`, as a match has it.
 abbrev pub NoneOfThese : ℕ → Type 0

@@ -17,12 +17,12 @@ use Rattle.commands.specs.declared.Part.{Part}
 use Rattle.commands.specs.declared.Part.the-variants as Parts
 use Rattle.commands.specs.Commands.{byte, allowed, command}
 use Rattle.commands.specs.Reading.{Read, whole, refused, andThen, onDecoded, when}
-use Rattle.commands.specs.Parts.{Enough, partOf}
+use Rattle.commands.specs.contracts.Parts.{Enough, partOf}
 use Rattle.commands.proofs.Laws.{andThen-whole, onDecoded-whole}
 use Rattle.programs.proofs.Laws.{agrees-map, enough-after, fewer-left}
 use Rattle.summaries.specs.Proposal.{Holding}
 use Rattle.summaries.specs.ProposalReading.{holdingAt, holdingThere, rank, holdings}
-use Rattle.summaries.specs.Promises.{Ranked, HoldingsRead}
+use Rattle.summaries.specs.contracts.Promises.{Ranked, HoldingsRead}
 use Rattle.summaries.proofs.Here.{testedHolding, holdingHere, holding-refused, holding-missing, holding-not-rising, holding-moves, HoldingStands, holding-stands}
 
 module _ (x : Context) (count : ℕ) (s : List ℕ) (least at : ℕ) where

@@ -22,7 +22,7 @@ use Rattle.summaries.specs.declared.ClaimHere.the-variants.{Item, End}
 use Rattle.summaries.specs.declared.StringHere.{StringHere}
 use Rattle.summaries.specs.declared.StringHere.the-variants.{One, Any}
 use Rattle.summaries.specs.declared.StringHere.the-variants as Strings
-use Rattle.summaries.specs.Listed.{HoldingFits, ItemAt, over, Listed, meaningOf, claimOf, claimHere, stringOf, stringHere, onFrom, Moves}
+use Rattle.summaries.specs.contracts.Listed.{HoldingFits, ItemAt, over, Listed, meaningOf, claimOf, claimHere, stringOf, stringHere, onFrom, Moves}
 
 -- What the code finds at an offset.
 module _ (s : List ℕ) (at : ℕ) where

@@ -3,5 +3,4 @@ pub mod ProposalReading
 pub mod Summaries
 pub mod Covering
 pub mod Languages
-pub mod Promises
-pub mod Listed
+pub mod contracts

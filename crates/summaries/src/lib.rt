@@ -5,8 +5,8 @@ ghost use lib.ListN.{replicate};
 ghost use lib.Dec.{leb};
 ghost use Rattle.commands.specs.Commands.{byte};
 ghost use Rattle.summaries.specs.ProposalReading.{holdingAt, holdingThere, variableOf, holdingContext};
-ghost use Rattle.summaries.specs.Listed.{claimHere, ClaimMoves, stringHere, StringMoves};
-ghost use Rattle.summaries.specs.Promises.{presentAt, Ranked, headHere, HoldingsRead, ProposalReads};
+ghost use Rattle.summaries.specs.contracts.Listed.{claimHere, ClaimMoves, stringHere, StringMoves};
+ghost use Rattle.summaries.specs.contracts.Promises.{presentAt, Ranked, headHere, HoldingsRead, ProposalReads};
 use commands::Context;
 use commands::Decoded;
 use commands::Part;
@@ -30,7 +30,7 @@ pub enum ClaimHere {
     End,
 }
 
-// The same for a string variable: one string, or any.
+// The item of a string variable here, one string or any, with the position after it, or that none stands here.
 pub enum StringHere {
     One(u8, Position),
     Any(Position),

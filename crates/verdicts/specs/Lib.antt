@@ -1,2 +1,3 @@
 pub mod Printed
-pub mod Acceptance
+pub mod TheVerdict
+pub mod contracts

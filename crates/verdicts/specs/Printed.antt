@@ -12,6 +12,10 @@ use Rattle.verdicts.specs.declared.Verdict.{Verdict}
 use Rattle.verdicts.specs.declared.Verdict.the-variants.{Accepted, Refused}
 use Rattle.verdicts.specs.declared.Numbers.{Numbers}
 
+-- N A B C.
+abbrev pub prints : ℕ → ℕ → ℕ → ℕ → Numbers
+prints n a b c = record { n = n; a = a; b = b; c = c }
+
 abbrev pub formNumber : Form → ℕ
 formNumber TooLong = 1
 formNumber Ended = 2
@@ -23,18 +27,18 @@ formNumber TooManyFacts = 7
 formNumber Missing = 8
 
 abbrev pub coverNumbers : Cover → Numbers
-coverNumbers (Start x) = record { n = 9; a = 0; b = 0; c = x }
-coverNumbers (Step p q x) = record { n = 10; a = p; b = q; c = x }
+coverNumbers (Start x) = prints 9 0 0 x
+coverNumbers (Step p q x) = prints 10 p q x
 
 abbrev pub faultNumbers : Fault → Numbers
-faultNumbers (NotRoot p t) = record { n = 11; a = p; b = t; c = 0 }
-faultNumbers (WrongElement p t at) = record { n = 12; a = p; b = t; c = at }
+faultNumbers (NotRoot p t) = prints 11 p t 0
+faultNumbers (WrongElement p t at) = prints 12 p t at
 
 abbrev pub refusalNumbers : Refusal → Numbers
-refusalNumbers (Refusals.Form f place) = record { n = formNumber f; a = place .at; b = place .slice; c = 0 }
+refusalNumbers (Refusals.Form f place) = prints (formNumber f) (place .at) (place .slice) 0
 refusalNumbers (Refusals.Cover c) = coverNumbers c
 refusalNumbers (Refusals.Page f) = faultNumbers f
 
 abbrev pub numbersOf : Verdict → Numbers
-numbersOf Accepted = record { n = 0; a = 0; b = 0; c = 0 }
+numbersOf Accepted = prints 0 0 0 0
 numbersOf (Refused r) = refusalNumbers r

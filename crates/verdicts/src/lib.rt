@@ -1,7 +1,7 @@
 // What a call answers: acceptance, or a refusal with its kind and place (document 01, "Verdicts").
 ghost use mathlib.Core.Path.{_≡_};
 ghost use Rattle.verdicts.specs.Printed.{formNumber, coverNumbers, faultNumbers, refusalNumbers, numbersOf};
-ghost use Rattle.verdicts.specs.Acceptance.{accepts};
+ghost use Rattle.verdicts.specs.contracts.Acceptance.{accepts};
 
 // Why bytes cannot be read.
 pub enum Form {

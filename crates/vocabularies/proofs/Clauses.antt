@@ -16,12 +16,12 @@ use Rattle.commands.specs.Commands.{byte}
 use Rattle.commands.specs.Reading.{Read, whole, refused, unfinished, andThen, when}
 use Rattle.commands.specs.declared.Past.{Past}
 use Rattle.commands.specs.declared.Past.the-variants.{Over, Other}
-use Rattle.commands.specs.Parts.{Agrees, Enough, past}
+use Rattle.commands.specs.contracts.Parts.{Agrees, Enough, past}
 use Rattle.commands.proofs.Laws.{byte-past, past-over, past-other, andThen-whole}
 use Rattle.vocabularies.specs.Vocabulary.{Formula}
 use Rattle.vocabularies.specs.Facts.{factsOf}
 use Rattle.vocabularies.specs.VocabularyReading.{formula, mostFacts, clauses}
-use Rattle.vocabularies.specs.Promises.{FormulaReads, ManyFacts, ClausesRead}
+use Rattle.vocabularies.specs.contracts.Promises.{FormulaReads, ManyFacts, ClausesRead}
 use Rattle.vocabularies.proofs.Parts.{agrees-whole, agrees-refused, last-agrees, last-whole, Finished, last-finishes, andThen-finishes}
 use Rattle.vocabularies.proofs.Formulas.{formula-ends, formula-fuel, formula-finishes, formula-moved}
 

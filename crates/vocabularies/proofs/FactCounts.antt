@@ -18,7 +18,7 @@ use Rattle.vocabularies.specs.declared.Facts.{Facts}
 use Rattle.vocabularies.specs.Vocabulary.{Formula}
 use Rattle.vocabularies.specs.Facts.{Fact, present, ordered, valued, isAmong, add, withFacts, factsOf}
 use Rattle.vocabularies.specs.VocabularyReading.{Shape, binary, unary, leaf, shapeAt, mostFacts, formula}
-use Rattle.vocabularies.specs.Promises.{FactsRead, ManyFacts}
+use Rattle.vocabularies.specs.contracts.Promises.{FactsRead, ManyFacts}
 use Rattle.vocabularies.proofs.Formulas.{Formed, formed-by, not-formed}
 
 add-most : (x : Fact) (xs : List Fact) → length (add x xs) ≤ length xs + 1

@@ -10,13 +10,13 @@ use lib.Dec.{eqb}
 use borrow.Author.Count.{below-more}
 use borrow.Author.Tests.{eq-eqb, ne-eqb, eqb-true, eqb-false}
 use Rattle.strings.specs.declared.StringSet.{StringSet}
-use Rattle.strings.specs.Strings.{setNumber}
+use Rattle.strings.specs.contracts.Promises.{setNumber}
 use Rattle.vocabularies.specs.declared.Fact as Kept
 use Rattle.vocabularies.specs.declared.Fact.the-variants.{Present, Ordered, Valued}
 use Rattle.vocabularies.specs.declared.KeptFact.{KeptFact}
 use Rattle.vocabularies.specs.declared.Facts.{Facts}
 use Rattle.vocabularies.specs.Facts.{Fact, present, ordered, valued, sameFact, isAmong, add}
-use Rattle.vocabularies.specs.Promises.{meaningOf, keptAt, Stored, Represents, TellsAmong, Adds}
+use Rattle.vocabularies.specs.contracts.Promises.{meaningOf, keptAt, Stored, Represents, TellsAmong, Adds}
 
 -- Facts of one kind are compared by their operands.
 module _ (x : Kept.Fact) where

@@ -17,11 +17,11 @@ use Rattle.commands.specs.declared.Part.{Part}
 use Rattle.commands.specs.declared.Part.the-variants.{Whole, Refused}
 use Rattle.commands.specs.Commands.{command}
 use Rattle.commands.specs.Reading.{Read, whole, refused, unfinished, andThen, when}
-use Rattle.commands.specs.Parts.{Agrees, Enough, partOf}
+use Rattle.commands.specs.contracts.Parts.{Agrees, Enough, partOf}
 use Rattle.commands.proofs.Laws.{moved, MovedOver}
 use Rattle.vocabularies.specs.Vocabulary.{Formula, conj, disj, neg, truth, attr, content, order, value}
 use Rattle.vocabularies.specs.VocabularyReading.{Shape, binary, unary, leaf, shapeAt, formulaNesting, formula}
-use Rattle.vocabularies.specs.Promises.{FormulaReads}
+use Rattle.vocabularies.specs.contracts.Promises.{FormulaReads}
 use Rattle.vocabularies.proofs.Parts.{agrees-whole, agrees-refused, last-agrees, last-whole, plenty, is-plenty, Finished, last-finishes, andThen-finishes, when-finishes}
 
 -- What a formula's first command, of a given shape, makes of the reading.

@@ -6,14 +6,14 @@ use mathlib.Core.Bool.{Bool, true, false, cond}
 use lib.Dec.{eqb}
 use borrow.Author.Tests.{ne-eqb}
 use Rattle.strings.specs.declared.StringSet.{StringSet}
-use Rattle.strings.specs.Strings.{setNumber}
+use Rattle.strings.specs.contracts.Promises.{setNumber}
 use Rattle.commands.specs.Commands.{byte, setAt}
 use Rattle.vocabularies.specs.declared.Fact.the-variants.{Present, Ordered, Valued}
 use Rattle.vocabularies.specs.declared.Facts.{Facts}
 use Rattle.vocabularies.specs.Vocabulary.{Formula, conj, disj, neg, truth, attr, content, order, value}
 use Rattle.vocabularies.specs.Facts.{withFacts}
 use Rattle.vocabularies.specs.VocabularyReading.{binary, unary, leaf, shapeAt}
-use Rattle.vocabularies.specs.Promises.{Adds, FactsWith, LeafAdds}
+use Rattle.vocabularies.specs.contracts.Promises.{Adds, FactsWith, LeafAdds}
 
 pub order-adds : (t t₁ t₂ r : Facts) (c d : ℕ) → Adds t (Present c) t₁ → Adds t₁ (Present d) t₂ → Adds t₂ (Ordered c d) r → FactsWith t (order c d) r
 unfolding withFacts

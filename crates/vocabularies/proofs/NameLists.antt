@@ -18,14 +18,14 @@ use Rattle.commands.specs.declared.Decoded.{Decoded}
 use Rattle.commands.specs.declared.Decoded.the-variants as Decodeds
 use Rattle.commands.specs.declared.Part.{Part}
 use Rattle.commands.specs.declared.Part.the-variants.{Whole, Refused}
-use Rattle.commands.specs.Commands.{byte, allowed, command, operandsOf, inRange, allInRange, attribute, content, Single}
+use Rattle.commands.specs.Commands.{byte, allowed, command, operandsOf, inRange, allInRange, attribute, content}
+use Rattle.commands.specs.contracts.Parts.{Single, AgreesAs, Enough}
 use Rattle.commands.specs.Reading.{Read, whole, refused, unfinished, andThen}
-use Rattle.commands.specs.Parts.{AgreesAs, Enough}
 use Rattle.commands.proofs.Laws.{moved, MovedOver}
 use Rattle.vocabularies.specs.declared.Names.{Names}
 use Rattle.vocabularies.specs.Vocabulary.{isIn}
 use Rattle.vocabularies.specs.VocabularyReading.{rising}
-use Rattle.vocabularies.specs.Promises.{partOf, NamesRead}
+use Rattle.vocabularies.specs.contracts.Promises.{partOf, NamesRead}
 use Rattle.vocabularies.proofs.Parts.{last-agrees-as, last-whole, Finished, last-finishes}
 
 -- One step of the definition.

@@ -14,7 +14,7 @@ use Rattle.commands.specs.declared.Part.{Part}
 use Rattle.commands.specs.declared.Part.the-variants.{Whole, Refused}
 use Rattle.commands.specs.Commands.{command}
 use Rattle.commands.specs.Reading.{Read, whole, refused, unfinished, andThen, when}
-use Rattle.commands.specs.Parts.{Agrees, AgreesAs, Enough}
+use Rattle.commands.specs.contracts.Parts.{Agrees, AgreesAs, Enough}
 use Rattle.commands.proofs.Laws.{moved, MovedOver}
 
 module _ {A : Type 0} (P : A → ℕ → Type 0) where

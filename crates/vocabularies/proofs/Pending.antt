@@ -13,14 +13,15 @@ use Rattle.commands.specs.declared.Context.the-variants.{Formulas}
 use Rattle.commands.specs.declared.Position.{Position}
 use Rattle.commands.specs.declared.Decoded.{Decoded}
 use Rattle.commands.specs.declared.Decoded.the-variants.{Moved, Refused}
-use Rattle.commands.specs.Commands.{byte, allowed, command, stepped}
+use Rattle.commands.specs.Commands.{byte, allowed, command}
+use Rattle.commands.specs.contracts.Parts.{stepped}
 use Rattle.commands.specs.Reading.{whole}
 use Rattle.commands.proofs.Laws.{moved, SteppedOver, stepped-over, stepped-refused}
 use Rattle.vocabularies.specs.declared.Facts.{Facts}
 use Rattle.vocabularies.specs.Vocabulary.{Formula}
 use Rattle.vocabularies.specs.Facts.{Fact, withFacts, factsOf}
 use Rattle.vocabularies.specs.VocabularyReading.{Shape, binary, unary, leaf, shapeAt, formula}
-use Rattle.vocabularies.specs.Promises.{Represents, FactsWith, LeafAdds, FactsRead}
+use Rattle.vocabularies.specs.contracts.Promises.{Represents, FactsWith, LeafAdds, FactsRead}
 use Rattle.vocabularies.proofs.Formulas.{Formed, formed-by, not-formed, formula-ends, leaf-shape}
 
 -- What a command adds: a connective nothing, since its facts are those of its parts, and a leaf its own.

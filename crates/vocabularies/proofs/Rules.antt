@@ -17,14 +17,14 @@ use Rattle.commands.specs.declared.Position.{Position}
 use Rattle.commands.specs.declared.Part.{Part}
 use Rattle.commands.specs.declared.Part.the-variants.{Whole, Refused}
 use Rattle.commands.specs.Reading.{Read, whole, andThen}
-use Rattle.commands.specs.Parts.{Enough}
+use Rattle.commands.specs.contracts.Parts.{Enough}
 use Rattle.commands.proofs.Laws.{andThen-whole}
 use Rattle.vocabularies.specs.declared.Names.{Names}
 use Rattle.vocabularies.specs.declared.RuleRead.{RuleRead}
 use Rattle.vocabularies.specs.declared.Tables.{Tables}
 use Rattle.vocabularies.specs.Vocabulary.{Rule, isIn, ruleOf, isSome, declared}
 use Rattle.vocabularies.specs.VocabularyReading.{rising, clauses, ruleBody}
-use Rattle.vocabularies.specs.Promises.{NamesRead, ClausesRead, RuleTables, RuleReads, DescribesRules, AddsRule}
+use Rattle.vocabularies.specs.contracts.Promises.{NamesRead, ClausesRead, RuleTables, RuleReads, DescribesRules, AddsRule}
 use Rattle.vocabularies.proofs.Parts.{agrees-whole, agrees-refused, agrees-itself, andThen-same, last-agrees-as, last-whole, Finished, last-finishes, andThen-finishes}
 use Rattle.vocabularies.proofs.NameLists.{rising-ends, rising-fuel, rising-finishes}
 use Rattle.vocabularies.proofs.Clauses.{clauses-ends, clauses-fuel, clauses-finishes}

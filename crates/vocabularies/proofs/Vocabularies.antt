@@ -18,14 +18,14 @@ use Rattle.commands.specs.declared.Part.{Part}
 use Rattle.commands.specs.declared.Part.the-variants.{Whole, Refused}
 use Rattle.commands.specs.Commands.{byte, allowed, command, operandsOf, inRange, allInRange}
 use Rattle.commands.specs.Reading.{whole, refused, andThen, enough}
-use Rattle.commands.specs.Parts.{AgreesAs, Enough}
+use Rattle.commands.specs.contracts.Parts.{AgreesAs, Enough}
 use Rattle.commands.proofs.Laws.{moved, MovedOver, andThen-whole}
 use Rattle.vocabularies.specs.declared.RuleRead.{RuleRead}
 use Rattle.vocabularies.specs.declared.Tables.{Tables}
 use Rattle.vocabularies.specs.declared.VocabularyRead.{VocabularyRead}
 use Rattle.vocabularies.specs.Vocabulary.{Rule, Vocabulary, declared}
 use Rattle.vocabularies.specs.VocabularyReading.{ruleBody, rules, vocabulary}
-use Rattle.vocabularies.specs.Promises.{partOf, RuleTables, RuleReads, DescribesRules, AddsRule, Describes, VocabularyReads}
+use Rattle.vocabularies.specs.contracts.Promises.{partOf, RuleTables, RuleReads, DescribesRules, AddsRule, Describes, VocabularyReads}
 use Rattle.vocabularies.proofs.Parts.{agrees-whole, agrees-refused, plenty, is-plenty, Finished, andThen-finishes}
 use Rattle.vocabularies.proofs.Rules.{rule-element, rule-fuel, rule-finishes}
 

@@ -1,3 +1,9 @@
 pub mod ReadingJ1
+pub mod ReadingAttributes
+pub mod Runs
 pub mod RunningJ1
+pub mod Transfers
+pub mod ClosedGraphs
+pub mod Derivations
+pub mod RightPages
 pub mod JudgingJ1

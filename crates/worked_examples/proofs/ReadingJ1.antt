@@ -1,17 +1,14 @@
--- J1 reads as the trees one expects, and its variants that cannot be read get their refusals, by computation.
+-- J1 reads as the trees one expects, by computation. Its variants, read or refused, stand in the table of `worked_verdicts`.
 use Prim.Native.Nat.{ℕ}
 use mathlib.Core.Path.{_≡_, refl}
-use mathlib.Core.List.{List, [], _∷_, _++_, map}
-use lib.ListN.{take}
-use Rattle.verdicts.specs.declared.Form.{Form}
-use Rattle.verdicts.specs.declared.Form.the-variants.{Ended, NotAllowed}
+use mathlib.Core.List.{List, [], _∷_, map}
 use Rattle.commands.specs.Commands.{command}
-use Rattle.commands.specs.Reading.{whole, refused}
+use Rattle.commands.specs.Reading.{whole}
 use Rattle.vocabularies.specs.Vocabulary.{Rule, content, order, ruleOf}
 use Rattle.vocabularies.specs.Facts.{withFacts}
 use Rattle.pages.specs.Items.{Items, text, gap, element, one}
 use Rattle.programs.specs.Program.{templateVariable, step, stop, setTemplate, plug, show}
-use Rattle.summaries.specs.Proposal.{Claim, root, edge, gapFrom, Holding, claim, Head}
+use Rattle.summaries.specs.Proposal.{Claim, root, edge, gapFrom, claim, Head}
 use Rattle.jobs.specs.Job.{Job, job}
 use Rattle.worked_examples.specs.J1.{j1}
 
@@ -60,25 +57,3 @@ j1-job = record {
 pub reads : job j1 ≡ whole j1-job 121
 unfolding job command ruleOf withFacts
 reads = refl
-
--- A job that cannot be read: its bytes, the refusal, and the offset.
-record Unreadable : Type 0 where
-  bytes : List ℕ
-  form : Form
-  at : ℕ
-
--- The variants of J1 that cannot be read: the empty job, J1 without `4F`, a byte more.
-abbrev unreadable : List Unreadable
-unreadable =
-    record { bytes = []; form = Ended; at = 0 }
-    ∷ record { bytes = take 120 j1; form = Ended; at = 120 }
-    ∷ record { bytes = j1 ++ (0 ∷ []); form = NotAllowed; at = 121 }
-    ∷ []
-
-abbrev AllRefused : List Unreadable → Type 0
-AllRefused [] = Unit {0}
-AllRefused (u ∷ us) = (job (u .bytes) ≡ refused (u .form) (u .at)) × AllRefused us
-
-pub refusals : AllRefused unreadable
-unfolding job command ruleOf withFacts
-refusals = (refl, (refl, (refl, tt)))

@@ -1,18 +1,14 @@
 -- J1's run over four choices shows its one page, and that page is of the language of its show.
 use mathlib.Core.Path.{_≡_, refl}
 use mathlib.Core.List.{[], _∷_}
-use mathlib.Core.Bool.{false}
 use mathlib.Core.Option.{some}
 use Rattle.pages.specs.Items.{Items, text, element, one, _⋈_}
 use Rattle.programs.specs.Program.{statementAt, templateAt}
-use Rattle.programs.specs.Runs.{Choice, shown, closed, plugged}
-use Rattle.summaries.specs.Proposal.{string}
+use Rattle.programs.specs.Runs.{shown, closed, plugged}
 use Rattle.summaries.specs.Summaries.{Summary, sameCode, held, under, entries}
 use Rattle.summaries.specs.Languages.{Language, closedSummary, graphShown, nothing, item-then, text-stays, gap-takes, element-keeps, no-attribute}
 use Rattle.worked_examples.proofs.ReadingJ1.{j1-job}
-
-abbrev first : Choice
-first = record { second = false; string = 0 }
+use Rattle.worked_examples.proofs.Runs.{first}
 
 abbrev page : Items
 page = one (element 1 20 [] (one (element 2 27 [] (one text))))

@@ -1,1 +1,2 @@
 pub mod J1
+pub mod AttributeJob

@@ -10,7 +10,7 @@ use lib.Dec.{eqb}
 use borrow.Author.Tests.{ne-eqb, eqb-true}
 use Rattle.summaries.specs.Proposal.{Claim, root, edge, string, gapFrom, attributeGapFrom, Holding, claim, anyAt, oneString, anyString}
 use Rattle.summaries.specs.Summaries.{Summary, Strings, Within, sameCode, saysClaim, saysString, held}
-use Rattle.entries.specs.Passing.{Decides}
+use Rattle.entries.specs.contracts.Passing.{Decides}
 use Rattle.entries.proofs.Tests.{or-left, or-right, or-cases, and-both, and-left, and-right, decides}
 use Rattle.entries.proofs.Claims.{says-alone, says-any}
 

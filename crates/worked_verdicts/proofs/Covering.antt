@@ -15,10 +15,10 @@ use Rattle.summaries.specs.Summaries.{entries}
 use Rattle.summaries.specs.Covering.{StepCovered}
 use Rattle.jobs.specs.Job.{Job}
 use Rattle.jobs.specs.JobVerdict.{StartHolds, StepHolds}
-use Rattle.entries.specs.Passing.{Decides}
+use Rattle.entries.specs.contracts.Passing.{Decides}
 use Rattle.covering.specs.declared.Covering.{Covering}
 use Rattle.covering.specs.declared.Covering.the-variants.{Covered, Uncovered}
-use Rattle.covering.specs.Promises.{Lowest, Covers, PointCovers, StepsCover}
+use Rattle.covering.specs.contracts.Promises.{Lowest, Covers, PointCovers, StepsCover}
 use Rattle.covering.proofs.Whole.{Below, steps-fail, steps-go, steps-end, start-fails, start-then}
 use Rattle.worked_verdicts.proofs.Counting.{one-more}
 use Rattle.worked_verdicts.proofs.Statements.{startCovered, start-covered, stepCovered, step-covered}

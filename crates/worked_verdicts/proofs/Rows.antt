@@ -1,4 +1,4 @@
--- Every row of the table has the verdict that it says, and that verdict prints the row's four numbers. Two rounds of pattern sets are
+-- Every row of the table has the verdict that it says. Two rounds of pattern sets are
 -- enough for every row.
 use Prim.Native.Nat.{ℕ, zero, suc}
 use native.Mathlib.Omega.{arith}
@@ -9,20 +9,19 @@ use mathlib.Core.Option.{Option, some}
 use mathlib.Core.Logic.{⊎-elim}
 use lib.Dec.{ltb}
 use borrow.Author.Tests.{ltb-true}
-use Rattle.verdicts.specs.declared.Verdict.{Verdict}
 use Rattle.verdicts.specs.declared.Numbers.{Numbers}
-use Rattle.verdicts.specs.Printed.{numbersOf}
 use Rattle.commands.specs.Commands.{command}
 use Rattle.vocabularies.specs.Vocabulary.{ruleOf, isIn}
 use Rattle.vocabularies.specs.Facts.{withFacts}
 use Rattle.pages.specs.Items.{gapIn}
 use Rattle.pages.specs.RightPages.{_∈_}
-use Rattle.judging.specs.Judgement.{precedes, holdsValue, truthOf}
+use Rattle.judging.specs.contracts.Judgement.{precedes, holdsValue, truthOf}
 use Rattle.programs.specs.Program.{templateAt}
 use Rattle.summaries.specs.Summaries.{sameCode, held}
-use Rattle.patterns.specs.Patterns.{patternOf, join}
-use Rattle.patterns.specs.Morphisms.{classOf}
-use Rattle.patterns.specs.Elements.{wrongUnder}
+use Rattle.agreement.proofs.JobVerdicts.{unique}
+use Rattle.patterns.specs.contracts.Patterns.{patternOf, join}
+use Rattle.patterns.specs.contracts.Morphisms.{classOf}
+use Rattle.patterns.specs.contracts.Elements.{wrongUnder}
 use Rattle.patterns.proofs.ReadVocabularies.{Bytes}
 use Rattle.entries.proofs.Tests.{and-left, and-right}
 use Rattle.worked_verdicts.specs.Table.{Row, RowHolds, table}
@@ -40,14 +39,13 @@ are-bytes (a ∷ s) e (suc i) = are-bytes s (and-right (ltb a 256) _ e) i
 -- What is computed of a row.
 record Answer : Type 0 where
   bytes : Bool
-  verdict : Option Verdict
-  numbers : Numbers
+  numbers : Option Numbers
 
 abbrev computed : Row → Answer
-computed r = record { bytes = areBytes (r .bytes); verdict = verdictBy 2 (r .bytes); numbers = numbersOf (r .verdict) }
+computed r = record { bytes = areBytes (r .bytes); numbers = verdictBy 2 (r .bytes) }
 
 abbrev stated : Row → Answer
-stated r = record { bytes = true; verdict = some (r .verdict); numbers = r .numbers }
+stated r = record { bytes = true; numbers = some (r .numbers) }
 
 answers : map computed table ≡ map stated table
 unfolding verdictBy command ruleOf withFacts gapIn templateAt sameCode held wrongUnder classOf join patternOf isIn precedes holdsValue truthOf
@@ -64,7 +62,5 @@ same-at f g (x ∷ xs) e a i =
 pub rows-hold : (r : Row) → r ∈ table → RowHolds r
 rows-hold r i =
     let e : computed r ≡ stated r = same-at computed stated table answers r i in
-    record {
-      verdict = verdict-by 2 (r .bytes) (are-bytes (r .bytes) (ap (λ (a : Answer). a .bytes) e)) (r .verdict) (ap (λ (a : Answer). a .verdict) e);
-      numbers = ap (λ (a : Answer). a .numbers) e;
-    }
+    let is = verdict-by 2 (r .bytes) (are-bytes (r .bytes) (ap (λ (a : Answer). a .bytes) e)) (r .numbers) (ap (λ (a : Answer). a .numbers) e) in
+    record { is = is; only = λ v h. unique h is }

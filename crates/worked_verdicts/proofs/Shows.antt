@@ -8,16 +8,14 @@ use mathlib.Core.Option.{Option, some, none}
 use lib.ListN.{length}
 use lib.Dec.{eqb, ltb}
 use borrow.Author.Tests.{eqb-true, ltb-true, ltb-false}
-use Rattle.verdicts.specs.declared.Fault.the-variants.{NotRoot, WrongElement}
-use Rattle.verdicts.specs.declared.Refusal.the-variants as Refusals
-use Rattle.verdicts.specs.declared.Verdict.{Verdict}
-use Rattle.verdicts.specs.declared.Verdict.the-variants.{Accepted, Refused}
+use Rattle.verdicts.specs.declared.Numbers.{Numbers}
+use Rattle.verdicts.specs.Printed.{prints}
 use Rattle.summaries.specs.Summaries.{Summary, Environment, entries}
 use Rattle.summaries.specs.Languages.{graphShown}
 use Rattle.jobs.specs.Job.{Script, Job}
 use Rattle.jobs.specs.JobVerdict.{AllCovered, ShowHolds, NotRootAt, WrongIn, ScriptVerdict, not-root, wrong-element, accepted}
 use Rattle.covering.proofs.Whole.{past-stops}
-use Rattle.patterns.specs.Shows.{Tables, ExactTables, Least, onlyIf, lowestOver, lowestRoot, lowestWrongIn, lowestWrong}
+use Rattle.patterns.specs.contracts.Shows.{Tables, ExactTables, Least, onlyIf, lowestOver, lowestRoot, lowestWrongIn, lowestWrong}
 use Rattle.patterns.proofs.Lowest.{least-of, least-below, none-of, least-test, least-over}
 use Rattle.patterns.proofs.ReadJobs.{GivenShows}
 use Rattle.patterns.proofs.JobShows.{nothing-shown, lowest-not-root, lowest-wrong-element, wrong-in, show-holds}
@@ -129,19 +127,19 @@ module _ (t : ℕ) (π : Script) (E : ℕ → Environment) (read : GivenShows π
       go (some G) e = enough-or G e _ refl _ (λ exact. by-lowest G e _ exact _ _ refl refl)
 
 -- Point by point.
-abbrev pageVerdict : ℕ → Found → Option Verdict → Option Verdict
+abbrev pageVerdict : ℕ → Found → Option Numbers → Option Numbers
 pageVerdict p right rest = rest
-pageVerdict p (other-page r) rest = some (Refused (Refusals.Page (NotRoot p r)))
-pageVerdict p (wrong n at) rest = some (Refused (Refusals.Page (WrongElement p n at)))
+pageVerdict p (other-page r) rest = some (prints 11 p r 0)
+pageVerdict p (wrong n at) rest = some (prints 12 p n at)
 pageVerdict p undecided rest = none
 
 module _ (t : ℕ) (π : Script) (E : ℕ → Environment) where
-  unfoldable showsFrom : ℕ → ℕ → Option Verdict
+  unfoldable showsFrom : ℕ → ℕ → Option Numbers
   unfolding showBy
-  showsFrom zero p = some Accepted
+  showsFrom zero p = some (prints 0 0 0 0)
   showsFrom (suc k) p = pageVerdict p (showBy t π E p) (showsFrom k (suc p))
 
-unfoldable pub showsBy : ℕ → Job → Option Verdict
+unfoldable pub showsBy : ℕ → Job → Option Numbers
 unfolding showsFrom
 showsBy t j = showsFrom t (j .script) (entries (j .proposal)) (length (j .script .program)) 0
 
@@ -157,27 +155,27 @@ module _ (t : ℕ) (π : Script) (E : ℕ → Environment) (read : GivenShows π
       go true e = below q (ltb-true q p e)
       go false e = let l = ltb-false q p e in past-shows q (omega arith)
 
-  page-verdict : (p : ℕ) → ((q : ℕ) → q < p → ShowHolds π E q) → (f : Found) → FoundAt π E p f → (rest : Option Verdict)
-      → (ShowHolds π E p → (v : Verdict) → rest ≡ some v → ScriptVerdict π E v) → (v : Verdict) → pageVerdict p f rest ≡ some v → ScriptVerdict π E v
+  page-verdict : (p : ℕ) → ((q : ℕ) → q < p → ShowHolds π E q) → (f : Found) → FoundAt π E p f → (rest : Option Numbers)
+      → (ShowHolds π E p → (v : Numbers) → rest ≡ some v → ScriptVerdict π E v) → (v : Numbers) → pageVerdict p f rest ≡ some v → ScriptVerdict π E v
   page-verdict p below right h rest goes v e = goes h v e
   page-verdict p below (other-page r) h rest goes v e =
-      let is : Refused (Refusals.Page (NotRoot p r)) ≡ v = cc in
+      let is : prints 11 p r 0 ≡ v = cc in
       subst (ScriptVerdict π E) is (not-root covered below (h .page) (h .lowest))
   page-verdict p below (wrong n at) h rest goes v e =
-      let is : Refused (Refusals.Page (WrongElement p n at)) ≡ v = cc in
+      let is : prints 12 p n at ≡ v = cc in
       subst (ScriptVerdict π E) is (wrong-element covered below (h .no-other) (h .element) (h .lowest))
   page-verdict p below undecided h rest goes v e = absurd (let z : _≡_ {A = ℕ} 0 1 = cc in omega arith)
 
-  shows-from : (k p : ℕ) → p + k ≡ length (π .program) → ((q : ℕ) → q < p → ShowHolds π E q) → (v : Verdict) → showsFrom t π E k p ≡ some v → ScriptVerdict π E v
+  shows-from : (k p : ℕ) → p + k ≡ length (π .program) → ((q : ℕ) → q < p → ShowHolds π E q) → (v : Numbers) → showsFrom t π E k p ≡ some v → ScriptVerdict π E v
   unfolding showsFrom
   shows-from zero p e below v i =
-      let is : Accepted ≡ v = cc in
+      let is : prints 0 0 0 0 ≡ v = cc in
       subst (ScriptVerdict π E) is (accepted covered (all-shows p (omega arith) below))
   shows-from (suc k) p e below v i = page-verdict p below (showBy t π E p) (show-by t π E read p) (showsFrom t π E k (suc p))
       (λ here. shows-from k (suc p) (omega arith) (one-more (ShowHolds π E) p below here)) v i
 
 pub shows-by : (t : ℕ) (j : Job) → GivenShows (j .script) (entries (j .proposal)) → AllCovered (j .script) (entries (j .proposal))
-    → (v : Verdict) → showsBy t j ≡ some v → ScriptVerdict (j .script) (entries (j .proposal)) v
+    → (v : Numbers) → showsBy t j ≡ some v → ScriptVerdict (j .script) (entries (j .proposal)) v
 unfolding showsBy
 shows-by t j read covered v =
     shows-from t (j .script) (entries (j .proposal)) read covered (length (j .script .program)) 0 (omega arith) (λ q h. absurd (omega arith)) v

@@ -14,12 +14,12 @@ use Rattle.vocabularies.specs.Facts.{factsOf}
 use Rattle.pages.specs.Items.{Items}
 use Rattle.pages.specs.RightPages.{_∈_}
 use Rattle.summaries.specs.Summaries.{Summary}
-use Rattle.patterns.specs.Morphisms.{Morphism, rootMorphism, factMorphism}
-use Rattle.patterns.specs.Given.{Bounded, contents, NamesInRange}
-use Rattle.patterns.specs.Rounds.{Set, Sets, anyBelow, iterate, rounds}
-use Rattle.patterns.specs.Reached.{reachRounds, contentRounds}
-use Rattle.patterns.specs.Exactness.{Exact, YieldsExact}
-use Rattle.patterns.specs.Shows.{Tables, ExactTables}
+use Rattle.patterns.specs.contracts.Morphisms.{Morphism, rootMorphism, factMorphism}
+use Rattle.patterns.specs.contracts.Given.{Bounded, contents, NamesInRange}
+use Rattle.patterns.specs.contracts.Rounds.{Set, Sets, anyBelow, iterate, rounds}
+use Rattle.patterns.specs.contracts.Reached.{reachRounds, contentRounds}
+use Rattle.patterns.specs.contracts.Exactness.{Exact, YieldsExact}
+use Rattle.patterns.specs.contracts.Shows.{Tables, ExactTables}
 use Rattle.patterns.proofs.Tests.{and-left, and-right, any-below, failed}
 use Rattle.patterns.proofs.Lawful.{Lawful, root-lawful, clause-lawful}
 use Rattle.patterns.proofs.Exact.{exact}

@@ -1,40 +1,24 @@
--- The marked cases of document 01, "Job J1 and its variants", as a table: the bytes of a job, its verdict, and the four numbers that
--- document 01 prints for it. A variant is J1 with some bytes of its parts exchanged. One theorem, `rows-hold` in proofs/, is for all
+-- The marked cases of document 01, "Job J1 and its variants", as a table: the bytes of a job, and the four numbers that document 01
+-- prints for it. A variant is J1 cut, with a byte more, or with some bytes of its parts exchanged. One theorem, `rows-hold` in proofs/, is for all
 -- rows.
 use Prim.Native.Nat.{ℕ}
-use mathlib.Core.Path.{_≡_}
 use mathlib.Core.List.{List, [], _∷_, _++_}
 use mathlib.Core.Bool.{Bool, true, false, cond, _&&_}
 use lib.ListN.{length, take, drop}
 use lib.Dec.{eqb}
-use Rattle.verdicts.specs.declared.Form.{Form}
-use Rattle.verdicts.specs.declared.Form.the-variants.{Ended, NotAllowed}
-use Rattle.verdicts.specs.declared.Cover.the-variants.{Start, Step}
-use Rattle.verdicts.specs.declared.Fault.the-variants.{NotRoot, WrongElement}
-use Rattle.verdicts.specs.declared.Refusal.the-variants as Refusals
-use Rattle.verdicts.specs.declared.Verdict.{Verdict}
-use Rattle.verdicts.specs.declared.Verdict.the-variants.{Accepted, Refused}
 use Rattle.verdicts.specs.declared.Numbers.{Numbers}
-use Rattle.verdicts.specs.Printed.{numbersOf}
+use Rattle.verdicts.specs.Printed.{prints}
+use Rattle.verdicts.specs.TheVerdict.{TheVerdict}
 use Rattle.jobs.specs.JobVerdict.{JobVerdict}
 use Rattle.worked_examples.specs.J1.{vocabularyPart, templatesPart, programPart, proposalPart, j1}
 
 pub record Row : Type 0 where
   pub bytes : List ℕ
-  pub verdict : Verdict
   pub numbers : Numbers
 
--- What a row claims: the bytes have the verdict, and it prints the numbers.
-pub record RowHolds (r : Row) : Type 0 where
-  pub verdict : JobVerdict (r .bytes) (r .verdict)
-  pub numbers : numbersOf (r .verdict) ≡ r .numbers
-
-abbrev pub prints : ℕ → ℕ → ℕ → ℕ → Numbers
-prints n a b c = record { n = n; a = a; b = b; c = c }
-
--- A job that cannot be read from an offset on.
-abbrev pub unreadable : Form → ℕ → Verdict
-unreadable form at = Refused (Refusals.Form form (record { at = at; slice = 0 }))
+-- What a row claims: document 01 gives these bytes these numbers, and no others.
+abbrev pub RowHolds : Row → Type 0
+RowHolds r = TheVerdict (JobVerdict (r .bytes)) (r .numbers)
 
 abbrev pub beginsWith : List ℕ → List ℕ → Bool
 beginsWith [] s = true
@@ -68,29 +52,26 @@ variant templates program proposal = vocabularyPart ++ templates ++ program ++ p
 abbrev pub table : List Row
 table =
     -- J1 prints `0 0 0 0`.
-    record { bytes = j1; verdict = Accepted; numbers = prints 0 0 0 0 }
+    record { bytes = j1; numbers = prints 0 0 0 0 }
     -- Empty job: 2 0 0 0.
-    ∷ record { bytes = []; verdict = unreadable Ended 0; numbers = prints 2 0 0 0 }
+    ∷ record { bytes = []; numbers = prints 2 0 0 0 }
     -- J1 without `4F`: 2 120 0 0.
-    ∷ record { bytes = take 120 j1; verdict = unreadable Ended 120; numbers = prints 2 120 0 0 }
-    -- A byte more: 3 121 0 0.
-    ∷ record { bytes = j1 ++ (0x00 ∷ []); verdict = unreadable NotAllowed 121; numbers = prints 3 121 0 0 }
+    ∷ record { bytes = take 120 j1; numbers = prints 2 120 0 0 }
+    -- A byte more, here `00`: 3 121 0 0.
+    ∷ record { bytes = j1 ++ (0x00 ∷ []); numbers = prints 3 121 0 0 }
     -- Without `41 00` under `40 00 00`: 9 0 0 0.
     ∷ record {
       bytes = variant templatesPart programPart (withItems 0 (0x41 ∷ 0x00 ∷ []) [] proposalPart);
-      verdict = Refused (Refusals.Cover (Start 0));
       numbers = prints 9 0 0 0;
     }
     -- Without `45 00 01` at point 2: 10 1 2 0.
     ∷ record {
       bytes = variant templatesPart programPart (withItems 2 (0x41 ∷ 0x01 ∷ 0x45 ∷ 0x00 ∷ 0x01 ∷ []) (0x41 ∷ 0x01 ∷ []) proposalPart);
-      verdict = Refused (Refusals.Cover (Step 1 2 0));
       numbers = prints 10 1 2 0;
     }
     -- Without the edge at point 3: 10 2 3 0.
     ∷ record {
       bytes = variant templatesPart programPart (withItems 3 shownItems (0x41 ∷ 0x01 ∷ []) proposalPart);
-      verdict = Refused (Refusals.Cover (Step 2 3 0));
       numbers = prints 10 2 3 0;
     }
     -- Point 2 made `30 00 00 03 03`, `45 00 01` added to variable 0 at points 3 and 4: 12 3 1 20, since the gap may stay empty.
@@ -98,31 +79,26 @@ table =
       bytes = variant templatesPart
           (exchanged (0x35 ∷ 0x00 ∷ 0x00 ∷ 0x00 ∷ 0x01 ∷ 0x03 ∷ 0x03 ∷ []) (0x30 ∷ 0x00 ∷ 0x00 ∷ 0x03 ∷ 0x03 ∷ []) programPart)
           (withShown (0x41 ∷ 0x01 ∷ 0x42 ∷ 0x01 ∷ 0x00 ∷ 0x02 ∷ 0x45 ∷ 0x00 ∷ 0x01 ∷ []));
-      verdict = Refused (Refusals.Page (WrongElement 3 1 20));
       numbers = prints 12 3 1 20;
     }
     -- Template 1 with `22 00` twice: 12 3 1 20.
     ∷ record {
       bytes = variant (exchanged (0x22 ∷ 0x00 ∷ []) (0x22 ∷ 0x00 ∷ 0x22 ∷ 0x00 ∷ []) templatesPart) programPart proposalPart;
-      verdict = Refused (Refusals.Page (WrongElement 3 1 20));
       numbers = prints 12 3 1 20;
     }
     -- Show of variable 1: 11 3 2 0.
     ∷ record {
       bytes = variant templatesPart (exchanged (0x37 ∷ 0x00 ∷ []) (0x37 ∷ 0x01 ∷ []) programPart) proposalPart;
-      verdict = Refused (Refusals.Page (NotRoot 3 2));
       numbers = prints 11 3 2 0;
     }
     -- A third template `20 22 01 27` and `41 03` added to variable 0 at points 3 and 4: accepted, no page comes of it.
     ∷ record {
       bytes = variant threeTemplates programPart (withShown (0x41 ∷ 0x01 ∷ 0x41 ∷ 0x03 ∷ 0x42 ∷ 0x01 ∷ 0x00 ∷ 0x02 ∷ []));
-      verdict = Accepted;
       numbers = prints 0 0 0 0;
     }
     -- With `45 01 03` there too: 11 3 3 0.
     ∷ record {
       bytes = variant threeTemplates programPart (withShown (0x41 ∷ 0x01 ∷ 0x41 ∷ 0x03 ∷ 0x42 ∷ 0x01 ∷ 0x00 ∷ 0x02 ∷ 0x45 ∷ 0x01 ∷ 0x03 ∷ []));
-      verdict = Refused (Refusals.Page (NotRoot 3 3));
       numbers = prints 11 3 3 0;
     }
     ∷ []

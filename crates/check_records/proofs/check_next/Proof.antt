@@ -1,19 +1,14 @@
--- The bytes that are checked are those that were kept.
-use mathlib.Core.Path.{sym}
-use lib.Seq.{length-take-le}
+-- The buffer keeps its length, and no more bytes were read.
 use borrow.Author.Needs.{needs}
-use Rattle.records.proofs.Laws.{kept}
+use Rattle.records.proofs.Counts.{found-in}
 use Rattle.check_records.proofs.check_next.Statement.{statement}
 use Rattle.check_records.proofs.check_next.Tie as tie
 
 read-slice-requires : tie.Need-read-slice-requires
 read-slice-requires c κs = search needs
 
-enum-known-slice : tie.Need-enum-known-slice
-enum-known-slice c = search needs
-
-enum-told : tie.Need-enum-told
-enum-told c = search needs
+enum-known-found : tie.Need-enum-known-found
+enum-known-found c = search needs
 
 same-length : tie.Need-same-length
 same-length c = search needs
@@ -21,17 +16,8 @@ same-length c = search needs
 returns : tie.Need-returns
 returns c = search needs
 
-slice-reshare-prefix-check : tie.Need-slice-reshare-prefix-check
-slice-reshare-prefix-check c = kept _ _ (c .before .slice .given .1) (c .before .before .before .before .before .read-slice .ensures)
-
-slice-aggregate-check : tie.Need-slice-aggregate-check
-slice-aggregate-check c = sym (length-take-le _ _ (slice-reshare-prefix-check (c .before)))
-
-check-requires : tie.Need-check-requires
-check-requires c κs = search needs
-
-numbers-of-requires : tie.Need-numbers-of-requires
-numbers-of-requires c κs = search needs
+job-numbers-requires : tie.Need-job-numbers-requires
+job-numbers-requires c κs = (search needs, found-in _ _ (c .before .before .found .given .1) (c .before .before .before .before .before .before .read-slice .ensures))
 
 print-verdict-requires : tie.Need-print-verdict-requires
 print-verdict-requires c κs = search needs
@@ -47,14 +33,10 @@ check-next-spec =
     tie.close
     (tie.spec
     read-slice-requires
-    enum-known-slice
-    enum-told
+    enum-known-found
     same-length
     returns
-    slice-reshare-prefix-check
-    slice-aggregate-check
-    check-requires
-    numbers-of-requires
+    job-numbers-requires
     print-verdict-requires
     same-length-2
     returns-2)

@@ -11,9 +11,6 @@ Inv-loop buffer₀ turns₀ buffer turns = length buffer ≡ 65536
 abbrev μ-loop : tie.MeasureT-loop
 μ-loop buffer₀ turns₀ buffer turns = turns
 
-large-buffer-requires : tie.Need-large-buffer-requires Inv-loop μ-loop
-large-buffer-requires c κs = search needs
-
 loop-holds : tie.Need-loop-holds Inv-loop μ-loop
 loop-holds c = search needs
 
@@ -44,7 +41,6 @@ main-spec =
     (tie.spec
     Inv-loop
     μ-loop
-    large-buffer-requires
     loop-holds
     slice-aggregate-check-next
     check-next-requires

@@ -2,6 +2,7 @@
 use mathlib.Core.Path.{refl}
 use Rattle.soundness.proofs.Guarantee.{guarantee}
 use borrow.Author.Needs.{needs}
+use Rattle.verdicts.specs.Printed.{numbersOf}
 use Rattle.jobs.specs.JobVerdict.{JobVerdict}
 use Rattle.checker.proofs.Reading.{refused, read-whole}
 use Rattle.checker.proofs.Whole.{the-verdict}
@@ -23,14 +24,14 @@ enum-known-part c = search needs
 unreadable-requires : tie.Need-unreadable-requires
 unreadable-requires c κs = search needs
 
-found : (c : tie.After-check-read) → JobVerdict (c .before .before .before .before .before .before .before .args .job .now) (c .check-read .result)
+found : (c : tie.After-check-read) → JobVerdict (c .before .before .before .before .before .before .before .args .job .now) (numbersOf (c .check-read .result))
 found c =
     read-whole _ _ (c .before .before .before .before .read-job .result) (c .before .before .before .before .read-job .ensures) _ (c .before .before .enum-told .given .1) (c .check-read .result) (λ j end reads K. c .check-read .ensures j end reads K)
 
 returns : tie.Need-returns
 returns c = (the-verdict _ _ (found c), (refl, guarantee _ _ (found c)))
 
-refuses : (c : tie.After-unreadable) → JobVerdict (c .before .before .before .before .before .before .before .args .job .now) (c .unreadable .result)
+refuses : (c : tie.After-unreadable) → JobVerdict (c .before .before .before .before .before .before .before .args .job .now) (numbersOf (c .unreadable .result))
 refuses c =
     refused _ _ (c .before .before .before .before .read-job .result) (c .before .before .before .before .read-job .ensures) _ _ (c .before .before .part .given .1) (c .unreadable .result) (c .unreadable .ensures)
 

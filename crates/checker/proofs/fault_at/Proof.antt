@@ -1,7 +1,7 @@
 -- By what was found.
 use mathlib.Core.Path.{sym, ap}
 use borrow.Author.Needs.{needs}
-use Rattle.checker.specs.Promises.{faultAt}
+use Rattle.checker.specs.contracts.Promises.{faultAt}
 use Rattle.checker.proofs.fault_at.Statement.{statement}
 use Rattle.checker.proofs.fault_at.Tie as tie
 
@@ -15,7 +15,7 @@ enum-known-found-2 : tie.Need-enum-known-found-2
 enum-known-found-2 c = search needs
 
 returns : tie.Need-returns
-returns c = search needs
+returns c = sym (ap (faultAt (c .before .before .args .p)) (c .enum-told .given .1))
 
 returns-2 : tie.Need-returns-2
 returns-2 c = sym (ap (faultAt (c .before .before .before .args .p)) (c .before .found .given .1))

@@ -6,8 +6,8 @@ use borrow.Author.Tests.{not-true, not-false}
 use borrow.Author.Needs.{needs}
 use Rattle.summaries.specs.Summaries.{entries}
 use Rattle.jobs.specs.Job.{Job}
-use Rattle.shows.specs.Promises.{ShowFound}
-use Rattle.checker.specs.Promises.{ReadAt}
+use Rattle.shows.specs.contracts.Promises.{ShowFound}
+use Rattle.checker.specs.contracts.Promises.{ReadAt}
 use Rattle.checker.proofs.Points.{Below, point-stands, shows-nothing, shows-graph, right-graph, accepts-right, shows-go, shows-pass, shows-fail, shows-end}
 use Rattle.checker.proofs.first_fault.Statement.{statement}
 use Rattle.checker.proofs.first_fault.Tie as tie

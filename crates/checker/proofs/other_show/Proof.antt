@@ -2,7 +2,7 @@
 use Prim.Native.Nat.{_-_}
 use borrow.Author.Tests.{not-false}
 use borrow.Author.Needs.{needs}
-use Rattle.checker.specs.Promises.{PassedBy}
+use Rattle.checker.specs.contracts.Promises.{PassedBy}
 use Rattle.checker.proofs.Points.{passed-none, passes-more}
 use Rattle.checker.proofs.other_show.Statement.{statement}
 use Rattle.checker.proofs.other_show.Tie as tie

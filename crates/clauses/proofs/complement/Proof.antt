@@ -1,7 +1,7 @@
 -- What a set lacks of all patterns.
 use mathlib.Core.Path.{ap, _∙_}
 use mathlib.Core.Bool.{Bool, not, _&&_}
-use Rattle.pattern_sets.specs.PatternSets.{holds}
+use Rattle.pattern_sets.specs.contracts.PatternSets.{holds}
 use borrow.Author.Needs.{needs}
 use Rattle.clauses.proofs.complement.Statement.{statement}
 use Rattle.clauses.proofs.complement.Tie as tie

@@ -4,8 +4,9 @@ use mathlib.Core.Path.{_≡_}
 use mathlib.Core.Bool.{true}
 use native.Mathlib.Omega.{arith}
 use borrow.Author.Needs.{needs}
-use Rattle.strings.specs.Strings.{strings, hasString}
-use Rattle.schemes.specs.Promises.{OfFacts}
+use Rattle.strings.specs.Strings.{strings}
+use Rattle.strings.specs.contracts.Promises.{hasString}
+use Rattle.schemes.specs.contracts.Promises.{OfFacts}
 use Rattle.clauses.proofs.StringSets.{PatternsTo, patterns-none, patterns-more, patterns-all}
 use Rattle.clauses.proofs.with_patterns.Statement.{statement}
 use Rattle.clauses.proofs.with_patterns.Tie as tie

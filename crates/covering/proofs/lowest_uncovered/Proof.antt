@@ -4,14 +4,14 @@ use native.Mathlib.Omega.{arith}
 use borrow.Author.Count.{below-more}
 use borrow.Author.Needs.{needs}
 use borrow.Author.Tests.{not-true, not-false}
-use Rattle.programs.specs.Promises.{asAct}
+use Rattle.programs.specs.contracts.Promises.{asAct}
 use Rattle.summaries.specs.ProposalReading.{variableOf}
 use Rattle.summaries.specs.Summaries.{entries}
 use Rattle.summaries.specs.Covering.{StepCovered}
 use Rattle.jobs.specs.Job.{Job}
-use Rattle.graphs.specs.Graphs.{Keeps, nothing}
+use Rattle.graphs.specs.contracts.Graphs.{Keeps, nothing}
 use Rattle.entries.proofs.Tests.{decided-true, decided-false}
-use Rattle.covering.specs.Tables.{NamesAre, StepAt}
+use Rattle.covering.specs.contracts.Tables.{NamesAre, StepAt}
 use Rattle.covering.proofs.lowest_uncovered.Statement.{statement}
 use Rattle.covering.proofs.lowest_uncovered.Tie as tie
 

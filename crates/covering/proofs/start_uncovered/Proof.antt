@@ -8,7 +8,7 @@ use Rattle.summaries.specs.Summaries.{entries}
 use Rattle.jobs.specs.Job.{Job}
 use Rattle.jobs.specs.JobVerdict.{StartHolds}
 use Rattle.entries.proofs.Tests.{decided-true, decided-false}
-use Rattle.covering.specs.Tables.{EntriesAt, NamesAre}
+use Rattle.covering.specs.contracts.Tables.{EntriesAt, NamesAre}
 use Rattle.covering.proofs.start_uncovered.Statement.{statement}
 use Rattle.covering.proofs.start_uncovered.Tie as tie
 

@@ -6,10 +6,10 @@ use native.Mathlib.Omega.{arith}
 use borrow.Author.Needs.{needs}
 use Rattle.summaries.specs.Summaries.{entries}
 use Rattle.jobs.specs.Job.{Job}
-use Rattle.graphs.specs.Graphs.{Keeps, nothing}
-use Rattle.pages.specs.Gaps.{GapsTable}
-use Rattle.covering.specs.Tables.{Tables}
-use Rattle.covering.specs.Promises.{PointCovers}
+use Rattle.graphs.specs.contracts.Graphs.{Keeps, nothing}
+use Rattle.pages.specs.contracts.Gaps.{GapsTable}
+use Rattle.covering.specs.contracts.Tables.{Tables}
+use Rattle.covering.specs.contracts.Promises.{PointCovers}
 use Rattle.covering.proofs.Whole.{Below, steps-fail, steps-go, steps-end}
 use Rattle.covering.proofs.steps_uncovered.Statement.{statement}
 use Rattle.covering.proofs.steps_uncovered.Tie as tie

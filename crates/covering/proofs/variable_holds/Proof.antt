@@ -1,7 +1,7 @@
 -- Variables 0 to 3 are the template variables, 4 to 7 the string variables.
 use borrow.Author.Needs.{needs}
 use native.Mathlib.Omega.{arith}
-use Rattle.programs.specs.Promises.{asAct}
+use Rattle.programs.specs.contracts.Promises.{asAct}
 use Rattle.summaries.specs.Summaries.{entries}
 use Rattle.covering.proofs.Steps.{variable-template, variable-string}
 use Rattle.covering.proofs.variable_holds.Statement.{statement}

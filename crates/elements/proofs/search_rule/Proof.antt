@@ -7,7 +7,7 @@ use native.Mathlib.Omega.{arith}
 use lib.ListN.{length}
 use Rattle.commands.proofs.Laws.{past-over, past-other}
 use Rattle.vocabularies.proofs.Laws.{formula-moved}
-use Rattle.elements.specs.Rules.{SettledBy}
+use Rattle.elements.specs.contracts.Rules.{SettledBy}
 use Rattle.elements.proofs.Rules.{Ruling, rule-nowhere, rule-ends, rule-unread, rule-goes, ruling-more, ruling-ends}
 use borrow.Author.Needs.{needs}
 use Rattle.elements.proofs.search_rule.Statement.{statement}

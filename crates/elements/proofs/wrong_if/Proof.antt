@@ -1,8 +1,8 @@
 -- By the answer.
 use mathlib.Core.Path.{ap, sym}
 use mathlib.Core.Bool.{Bool}
-use Rattle.patterns.specs.Shows.{onlyIf}
-use Rattle.patterns.specs.LowestWrong.{wrongIn}
+use Rattle.patterns.specs.contracts.Shows.{onlyIf}
+use Rattle.patterns.specs.contracts.LowestWrong.{wrongIn}
 use borrow.Author.Needs.{needs}
 use Rattle.elements.proofs.wrong_if.Statement.{statement}
 use Rattle.elements.proofs.wrong_if.Tie as tie

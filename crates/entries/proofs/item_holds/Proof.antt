@@ -16,8 +16,8 @@ enum-known-item-2 c = search needs
 edges-requires : tie.Need-edges-requires
 edges-requires c κs = search needs
 
-is-member-requires : tie.Need-is-member-requires
-is-member-requires c κs = search needs
+edge-holds-requires : tie.Need-edge-holds-requires
+edge-holds-requires c κs = search needs
 
 enum-known-item-3 : tie.Need-enum-known-item-3
 enum-known-item-3 c = search needs
@@ -56,7 +56,7 @@ returns : tie.Need-returns
 returns c = as-item (c .before .before .before .before .args .graph .now) (c .before .before .before .before .args .how) _ _ (c .before .before .item .given .1) (c .root-holds .result) (c .root-holds .ensures)
 
 returns-2 : tie.Need-returns-2
-returns-2 c = as-item (c .before .before .before .before .before .args .graph .now) (c .before .before .before .before .before .args .how) _ _ (c .before .before .before .item2 .given .1) (c .is-member .result) (edge-held (c .before .before .before .before .before .args .graph .now) (c .before .before .before .before .before .args .how) _ _ _ (c .before .edges .ensures) _ (c .is-member .result) (c .is-member .ensures))
+returns-2 c = as-item (c .before .before .before .before .before .args .graph .now) (c .before .before .before .before .before .args .how) _ _ (c .before .before .before .item2 .given .1) (c .edge-holds .result) (edge-held (c .before .before .before .before .before .args .graph .now) (c .before .before .before .before .before .args .how) _ _ _ (c .before .edges .ensures) _ (c .edge-holds .result) (c .edge-holds .ensures))
 
 returns-3 : tie.Need-returns-3
 returns-3 c = as-item (c .before .before .before .before .before .args .graph .now) (c .before .before .before .before .before .args .how) _ _ (c .before .before .before .item3 .given .1) (c .string-holds .result) (string-held (c .before .before .before .before .before .args .graph .now) (c .before .before .before .before .before .args .how) _ _ (c .before .strings-at .result) (c .before .strings-at .ensures) _ (c .string-holds .result) (c .string-holds .ensures))
@@ -78,7 +78,7 @@ item-holds-spec =
     root-holds-requires
     enum-known-item-2
     edges-requires
-    is-member-requires
+    edge-holds-requires
     enum-known-item-3
     strings-at-requires
     string-holds-requires

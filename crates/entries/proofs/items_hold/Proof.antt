@@ -5,7 +5,7 @@ use lib.ListN.{length}
 use Rattle.commands.specs.declared.Context.the-variants.{TemplateHoldings}
 use Rattle.summaries.specs.Summaries.{Summary}
 use Rattle.summaries.proofs.Steps.{claims-first, claims-end}
-use Rattle.graphs.specs.Graphs.{Keeps}
+use Rattle.graphs.specs.contracts.Graphs.{Keeps}
 use Rattle.entries.proofs.Walks.{Walked, claim-moves}
 use Rattle.entries.proofs.Gathering.{SamePass, pass-begins, pass-goes, pass-fails, pass-ends}
 use borrow.Author.Needs.{needs}

@@ -2,7 +2,7 @@
 use Prim.Native.Nat.{_-_}
 use native.Mathlib.Omega.{arith}
 use lib.ListN.{length}
-use Rattle.strings.specs.Strings.{holdsValue}
+use Rattle.strings.specs.contracts.Promises.{holdsValue}
 use Rattle.summaries.specs.Summaries.{saysString}
 use Rattle.commands.specs.declared.Context.the-variants.{StringHoldings}
 use Rattle.summaries.proofs.Steps.{strings-one, strings-any, strings-end}

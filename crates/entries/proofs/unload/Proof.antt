@@ -3,7 +3,7 @@ use Prim.Native.Nat.{ℕ, _-_}
 use mathlib.Core.List.{List}
 use native.Mathlib.Omega.{arith}
 use lib.ListN.{length}
-use Rattle.entries.specs.Entries.{Unloads}
+use Rattle.entries.specs.contracts.Entries.{Unloads}
 use Rattle.entries.proofs.Walks.{claim-moves}
 use Rattle.entries.proofs.Loading.{unload-goes, unload-ends}
 use borrow.Author.Needs.{needs}

@@ -12,7 +12,7 @@ numbers-of-requires : tie.Need-numbers-of-requires
 numbers-of-requires c κs = search needs
 
 returns : tie.Need-returns
-returns c = (checked _ _ (c .before .before .check .ensures .0) (c .before .before .check .ensures .1 .1) _ (c .before .numbers-of .ensures), refl)
+returns c = (checked _ (c .before .before .check .result) (c .before .before .check .ensures .0) (c .before .before .check .ensures .1 .1) _ (c .before .numbers-of .ensures), refl)
 
 pub page-check-job-spec : {M : Type 1} → statement M
 page-check-job-spec = tie.close (tie.spec check-requires numbers-of-requires returns)

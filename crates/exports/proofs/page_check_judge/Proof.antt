@@ -1,8 +1,7 @@
 -- The four numbers of the verdict. A slice lent as `&` stays as it is.
-use mathlib.Core.Path.{refl, ap, _∙_}
-use Rattle.verdicts.specs.Printed.{numbersOf}
-use Rattle.exports.specs.Calls.{four}
+use mathlib.Core.Path.{refl}
 use borrow.Author.Needs.{needs}
+use Rattle.exports.proofs.Calls.{judged}
 use Rattle.exports.proofs.page_check_judge.Statement.{statement}
 use Rattle.exports.proofs.page_check_judge.Tie as tie
 
@@ -13,7 +12,7 @@ numbers-of-requires : tie.Need-numbers-of-requires
 numbers-of-requires c κs = search needs
 
 returns : tie.Need-returns
-returns c = (ap four (c .before .numbers-of .ensures ∙ ap numbersOf (c .before .before .judge .ensures .0)), (refl, refl))
+returns c = (judged _ _ (c .before .before .judge .result) (c .before .before .judge .ensures .0) _ (c .before .numbers-of .ensures), (refl, refl))
 
 pub page-check-judge-spec : {M : Type 1} → statement M
 page-check-judge-spec = tie.close (tie.spec judge-requires numbers-of-requires returns)

@@ -1,7 +1,7 @@
 -- The gaps before the loop's are closed.
 use Prim.Native.Nat.{_-_}
 use Rattle.summaries.specs.Summaries.{Summary}
-use Rattle.graphs.specs.Graphs.{Keeps}
+use Rattle.graphs.specs.contracts.Graphs.{Keeps}
 use Rattle.graphs.proofs.ClosedGraphs.{closedBelow, below-begins, below-goes, below-ends}
 use borrow.Author.Needs.{needs}
 use Rattle.graphs.proofs.close.Statement.{statement}

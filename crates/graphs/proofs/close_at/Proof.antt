@@ -5,7 +5,7 @@ use mathlib.Core.Bool.{true}
 use native.Mathlib.Omega.{arith}
 use Rattle.sets.specs.Sets.{member}
 use Rattle.summaries.specs.Summaries.{Summary}
-use Rattle.graphs.specs.Graphs.{Keeps}
+use Rattle.graphs.specs.contracts.Graphs.{Keeps}
 use Rattle.graphs.proofs.ClosedGraphs.{ClosedTo, closing-begins, closing-goes, closing-ends}
 use borrow.Author.Needs.{needs}
 use Rattle.graphs.proofs.close_at.Statement.{statement}

@@ -11,12 +11,6 @@ Inv-loop vocabulary₀ page₀ turns₀ vocabulary page turns = (length vocabula
 abbrev μ-loop : tie.MeasureT-loop
 μ-loop vocabulary₀ page₀ turns₀ vocabulary page turns = turns
 
-large-buffer-requires : tie.Need-large-buffer-requires Inv-loop μ-loop
-large-buffer-requires c κs = search needs
-
-large-buffer-requires-2 : tie.Need-large-buffer-requires-2 Inv-loop μ-loop
-large-buffer-requires-2 c κs = search needs
-
 loop-holds : tie.Need-loop-holds Inv-loop μ-loop
 loop-holds c = search needs
 
@@ -50,8 +44,6 @@ main-spec =
     (tie.spec
     Inv-loop
     μ-loop
-    large-buffer-requires
-    large-buffer-requires-2
     loop-holds
     slice-aggregate-judge-next
     slice-aggregate-judge-next-2

@@ -66,7 +66,7 @@ module _ (t : ℕ) where
   item-returns c =
       let i = c .before .before .item-here in
       rw (c .judge-leaf .ensures) (
-        c .before .before .before .before .before .pre .1 .1,
+        c .before .before .before .before .before .pre .1,
         (rw (i .ensures .0) (omega arith), λ D T. leaf-judged D _ _ (i .result) (i .ensures .0) (λ e n q. no-tag (rw q at (c .before .match .keys2)))),
       )
 
@@ -76,7 +76,7 @@ module _ (t : ℕ) where
   item-judge-items-requires : item-lts.Need-judge-items-requires (item-claims t) (item-given t) item.Post
   item-judge-items-requires c κs =
       let m = element-moves _ _ _ (c .before .before .before .before .before .before .before .before .item-here .ensures .1) _ _ (c .before .before .before .before .before .before .item .given .1) .0 in
-      (omega (arith, m .inside, m .forward, c .before .before .before .read-attributes .ensures .0), (c .before .before .before .before .before .before .before .before .before .before .before .pre .1 .0, search needs, c .before .before .before .before .before .before .before .before .before .before .before .pre .1 .1))
+      (omega (arith, m .inside, m .forward, c .before .before .before .read-attributes .ensures .0), (search needs, c .before .before .before .before .before .before .before .before .before .before .before .pre .1))
 
   item-rule-of-requires : item-lts.Need-rule-of-requires (item-claims t) (item-given t) item.Post
   item-rule-of-requires c κs = element-moves _ _ _ (c .before .before .before .before .before .before .before .before .before .item-here .ensures .1) _ _ (c .before .before .before .before .before .before .before .item .given .1) .1
@@ -106,9 +106,10 @@ module _ (t : ℕ) where
   items-loop-holds : items-lts.Need-loop-holds (items-claims t) (items-given t) items.Post Inv-loop μ-loop
   items-loop-holds c = record {
     forward = omega arith;
-    room = c .before .before .pre .1 .1;
-    remembered = c .before .before .pre .1 .2;
-    judging = λ D T f depth φ end e. all-left D _ depth φ end f _ _ e (no-content _ _);
+    room = c .before .before .pre .1 .0;
+    counted = omega arith;
+    remembered = c .before .before .pre .1 .1;
+    judging = λ D T f depth φ end e. all-left D _ depth φ end f _ _ e (no-content _);
   }
 
   items-item-here-requires : items-lts.Need-item-here-requires (items-claims t) (items-given t) items.Post Inv-loop μ-loop
@@ -118,7 +119,7 @@ module _ (t : ℕ) where
   items-enum-known-item c = search needs
 
   items-add-content-requires : items-lts.Need-add-content-requires (items-claims t) (items-given t) items.Post Inv-loop μ-loop
-  items-add-content-requires c κs = (c .before .before .before .before .before .loop .inv .room, omega arith, omega (arith, (text-moves _ _ _ (c .before .before .before .before .item-here .ensures .1) _ (c .before .before .item .given .1)) .inside, c .before .before .before .before .before .before .before .before .pre .1 .0))
+  items-add-content-requires c κs = let l = c .before .before .before .before .before .loop in (l .inv .room, omega arith, l .inv .counted)
 
   items-loop-less : items-lts.Need-loop-less (items-claims t) (items-given t) items.Post Inv-loop μ-loop
   items-loop-less c = let m = text-moves _ _ _ (c .before .before .before .before .before .item-here .ensures .1) _ (c .before .before .before .item .given .1) in omega (arith, m .inside, m .forward)
@@ -132,8 +133,9 @@ module _ (t : ℕ) where
       record {
         forward = omega (arith, l .inv .forward, m .forward);
         room = c .add-content .ensures .0;
+        counted = c .add-content .ensures .1 .0;
         remembered = l .inv .remembered;
-        judging = λ D T f depth φ end e. text-more D _ depth φ end _ _ _ _ (l .inv .judging D T f depth φ end e) (i .result) (i .ensures .0) _ (g .1) (m .forward) _ _ (c .add-content .ensures .1);
+        judging = λ D T f depth φ end e. text-more D _ depth φ end _ _ _ _ (l .inv .judging D T f depth φ end e) (i .result) (i .ensures .0) _ (g .1) _ _ (c .add-content .ensures .1 .1);
       }
 
   items-enum-known-item-2 : items-lts.Need-enum-known-item-2 (items-claims t) (items-given t) items.Post Inv-loop μ-loop
@@ -151,6 +153,7 @@ module _ (t : ℕ) where
       record {
         forward = omega (arith, l .inv .forward, m .0 .forward);
         room = l .inv .room;
+        counted = l .inv .counted;
         remembered = l .inv .remembered;
         judging = λ D T f depth φ end e. gap-more D _ depth φ end _ _ _ _ (l .inv .judging D T f depth φ end e) (i .result) (i .ensures .0) _ _ (g .1);
       }
@@ -159,12 +162,13 @@ module _ (t : ℕ) where
   items-enum-known-item-3 c = search needs
 
   items-judge-item-requires : items-lts.Need-judge-item-requires (items-claims t) (items-given t) items.Post Inv-loop μ-loop
-  items-judge-item-requires c κs = (omega arith, (c .before .before .before .before .before .before .before .before .pre .1 .0, c .before .before .before .before .before .loop .inv .remembered))
+  items-judge-item-requires c κs = (omega arith, c .before .before .before .before .before .loop .inv .remembered)
 
   items-add-content-requires-2 : items-lts.Need-add-content-requires-2 (items-claims t) (items-given t) items.Post Inv-loop μ-loop
   items-add-content-requires-2 c κs =
       let m = element-moves _ _ _ (c .before .before .before .before .before .before .item-here .ensures .1) _ _ (c .before .before .before .before .item3 .given .1) in
-      (c .before .before .before .before .before .before .before .loop .inv .room, m .1, omega (arith, m .0 .inside, c .before .before .before .before .before .before .before .before .before .before .pre .1 .0))
+      let l = c .before .before .before .before .before .before .before .loop in
+      (l .inv .room, m .1, l .inv .counted)
 
   items-or-requires : items-lts.Need-or-requires (items-claims t) (items-given t) items.Post Inv-loop μ-loop
   items-or-requires c κs = search needs
@@ -189,9 +193,10 @@ module _ (t : ℕ) where
       record {
         forward = omega (arith, l .inv .forward, m .0 .forward, on);
         room = a .ensures .0;
+        counted = a .ensures .1 .0;
         remembered = j .ensures .0;
         judging = λ D T f depth φ end e. rw (c .before .or .ensures) (element-more D _ depth φ end _ _ _ _ (l .inv .judging D T f depth φ end e) (i .result) (i .ensures .0) _ _ (g .1) (j .result) (j .ensures .1 .1 D T)
-            (omega (arith, m .0 .forward, on)) _ _ (a .ensures .1));
+            _ _ (a .ensures .1 .1));
       }
 
   items-enum-known-item-4 : items-lts.Need-enum-known-item-4 (items-claims t) (items-given t) items.Post Inv-loop μ-loop
@@ -204,7 +209,7 @@ module _ (t : ℕ) where
       let g = c .before .item4 .given in
       let m = end-moves _ _ _ (i .ensures .1) _ (g .1) in (
         l .inv .remembered,
-        (omega (arith, l .inv .forward, m), λ D T f depth end φ e. list-ends D _ depth φ end _ _ _ _ (l .inv .judging D T f depth φ end e) (i .result) (i .ensures .0) _ (g .1) m),
+        (omega (arith, l .inv .forward, m), λ D T f depth end φ e. list-ends D _ depth φ end _ _ _ _ (l .inv .judging D T f depth φ end e) (i .result) (i .ensures .0) _ (g .1)),
       )
 
 pub +judge-item+judge-items-spec : {M : Type 1} → statement M

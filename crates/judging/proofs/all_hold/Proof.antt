@@ -5,7 +5,7 @@ use lib.ListN.{length}
 use borrow.Author.Needs.{needs}
 use borrow.Author.Tests.{not-true, not-false}
 use Rattle.commands.proofs.Laws.{past-over, past-other}
-use Rattle.judging.specs.Promises.{tableAtoms}
+use Rattle.judging.specs.contracts.Promises.{tableAtoms}
 use Rattle.judging.proofs.Shapes.{table-shaped, Meeting, all-met, none-more, one-fails, one-more, one-settled, end-settled}
 use Rattle.judging.proofs.all_hold.Statement.{statement}
 use Rattle.judging.proofs.all_hold.Tie as tie

@@ -1,7 +1,7 @@
 -- Where one of the two does not stand, it stands before or after nothing; otherwise their places tell.
 use mathlib.Core.Bool.{and-false}
 use native.Mathlib.Omega.{arith}
-use Rattle.judging.specs.Promises.{firstPlace, lastPlace}
+use Rattle.judging.specs.contracts.Promises.{firstPlace, lastPlace}
 use Rattle.judging.proofs.WordLaws.{member-small, at-most}
 use borrow.Author.Tests.{not-true, not-false}
 use borrow.Author.Needs.{needs}

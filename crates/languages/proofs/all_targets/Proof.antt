@@ -2,7 +2,7 @@
 use Prim.Native.Nat.{_-_}
 use mathlib.Core.Path.{refl}
 use mathlib.Core.Logic.{inl, inr}
-use Rattle.languages.specs.Promises.{Targets}
+use Rattle.languages.specs.contracts.Promises.{Targets}
 use Rattle.languages.proofs.GapSets.{FilledTo, filled-none, filled-more, filled-up}
 use borrow.Author.Needs.{needs}
 use Rattle.languages.proofs.all_targets.Statement.{statement}

@@ -5,7 +5,7 @@ use mathlib.Core.Path.{refl}
 use native.Mathlib.Omega.{arith}
 use lib.ListN.{length}
 use borrow.Author.Needs.{needs}
-use Rattle.pages.specs.Gaps.{ItemsGaps}
+use Rattle.pages.specs.contracts.Gaps.{ItemsGaps}
 use Rattle.pages.proofs.Steps.{text-moves, gap-moves, element-moves, end-moves}
 use Rattle.pages.proofs.Gathering.{Onto, text-gaps, gap-gaps, element-gaps-go, end-gaps, inner-gaps}
 use Prim.Native.Nat.{ℕ, _<_}

@@ -10,9 +10,9 @@ use Rattle.sets.specs.Sets.{member}
 use Rattle.commands.specs.declared.Decoded.the-variants.{Moved}
 use Rattle.commands.specs.declared.Part.{Part}
 use Rattle.commands.specs.Commands.{byte, command}
-use Rattle.commands.specs.Parts.{partOf}
+use Rattle.commands.specs.contracts.Parts.{partOf}
 use Rattle.commands.proofs.Laws.{moved}
-use Rattle.pages.specs.Promises.{ItemsRead}
+use Rattle.pages.specs.contracts.Promises.{ItemsRead}
 use Rattle.pages.proofs.Laws.{element-range}
 use Rattle.pages.proofs.Agreement.{items-end, items-refused, items-next, list-ended, list-goes-on, item-refused, item-leaf, item-missing, item-deep, item-attributes-refused, item-element, item-permitted}
 use Rattle.pages.proofs.Trees.{attributes-onward, item-onward}

@@ -4,7 +4,7 @@ use mathlib.Core.Path.{refl}
 use native.Mathlib.Omega.{arith}
 use lib.ListN.{length}
 use borrow.Author.Needs.{needs}
-use Rattle.pages.specs.Steps.{AfterAttributes}
+use Rattle.pages.specs.contracts.Steps.{AfterAttributes}
 use Rattle.pages.proofs.Steps.{fixed-moves, open-moves}
 use Rattle.pages.proofs.Walks.{Skipping, after-fixed, after-open, after-none}
 use Rattle.pages.proofs.after_attributes.Statement.{statement}

@@ -4,7 +4,7 @@ use mathlib.Core.Path.{refl}
 use native.Mathlib.Omega.{arith}
 use lib.ListN.{length}
 use borrow.Author.Needs.{needs}
-use Rattle.pages.specs.Gaps.{AttributeGaps}
+use Rattle.pages.specs.contracts.Gaps.{AttributeGaps}
 use Rattle.pages.proofs.Steps.{fixed-moves, open-moves}
 use Rattle.pages.proofs.Gathering.{Onto, fixed-gaps, open-gaps, none-gaps}
 use Rattle.pages.proofs.attribute_gaps.Statement.{statement}

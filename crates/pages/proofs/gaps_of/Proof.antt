@@ -6,7 +6,7 @@ use native.Mathlib.Omega.{arith}
 use lib.ListN.{length}
 use borrow.Author.Needs.{needs}
 use Rattle.pages.specs.Items.{Items}
-use Rattle.pages.specs.Gaps.{StartsAt}
+use Rattle.pages.specs.contracts.Gaps.{StartsAt}
 use Rattle.pages.proofs.Gathering.{Tabled, tabled-begin, tabled-go}
 use Rattle.pages.proofs.gaps_of.Statement.{statement}
 use Rattle.pages.proofs.gaps_of.Tie as tie

@@ -15,8 +15,8 @@ use Rattle.commands.proofs.Laws.{moved}
 use Rattle.vocabularies.specs.Vocabulary.{isIn}
 use Rattle.pages.specs.declared.Kind.{Kind}
 use Rattle.pages.specs.ItemReading.{attributeContext}
-use Rattle.commands.specs.Parts.{partOf}
-use Rattle.pages.specs.Promises.{AttributesRead}
+use Rattle.commands.specs.contracts.Parts.{partOf}
+use Rattle.pages.specs.contracts.Promises.{AttributesRead}
 use Rattle.pages.proofs.Laws.{attribute-range}
 use Rattle.pages.proofs.Agreement.{attributes-end, attributes-refused, attributes-twice, attributes-next, string-permitted}
 use Rattle.pages.proofs.read_attributes.Statement.{statement}

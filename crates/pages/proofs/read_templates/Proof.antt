@@ -10,7 +10,7 @@ use Rattle.commands.specs.declared.Decoded.the-variants.{Moved}
 use Rattle.commands.specs.Commands.{command}
 use Rattle.commands.proofs.Laws.{moved}
 use Rattle.pages.specs.declared.Kind.the-variants.{Template}
-use Rattle.commands.specs.Parts.{partOf}
+use Rattle.commands.specs.contracts.Parts.{partOf}
 use Rattle.pages.proofs.Trees.{TreeRead, tree-read}
 use Rattle.pages.proofs.TemplateAgreement.{templates-refused, templates-end, templates-many, template-refused, TemplatesDone, done-none, done-more}
 use Rattle.pages.proofs.read_templates.Statement.{statement}

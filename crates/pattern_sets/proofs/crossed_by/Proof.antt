@@ -4,7 +4,7 @@ use mathlib.Core.Path.{_≡_, sym, _∙_}
 use mathlib.Core.Logic.{⊎-elim}
 use native.Mathlib.Omega.{arith}
 use borrow.Author.Needs.{needs}
-use Rattle.pattern_sets.specs.Images.{Image, crossedBy, Apart}
+use Rattle.pattern_sets.specs.contracts.Images.{Image, crossedBy, Apart}
 use Rattle.pattern_sets.proofs.Imaging.{cross-start, cross-turn, cross-pass}
 use Rattle.pattern_sets.proofs.crossed_by.Statement.{statement}
 use Rattle.pattern_sets.proofs.crossed_by.Tie as tie

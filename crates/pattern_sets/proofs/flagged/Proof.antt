@@ -1,7 +1,7 @@
 -- Each table is checked at all patterns.
 use mathlib.Core.List.{[], _∷_}
 use Rattle.sets.specs.Sets.{member}
-use Rattle.pattern_sets.specs.PatternSets.{holds}
+use Rattle.pattern_sets.specs.contracts.PatternSets.{holds}
 use Rattle.pattern_sets.proofs.Tables.{table, none-flagged}
 use Rattle.pattern_sets.proofs.flagged.Statement.{statement}
 use Rattle.pattern_sets.proofs.flagged.Tie as tie

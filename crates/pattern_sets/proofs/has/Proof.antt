@@ -1,5 +1,5 @@
 -- The pattern is a bit of one word.
-use Rattle.pattern_sets.specs.PatternSets.{holds}
+use Rattle.pattern_sets.specs.contracts.PatternSets.{holds}
 use borrow.Author.Needs.{needs}
 use Rattle.pattern_sets.proofs.has.Statement.{statement}
 use Rattle.pattern_sets.proofs.has.Tie as tie

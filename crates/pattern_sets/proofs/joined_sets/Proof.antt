@@ -5,8 +5,8 @@ use mathlib.Core.Bool.{true}
 use Prim.Native.Nat.{ℕ}
 use native.Mathlib.Omega.{arith}
 use borrow.Author.Needs.{needs}
-use Rattle.pattern_sets.specs.PatternSets.{holds}
-use Rattle.pattern_sets.specs.Images.{joinedBy, Apart}
+use Rattle.pattern_sets.specs.contracts.PatternSets.{holds}
+use Rattle.pattern_sets.specs.contracts.Images.{joinedBy, Apart}
 use Rattle.pattern_sets.proofs.Stepping.{Standing, standing, JoinedTo, joined-none, joined-more, joined-all}
 use Rattle.pattern_sets.proofs.joined_sets.Statement.{statement}
 use Rattle.pattern_sets.proofs.joined_sets.Tie as tie

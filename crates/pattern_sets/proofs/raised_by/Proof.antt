@@ -4,7 +4,7 @@ use mathlib.Core.Path.{_≡_, sym, _∙_}
 use mathlib.Core.Logic.{⊎-elim}
 use native.Mathlib.Omega.{arith}
 use borrow.Author.Needs.{needs}
-use Rattle.pattern_sets.specs.Images.{Image, raisedBy}
+use Rattle.pattern_sets.specs.contracts.Images.{Image, raisedBy}
 use Rattle.pattern_sets.proofs.Imaging.{raise-start, raise-turn, raise-pass}
 use Rattle.pattern_sets.proofs.raised_by.Statement.{statement}
 use Rattle.pattern_sets.proofs.raised_by.Tie as tie

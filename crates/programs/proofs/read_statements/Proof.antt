@@ -6,7 +6,7 @@ use lib.ListN.{length, length-set}
 use borrow.Author.Needs.{needs}
 use Rattle.programs.specs.declared.ProgramRead.{ProgramRead}
 use Rattle.programs.specs.ProgramReading.{mostPoints}
-use Rattle.programs.specs.Promises.{StatementsRead}
+use Rattle.programs.specs.contracts.Promises.{StatementsRead}
 use Rattle.programs.proofs.Agreement.{fewer-left, Stay, stay-below}
 use Rattle.programs.proofs.Reading.{MayStand, may-stand, in-range, refused-here, ends-here, goes-on}
 use Rattle.programs.proofs.read_statements.Statement.{statement}

@@ -5,7 +5,7 @@ use native.Mathlib.Omega.{arith}
 use lib.Seq.{slice}
 use borrow.Author.Needs.{needs}
 use Rattle.programs.specs.ProgramReading.{strayed}
-use Rattle.programs.specs.Promises.{placed}
+use Rattle.programs.specs.contracts.Promises.{placed}
 use Rattle.programs.proofs.Statements.{strays-here, strays-on, strays-nowhere}
 use Rattle.programs.proofs.strayed.Statement.{statement}
 use Rattle.programs.proofs.strayed.Tie as tie

@@ -2,7 +2,7 @@
 use Prim.Native.Nat.{_-_, _≤_}
 use native.Mathlib.Omega.{arith}
 use borrow.Author.Needs.{needs}
-use Rattle.reach.specs.Promises.{LedContents}
+use Rattle.reach.specs.contracts.Promises.{LedContents}
 use Rattle.reach.proofs.Filling.{Filled, filled-zeros, filled-more}
 use Rattle.reach.proofs.Leading.{contents-same}
 use Rattle.reach.proofs.contents_of.Statement.{statement}

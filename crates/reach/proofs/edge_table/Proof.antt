@@ -5,7 +5,7 @@ use mathlib.Core.Logic.{inl, inr}
 use native.Mathlib.Omega.{arith}
 use borrow.Author.Needs.{needs}
 use Rattle.summaries.specs.Summaries.{Summary}
-use Rattle.graphs.specs.Graphs.{Keeps}
+use Rattle.graphs.specs.contracts.Graphs.{Keeps}
 use Rattle.reach.proofs.Filling.{Filled, filled-zeros, filled-more}
 use Rattle.reach.proofs.Edges.{EdgesAt, edges-all}
 use Rattle.reach.proofs.edge_table.Statement.{statement}

@@ -3,7 +3,7 @@ use Prim.Native.Nat.{_-_}
 use mathlib.Core.Path.{refl}
 use mathlib.Core.Logic.{inl, inr}
 use native.Mathlib.Omega.{arith}
-use Rattle.schemes.specs.Schemes.{contentOf, noContent}
+use Rattle.schemes.specs.contracts.Schemes.{contentOf, noContent}
 use Rattle.schemes.proofs.Placing.{Filling, filling-none, filling-more, filled-all}
 use borrow.Author.Needs.{needs}
 use Rattle.schemes.proofs.contents_of.Statement.{statement}

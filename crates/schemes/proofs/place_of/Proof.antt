@@ -2,7 +2,7 @@
 use Prim.Native.Nat.{_-_, _≤_}
 use mathlib.Core.Path.{refl}
 use native.Mathlib.Omega.{arith}
-use Rattle.vocabularies.specs.Promises.{meaningOf}
+use Rattle.vocabularies.specs.contracts.Promises.{meaningOf}
 use Rattle.schemes.proofs.Placing.{From, place-none, place-last, place-found, from-next}
 use borrow.Author.Needs.{needs}
 use Rattle.schemes.proofs.place_of.Statement.{statement}

@@ -1,6 +1,6 @@
 -- The scheme's root is the one given.
 use mathlib.Core.Path.{refl}
-use Rattle.schemes.specs.Schemes.{of-root}
+use Rattle.schemes.specs.contracts.Schemes.{of-root}
 use Rattle.schemes.proofs.root_scheme.Statement.{statement}
 use Rattle.schemes.proofs.root_scheme.Tie as tie
 

@@ -1,6 +1,6 @@
 -- By the answer.
 use mathlib.Core.Path.{ap, sym}
-use Rattle.shows.specs.Promises.{shownOf}
+use Rattle.shows.specs.contracts.Promises.{shownOf}
 use borrow.Author.Needs.{needs}
 use Rattle.shows.proofs.shown_of.Statement.{statement}
 use Rattle.shows.proofs.shown_of.Tie as tie

@@ -5,7 +5,7 @@ use lib.ListN.{length}
 use borrow.Author.Needs.{needs}
 use Rattle.commands.specs.declared.Part.{Part}
 use Rattle.vocabularies.proofs.Laws.{command-turns}
-use Rattle.summaries.specs.Promises.{HoldingsRead}
+use Rattle.summaries.specs.contracts.Promises.{HoldingsRead}
 use Rattle.summaries.proofs.Reading.{holdings-end, holdings-refused, holdings-missing, holdings-fall, holdings-go-on}
 use Rattle.summaries.proofs.read_holdings.Statement.{statement}
 use Rattle.summaries.proofs.read_holdings.Tie as tie

@@ -7,7 +7,7 @@ use lib.ListN.{length, length-set}
 use borrow.Author.Needs.{needs}
 use Rattle.programs.proofs.Laws.{Stay, stay-below}
 use Rattle.commands.specs.declared.Part.{Part}
-use Rattle.summaries.specs.Promises.{ProposalReads}
+use Rattle.summaries.specs.contracts.Promises.{ProposalReads}
 use Rattle.summaries.proofs.Here.{HeadStands, head-stands}
 use Rattle.summaries.proofs.Heads.{Unwritten, none-written, unwritten-after, heads-refused, heads-end, items-refuse, number-low, fewer-after, heads-go-on}
 use Rattle.summaries.proofs.read_proposal.Statement.{statement}

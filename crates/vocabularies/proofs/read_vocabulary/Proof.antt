@@ -3,7 +3,7 @@ use borrow.Author.Needs.{needs}
 use Prim.Native.Nat.{_-_, _<_}
 use native.Mathlib.Omega.{arith}
 use lib.ListN.{length, length-set}
-use Rattle.vocabularies.specs.Promises.{Long}
+use Rattle.vocabularies.specs.contracts.Promises.{Long}
 use Rattle.vocabularies.proofs.Rules.{adds-rule}
 use Rattle.vocabularies.proofs.Vocabularies.{RulesContinue, rules-start, rules-refused, element-fits, rules-unrooted, rules-rooted, rules-twice, rules-broken, rules-more, rules-fall}
 use Rattle.vocabularies.proofs.read_vocabulary.Statement.{statement}

@@ -1,7 +1,7 @@
 -- The value is the case of the definition that its variant has.
 use mathlib.Core.Path.{sym, ap}
 use borrow.Author.Needs.{needs}
-use Rattle.commands.specs.Parts.{partOf}
+use Rattle.commands.specs.contracts.Parts.{partOf}
 use Rattle.commands.proofs.Decoded.part.Statement.{statement}
 use Rattle.commands.proofs.Decoded.part.Tie as tie
 

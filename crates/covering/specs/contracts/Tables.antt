@@ -1,0 +1,61 @@
+-- What reading a job keeps of it, as the check of its covering needs it: where the items of each template, the statement of each point
+-- and the items under each head stand, and which variables some statement names.
+use Prim.Native.Nat.{ℕ, _+_, _*_, _≤_, _<_}
+use mathlib.Core.Path.{_≡_}
+use mathlib.Core.List.{List}
+use mathlib.Core.Bool.{true}
+use lib.ListN.{length, getD}
+use Rattle.sets.specs.Sets.{member}
+use Rattle.commands.specs.declared.Context.the-variants.{TemplateHoldings, StringHoldings}
+use Rattle.commands.specs.Commands.{byte, operandsOf, allInRange}
+use Rattle.programs.specs.Program.{Act, Statement, templateVariable, stringVariable, statementAt, named}
+use Rattle.programs.specs.ProgramReading.{statementRead, actTemplatesThere, templatesThere, pointsThere}
+use Rattle.programs.specs.contracts.Promises.{ActFits}
+use Rattle.summaries.specs.Proposal.{Head}
+use Rattle.summaries.specs.ProposalReading.{variableOf}
+use Rattle.summaries.specs.Summaries.{under}
+use Rattle.jobs.specs.Job.{Job}
+use Rattle.summaries.specs.contracts.Listed.{Listed}
+use Rattle.pages.specs.contracts.Gaps.{StartsAt, GapsTable}
+
+-- The items under each head of a point stand where the table says. Variable v, as `40` numbers it, has place 8 p + v; where there is
+-- no head, the table may name any offset at which no item stands.
+pub record EntriesAt (s heads : List ℕ) (hs : List Head) (p : ℕ) : Type 0 where
+  pub template : (x : ℕ) → x < 4 → Listed TemplateHoldings s (getD heads (p * 8 + x) 0) (under hs p (templateVariable x))
+  pub string : (y : ℕ) → y < 4 → Listed StringHoldings s (getD heads (p * 8 + (4 + y)) 0) (under hs p (stringVariable y))
+
+-- The statement at an offset, in range and with its template there.
+pub record StatementStands (s : List ℕ) (count place : ℕ) (t : Statement) : Type 0 where
+  pub is : statementRead s place (byte s place) ≡ t
+  pub ranges : allInRange (operandsOf (byte s place)) s (place + 1) ≡ true
+  pub template-there : templatesThere count t ≡ true
+
+-- The set has just the variables that some statement names.
+abbrev pub NamesAre : Job → ℕ → Type 0
+NamesAre j names = (v : ℕ) → v < 8 → member names v ≡ named (j .script .program) (variableOf v)
+
+pub record Tables (j : Job) (s : List ℕ) (count : ℕ) (starts : List ℕ) (points : ℕ) (places : List ℕ) (names : ℕ) (heads : List ℕ) : Type 0 where
+  pub count-is : count ≡ length (j .script .templates)
+  pub few-templates : count ≤ 31
+  pub start : StartsAt s (j .script .templates) starts
+  pub points-are : points ≡ length (j .script .program)
+  pub few-points : points ≤ 32
+  pub statement : (p : ℕ) → p < points → StatementStands s count (getD places p 0) (statementAt (j .script .program) p)
+  pub points-there : (p : ℕ) → p < points → pointsThere points (statementAt (j .script .program) p) ≡ true
+  pub names-are : NamesAre j names
+  pub entry : (p : ℕ) → p < 32 → EntriesAt s heads (j .proposal) p
+
+-- What is known where the statement of a point, with this act, is compared.
+pub record PointAt (j : Job) (s gaps heads : List ℕ) (p : ℕ) (a : Act) : Type 0 where
+  pub fits : ActFits a
+  pub template-there : actTemplatesThere (length (j .script .templates)) a ≡ true
+  pub few : length (j .script .templates) ≤ 31
+  pub gaps-are : GapsTable gaps (j .script .templates)
+  pub low : p < 32
+  pub entry : EntriesAt s heads (j .proposal) p
+
+-- What is known where its step to a next point is compared.
+pub record StepAt (j : Job) (s gaps heads : List ℕ) (p next : ℕ) (a : Act) : Type 0 where
+  pub point : PointAt j s gaps heads p a
+  pub next-low : next < 32
+  pub next-entry : EntriesAt s heads (j .proposal) next

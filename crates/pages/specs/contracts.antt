@@ -1,0 +1,4 @@
+-- The contracts of inner functions: nothing here has to be believed.
+pub mod Promises
+pub mod Steps
+pub mod Gaps

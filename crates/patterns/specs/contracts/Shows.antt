@@ -1,0 +1,89 @@
+-- The decision of a show (document 01, "Verdicts", 11 and 12), from tables worked out for its graph: the lowest root template with a
+-- page that is not exactly the root element, and the lowest offset of an element that is wrong in some page.
+use Prim.Native.Nat.{ℕ, zero, suc, _≤_}
+use mathlib.Core.Path.{_≡_}
+use mathlib.Core.List.{List}
+use mathlib.Core.Bool.{Bool, cond, _&&_, _||_}
+use mathlib.Core.Option.{Option, some, none}
+use lib.ListN.{length}
+use lib.Dec.{leb}
+use Rattle.vocabularies.specs.Vocabulary.{Formula, Rule, Vocabulary, ruleOf}
+use Rattle.vocabularies.specs.Facts.{factsOf}
+use Rattle.pages.specs.Items.{Attribute, Item, text, gap, element, Items, more}
+use Rattle.pages.specs.Items as Items
+use Rattle.pages.specs.RightPages.{_∈_}
+use Rattle.programs.specs.Program.{templateAt}
+use Rattle.summaries.specs.Proposal.{root}
+use Rattle.summaries.specs.Summaries.{Summary}
+use Rattle.patterns.specs.contracts.Morphisms.{empty, other, rootMorphism, factMorphism}
+use Rattle.patterns.specs.contracts.Rounds.{Set, Sets}
+use Rattle.patterns.specs.contracts.Exactness.{Exact, ContentsExact, ReachedExact}
+use Rattle.patterns.specs.contracts.Elements.{wrongElement}
+
+-- The least number of which P holds, or none if there is none.
+pub data Least (P : ℕ → Type 0) : Option ℕ → Type 0 where
+  nowhere : ((n : ℕ) → P n → ⊥) → Least P none
+  least : {n : ℕ} → P n → ((m : ℕ) → P m → n ≤ m) → Least P (some n)
+
+-- The lower of two numbers, where there are two.
+abbrev pub lower : Option ℕ → Option ℕ → Option ℕ
+lower none o = o
+lower (some m) none = some m
+lower (some m) (some n) = some (cond (leb m n) m n)
+
+abbrev pub onlyIf : Bool → ℕ → Option ℕ
+onlyIf b n = cond b (some n) none
+
+-- The lowest of what f gives below n.
+unfoldable pub lowestOver : ℕ → (ℕ → Option ℕ) → Option ℕ
+lowestOver zero f = none
+lowestOver (suc n) f = lower (lowestOver n f) (f n)
+
+-- The lowest mark of an element, at any depth, that passes a test.
+unfoldable mutual
+  pub lowestMark : (ℕ → ℕ → List Attribute → Items → Bool) → Items → Option ℕ
+  lowestMark p Items.none = none
+  lowestMark p (more i φ) = lower (lowestMarkIn p i) (lowestMark p φ)
+
+  pub lowestMarkIn : (ℕ → ℕ → List Attribute → Items → Bool) → Item → Option ℕ
+  lowestMarkIn p text = none
+  lowestMarkIn p (gap g) = none
+  lowestMarkIn p (element e mark δ φ) = lower (onlyIf (p e mark δ φ) mark) (lowestMark p φ)
+
+-- What is worked out for a graph: the classes of the pages of each template, the templates that are reached, the contents that can
+-- stand in the pages of each, and the pattern sets of each clause.
+pub record Tables : Type 0 where
+  pub classes : Sets
+  pub reached : Set
+  pub contents : Sets
+  pub clauses : Formula → Sets
+
+-- The tables tell what the pages have; of clauses those that stand in the vocabulary.
+pub record ExactTables (φs : List Items) (G : Summary) (D : Vocabulary) (T : Tables) : Type 0 where
+  pub classes : Exact φs G (rootMorphism (D .root)) (T .classes)
+  pub reached : ReachedExact φs G (T .reached)
+  pub contents : ContentsExact φs G (T .contents)
+  pub clauses : (e : ℕ) (r : Rule) (ψ : Formula) → ruleOf (D .rules) e ≡ some r → ψ ∈ r .clauses
+      → Exact φs G (factMorphism (factsOf ψ)) (T .clauses ψ)
+
+-- Some page of a root template is empty, or other than the root alone.
+abbrev pub notRoot : Summary → Sets → ℕ → Bool
+notRoot G K r = G (root r) && (K r empty || K r other)
+
+module _ (φs : List Items) (G : Summary) (D : Vocabulary) (T : Tables) where
+  -- Verdict 11.
+  unfoldable pub lowestRoot : Option ℕ
+  unfolding lowestOver
+  lowestRoot = lowestOver (suc (length φs)) (λ r. onlyIf (notRoot G (T .classes) r) r)
+
+  -- The lowest element of template n that is wrong in some page.
+  unfoldable pub lowestWrongIn : ℕ → Option ℕ
+  unfolding lowestMark
+  lowestWrongIn n = cond (T .reached n)
+      (lowestMark (λ e mark δ φ. wrongElement φs G (T .clauses) (T .contents) D n e δ φ) (templateAt φs n))
+      none
+
+  -- Verdict 12.
+  unfoldable pub lowestWrong : Option ℕ
+  unfolding lowestOver lowestWrongIn
+  lowestWrong = lowestOver (suc (length φs)) lowestWrongIn

@@ -1,0 +1,125 @@
+-- What the decision of a show promises (document 01, "Verdicts", 11 and 12).
+use Prim.Native.Nat.{ℕ, _≤_, _<_}
+use mathlib.Core.Path.{_≡_}
+use mathlib.Core.List.{List, []}
+use mathlib.Core.Bool.{Bool, true, _&&_, _||_}
+use mathlib.Core.Option.{Option, some, none}
+use lib.ListN.{length, getD}
+use Rattle.sets.specs.Sets.{member}
+use Rattle.commands.specs.Reading.{whole}
+use Rattle.vocabularies.specs.declared.Tables.{Tables}
+use Rattle.vocabularies.specs.Vocabulary.{declared}
+use Rattle.vocabularies.specs.contracts.Promises.{Describes}
+use Rattle.pages.specs.Items.{Items}
+use Rattle.pages.specs.contracts.Gaps.{StartsAt, GapsTable}
+use Rattle.pages.specs.contracts.Promises.{Located}
+use Rattle.programs.specs.Program.{statementAt}
+use Rattle.summaries.specs.Summaries.{Summary, Environment, entries}
+use Rattle.summaries.specs.Languages.{closedSummary, graphShown}
+use Rattle.jobs.specs.Job.{Script, Job, job}
+use Rattle.jobs.specs.JobVerdict.{ShowHolds, NotRootAt, WrongIn}
+use Rattle.graphs.specs.contracts.Graphs.{Keeps, nothing}
+use Rattle.covering.specs.contracts.Tables.{EntriesAt, StatementStands}
+use Rattle.reach.specs.contracts.Promises.{OutlinesTo}
+use Rattle.occurrences.specs.contracts.Occurrences.{Occurrences}
+use Rattle.pattern_sets.specs.contracts.PatternSets.{holds}
+use Rattle.patterns.specs.contracts.Morphisms.{empty, other, rootMorphism}
+use Rattle.patterns.specs.declared.Wrong as Wrongs
+use Rattle.patterns.specs.contracts.Shows.{Least, ExactTables}
+use Rattle.patterns.specs.contracts.Shows as Decided
+use Rattle.patterns.specs.contracts.LowestWrong.{LowestWrong}
+use Rattle.languages.specs.contracts.Tables.{SetsAre}
+use Rattle.shows.specs.declared.TemplateTables.{TemplateTables}
+use Rattle.shows.specs.declared.Showing.{Showing}
+use Rattle.shows.specs.declared.Showing.the-variants.{Nothing, Variable}
+use Rattle.shows.specs.declared.Shown.{Shown}
+use Rattle.shows.specs.declared.Shown.the-variants.{Right, NotRoot, Wrong}
+use Rattle.shows.specs.declared.OtherRoot.{OtherRoot}
+use Rattle.shows.specs.declared.OtherRoot as OtherRoots
+
+module _ (π : Script) (E : ℕ → Environment) (p : ℕ) where
+  -- 11: the lowest root template with a page that is not exactly the root element.
+  pub record FoundNotRoot (t : ℕ) : Type 0 where
+    pub at : NotRootAt π E p t
+    pub lowest : (t′ : ℕ) → NotRootAt π E p t′ → t ≤ t′
+
+  -- 12: there is no such root, and this is the lowest element that is wrong in some page.
+  pub record FoundWrong (t at : ℕ) : Type 0 where
+    pub no-root : (t′ : ℕ) → NotRootAt π E p t′ → ⊥
+    pub wrong : WrongIn π E p t at
+    pub lowest : (t′ at′ : ℕ) → WrongIn π E p t′ at′ → at ≤ at′
+
+  -- What is found at a point.
+  abbrev pub ShowFound : Shown → Type 0
+  ShowFound Right = ShowHolds π E p
+  ShowFound (NotRoot t) = FoundNotRoot t
+  ShowFound (Wrong t at) = FoundWrong t at
+
+-- What is known of a point whose statement stands at an offset.
+pub record PointStands (s heads : List ℕ) (place p : ℕ) (j : Job) : Type 0 where
+  pub count : ℕ
+  pub stands : StatementStands s count place (statementAt (j .script .program) p)
+  pub low : p < 32
+  pub entry : EntriesAt s heads (j .proposal) p
+
+abbrev pub shownAt : Job → ℕ → Option Summary
+shownAt j p = graphShown (j .script .templates) (j .script .program) (entries (j .proposal)) p
+
+-- What the points with the statement at an offset show.
+abbrev pub ShowsAt : List ℕ → ℕ → Showing → Type 0
+ShowsAt s place Nothing = (heads : List ℕ) (p : ℕ) (j : Job) → PointStands s heads place p j → shownAt j p ≡ none
+ShowsAt s place (Variable x) = (heads : List ℕ) (p : ℕ) (j : Job) → PointStands s heads place p j → (x < 4) × (shownAt j p ≡ some (closedSummary (entries (j .proposal) p .template x)))
+
+-- A graph that held nothing holds what a show of a variable at a point shows.
+abbrev pub HoldsShown : List ℕ → List ℕ → ℕ → ℕ → List ℕ → List ℕ → Type 0
+HoldsShown s heads p x before after =
+    (j : Job) → p < 32 → x < 4 → EntriesAt s heads (j .proposal) p → Keeps before nothing → Keeps after (closedSummary (entries (j .proposal) p .template x))
+
+-- What is worked out of the templates of a job, once for all its shows: the gaps of each, at any depth, its outline, and the templates
+-- in which each element stands.
+pub record TablesOf (φs : List Items) (count : ℕ) (t : TemplateTables) : Type 0 where
+  pub gaps : GapsTable (t .gaps) φs
+  pub outlines : OutlinesTo φs count (t .contents) (t .outer)
+  pub occurrences : Occurrences φs (t .standing)
+
+abbrev pub TabledBy : List ℕ → List ℕ → List ℕ → ℕ → TemplateTables → Type 0
+TabledBy s gaps starts count r = (φs : List Items) → GapsTable gaps φs → StartsAt s φs starts → count ≡ length φs → count ≤ 31 → TablesOf φs count r
+
+-- What is known where a show is decided: the job was read from these bytes, its vocabulary and templates stand where the tables say,
+-- and the graph keeps what the point shows.
+pub record ShowAt (s : List ℕ) (rules : Tables) (templates : TemplateTables) (count : ℕ) (starts graph : List ℕ) (j : Job) (p : ℕ) : Type 0 where
+  pub end : ℕ
+  pub reads : job s ≡ whole j end
+  pub vocabulary : Describes s (j .script .vocabulary) rules
+  pub located : Located (declared (j .script .vocabulary .rules)) s (j .script .templates) count starts
+  pub stand : StartsAt s (j .script .templates) starts
+  pub few : count ≤ 31
+  pub tabled : TablesOf (j .script .templates) count templates
+  pub shown : Summary
+  pub shows : shownAt j p ≡ some shown
+  pub keeps : Keeps graph shown
+
+abbrev pub DecidesShow : List ℕ → Tables → TemplateTables → ℕ → List ℕ → List ℕ → Shown → Type 0
+DecidesShow s rules templates count starts graph r = (j : Job) (p : ℕ) → ShowAt s rules templates count starts graph j p → ShowFound (j .script) (entries (j .proposal)) p r
+
+-- The steps on the way. Whether a template is a root, and some page of it is empty or other than the root alone.
+abbrev pub isOther : ℕ → List ℕ → ℕ → Bool
+isOther roots classes n = member roots n && (holds classes empty || holds classes other)
+
+-- The lowest of the templates up to `count` that is such.
+abbrev pub otherRoot : OtherRoot → Option ℕ
+otherRoot OtherRoots.the-variants.Nowhere = none
+otherRoot (OtherRoots.the-variants.At t) = some t
+
+abbrev pub LowestRoot : ℕ → List (List ℕ) → ℕ → OtherRoot → Type 0
+LowestRoot roots classes count r = Least (λ n. (n ≤ count) × (isOther roots (getD classes n []) n ≡ true)) (otherRoot r)
+
+abbrev pub shownOf : Wrongs.Wrong → Shown
+shownOf Wrongs.the-variants.Nowhere = Right
+shownOf (Wrongs.the-variants.At t at) = Wrong t at
+
+-- The lowest element that is wrong in some page, where the classes of the pages of each template are given.
+abbrev pub WrongElements : List ℕ → Tables → TemplateTables → ℕ → List ℕ → List ℕ → List (List ℕ) → Wrongs.Wrong → Type 0
+WrongElements s rules templates count starts graph classes r = (j : Job) (p : ℕ) (A : ShowAt s rules templates count starts graph j p)
+    (T : Decided.Tables) → ExactTables (j .script .templates) (A .shown) (j .script .vocabulary) T → SetsAre (j .script .templates) (rootMorphism (j .script .vocabulary .root)) (T .classes) classes
+    → LowestWrong (WrongIn (j .script) (entries (j .proposal)) p) r
