@@ -1,5 +1,5 @@
-// The four numbers of what was read into a buffer (document 01, "Verdicts"). The buffers hold a byte more than a job or a slice may
-// have, so that what fills one is too long, whatever follows.
+// The four numbers of what was read into a buffer (document 01, "Verdicts"). Buffers are lent as `&`: `untouched` holds by their type.
+// They hold a byte more than a job or a slice may have, so that what fills one is too long, whatever follows.
 ghost use Prim.Native.Nat.{ℕ, _≤_};
 ghost use mathlib.Core.Path.{_≡_};
 ghost use mathlib.Core.List.{List};

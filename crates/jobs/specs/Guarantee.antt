@@ -4,7 +4,6 @@ use Prim.Native.Nat.{ℕ}
 use mathlib.Core.Path.{_≡_}
 use mathlib.Core.List.{List}
 use Rattle.verdicts.specs.declared.Numbers.{Numbers}
-use Rattle.verdicts.specs.Printed.{prints}
 use Rattle.commands.specs.Reading.{whole}
 use Rattle.pages.specs.Items.{Items}
 use Rattle.pages.specs.RightPages.{Right, _∈_}
@@ -16,7 +15,7 @@ abbrev pub ShowsOnlyRightPages : Script → List Choice → Type 0
 ShowsOnlyRightPages π choices =
     (page : Items) → page ∈ shown (π .templates) (π .program) choices → Right (π .vocabulary) page
 
--- What a verdict of a job's bytes claims: if it is acceptance, 0 0 0 0, the job reads, and every run of its script shows only right pages.
+-- What a verdict of a job's bytes claims: if it is acceptance, N is 0, the job reads, and every run of its script shows only right pages.
 abbrev pub Guarantee : List ℕ → Numbers → Type 0
 Guarantee s verdict =
-    verdict ≡ prints 0 0 0 0 → (j : Job) × (end : ℕ) × (job s ≡ whole j end) × ((choices : List Choice) → ShowsOnlyRightPages (j .script) choices)
+    verdict .n ≡ 0 → (j : Job) × (end : ℕ) × (job s ≡ whole j end) × ((choices : List Choice) → ShowsOnlyRightPages (j .script) choices)

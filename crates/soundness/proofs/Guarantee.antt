@@ -87,5 +87,5 @@ script-shows-right {π} {E} r e (accepted covered shows) = all-right π E r cove
 
 -- The job's verdict keeps what demand 3 claims.
 pub guarantee : (s : List ℕ) (v : Numbers) → JobVerdict s v → Guarantee s v
-guarantee s v (unreadable {f = f} q) e = absurd (form-refuses f (ap (λ (k : Numbers). k .n) e))
-guarantee s v (readable {j = j} {end = end} reads h) e = (j, end, reads, script-shows-right (in-range s j end reads) (ap (λ (k : Numbers). k .n) e) h)
+guarantee s v (unreadable {f = f} q) e = absurd (form-refuses f e)
+guarantee s v (readable {j = j} {end = end} reads h) e = (j, end, reads, script-shows-right (in-range s j end reads) e h)
