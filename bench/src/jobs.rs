@@ -1,5 +1,6 @@
 //! What the checks are timed on. Each maker takes a number of quarters of the full size; the proposal is the least one that covers.
 
+use crate::slices::slice;
 use independent::least::with_least;
 
 type Maker = fn(usize) -> Vec<u8>;
@@ -25,16 +26,9 @@ pub const J1: [u8; 121] = [
 
 const POINTS: u8 = 32;
 
-/// The job records of a file.
+/// The job records of a file: one slice each.
 pub fn records(mut bytes: &[u8]) -> Vec<Vec<u8>> {
-    let mut jobs = Vec::new();
-    while !bytes.is_empty() {
-        let (head, rest) = bytes.split_at(4);
-        let (job, rest) = rest.split_at(u32::from_le_bytes(head.try_into().unwrap()) as usize);
-        jobs.push(job.to_vec());
-        bytes = rest;
-    }
-    jobs
+    std::iter::from_fn(|| slice(&mut bytes)).collect()
 }
 
 /// The seven large jobs among the supplied vectors, which stand in the order of their files' names: bytes, damaged, large, small, valid.

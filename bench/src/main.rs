@@ -2,6 +2,7 @@
 
 mod jobs;
 mod pages;
+mod slices;
 
 use std::hint::black_box;
 use std::time::{Duration, Instant};

@@ -1,5 +1,7 @@
 //! What the judges are timed on. Each maker takes a number of quarters of the full size.
 
+use crate::slices::slice;
+
 pub type Pair = (Vec<u8>, Vec<u8>);
 type Maker = fn(usize) -> Pair;
 
@@ -8,23 +10,9 @@ pub const GROWING: [(&str, Maker); 4] =
 
 const MOST: usize = 65_535;
 
-/// The page records of a file: two slices each, behind their lengths.
+/// The page records of a file: two slices each.
 pub fn records(mut bytes: &[u8]) -> Vec<Pair> {
-    let mut pairs = Vec::new();
-    while !bytes.is_empty() {
-        let vocabulary = slice(&mut bytes);
-        let page = slice(&mut bytes);
-        pairs.push((vocabulary, page));
-    }
-    pairs
-}
-
-fn slice(bytes: &mut &[u8]) -> Vec<u8> {
-    let (head, rest) = bytes.split_at(4);
-    let length = u32::from_le_bytes(head.try_into().unwrap()) as usize;
-    let (kept, rest) = rest.split_at(length);
-    *bytes = rest;
-    kept.to_vec()
+    std::iter::from_fn(|| Some((slice(&mut bytes)?, slice(&mut bytes)?))).collect()
 }
 
 /// Element 1 holds text and elements 2; element 2 has attribute 3 of a set, text, and order clauses.
