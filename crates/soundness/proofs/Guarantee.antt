@@ -1,18 +1,15 @@
 -- Demand 3: an accepted job's runs show only right pages, whatever its proposal says, over every list of choices.
 use Prim.Native.Nat.{ℕ}
-use mathlib.Core.Path.{_≡_, ap, subst, _∙_}
+use mathlib.Core.Path.{_≡_, subst}
 use mathlib.Core.List.{List}
-use mathlib.Core.Bool.{Bool, true, false}
 use native.Mathlib.Omega.{arith}
 use lib.ListN.{length}
-use lib.Dec.{leb, ltb}
-use Rattle.verdicts.specs.declared.Form.the-variants.{TooLong, NotAllowed}
 use Rattle.verdicts.specs.declared.Numbers.{Numbers}
 use Rattle.verdicts.proofs.Told.{form-refuses}
-use Rattle.commands.specs.Reading.{Read, whole, refused, andThen, when, enough}
-use Rattle.commands.proofs.Laws.{andThen-whole, when-whole}
+use Rattle.commands.specs.Reading.{Read, whole, andThen, enough}
+use Rattle.commands.proofs.Laws.{andThen-whole}
 use Rattle.vocabularies.specs.Vocabulary.{Vocabulary, declared}
-use Rattle.vocabularies.specs.VocabularyReading.{vocabulary, alone, mostBytes}
+use Rattle.vocabularies.specs.VocabularyReading.{vocabulary}
 use Rattle.pages.specs.Items.{Items}
 use Rattle.pages.specs.ItemReading.{templates}
 use Rattle.programs.specs.Program.{Statement}
@@ -24,22 +21,9 @@ use Rattle.summaries.specs.Summaries.{Environment}
 use Rattle.jobs.specs.Job.{Script, Job, script, job}
 use Rattle.jobs.specs.JobVerdict.{ScriptVerdict, start-uncovered, step-uncovered, not-root, wrong-element, accepted, JobVerdict, unreadable, readable}
 use Rattle.jobs.specs.Guarantee.{Guarantee, ShowsOnlyRightPages}
+use Rattle.agreement.proofs.Readings.{alone-whole}
 use Rattle.soundness.proofs.Run.{InRange, all-right}
 use Rattle.soundness.proofs.Ranges.{program-in-range}
-
-last-whole : {A : Type 0} (t : Bool) (b a : A) (next end : ℕ) → when t (λ _. refused NotAllowed next) (λ _. whole b next) ≡ whole a end → b ≡ a
-last-whole true b a next end e = absurd (let z : _≡_ {A = ℕ} 0 1 = cc in omega arith)
-last-whole false b a next end e = cc
-
--- What is read alone is read.
-alone-whole : {A : Type 0} (s : List ℕ) (r : Read A) (a : A) (end : ℕ) → alone s r ≡ whole a end → (next : ℕ) × (r ≡ whole a next)
-alone-whole {A} s r a end e =
-    let q = when-whole (leb (length s) mostBytes) (λ _. andThen r stops) TooLong 0 a end e in
-    let q′ = andThen-whole r stops a end (q .1) in
-    (q′ .1, q′ .2 ∙ ap (λ (b : A). whole b (q′ .1)) (last-whole (ltb (q′ .1) (length s)) (q′ .0) a (q′ .1) end (q′ .3)))
-  where
-    stops : A → ℕ → Read A
-    stops b next = when (ltb next (length s)) (λ _. refused NotAllowed next) (λ _. whole b next)
 
 -- A script that reads names variables in range, and so does a job.
 module _ (s : List ℕ) where
@@ -70,9 +54,8 @@ module _ (s : List ℕ) where
   in-range : (j : Job) (end : ℕ) → job s ≡ whole j end → InRange (j .script .program)
   unfolding job
   in-range j end e =
-      let a = alone-whole s (andThen (script s) with-script) j end e in
-      let c = andThen-whole (script s) with-script j (a .0) (a .1) in
-      let h = andThen-whole (proposal (enough s) (length (c .0 .templates)) (length (c .0 .program)) s 0 (c .1)) (with-proposal (c .0)) j (a .0) (c .3) in
+      let c = andThen-whole (script s) with-script j end (alone-whole s (andThen (script s) with-script) e) in
+      let h = andThen-whole (proposal (enough s) (length (c .0 .templates)) (length (c .0 .program)) s 0 (c .1)) (with-proposal (c .0)) j end (c .3) in
       let q : record { script = c .0; proposal = h .0 } ≡ j = cc (h .3) in
       subst (λ (k : Job). InRange (k .script .program)) q (script-in-range (c .0) (c .1) (c .2))
 
