@@ -1,6 +1,6 @@
 #!/bin/sh
 # edge.sh: what the programs make of standard input that cannot be read, comes in pieces, or ends inside a record. It runs what
-#     rt check page_check check_records judge_records && rt staticlib exports
+#     rt check page_check check_records judge_records page_infer infer_records && rt staticlib exports
 # makes, compares standard output and standard error with what is written here, and needs cc and python3.
 set -eu
 cd "$(dirname "$0")/.."
@@ -39,7 +39,7 @@ head -c 59 examples/J1 > "$made/first"
 tail -c +60 examples/J1 > "$made/second"
 cat examples/J1 "$made/00" > "$made/more"
 
-for program in page_check check_records judge_records; do
+for program in page_check check_records judge_records page_infer infer_records; do
     from / $bin/$program
     same "$program, a directory" '' "$directory"
     closed $bin/$program
@@ -113,10 +113,36 @@ same 'check_records, a record that is too long, cut off' '' "$cut"
 from "$made/top" $bin/check_records
 same 'check_records, 121 of 16,777,337 bytes' '' "$cut"
 
+# What is no script, or not one alone, gets its numbers on standard error, and nothing else is written.
+from "$made/nothing" $bin/page_infer
+same 'page_infer, no byte' '' '2 0 0 0\n'
+from examples/J1 $bin/page_infer
+same 'page_infer, J1 whole' '' '3 56 0 0\n'
+fed bytes $bin/page_infer examples/J1.script
+cp examples/J1 "$made/expected"
+compared=$((compared + 1))
+if cmp -s "$made/expected" "$made/printed" && [ ! -s "$made/said" ]; then
+    echo "same: page_infer, J1's script byte by byte: J1"
+else
+    failed=$((failed + 1))
+    echo "DIFFERENT: page_infer, J1's script byte by byte"
+fi
+fed nonblocking $bin/page_infer examples/J1.script "$made/00"
+same "page_infer, J1's script and later 00, not waited for" '' "$blocked"
+proposal="ok 65 $(tail -c 65 examples/J1 | od -An -v -tx1 | tr -d ' \n' | tr a-f A-F)"
+{ printf '\070\000\000\000'; cat examples/J1.script; } > "$made/script"
+from "$made/script" $bin/infer_records
+same 'infer_records, a record' "$proposal\n" ''
+fed bytes $bin/infer_records "$made/script" "$made/script"
+same 'infer_records, two records byte by byte' "$proposal\n$proposal\n" ''
+{ cat "$made/script"; head -c 59 "$made/script"; } > "$made/cut"
+from "$made/cut" $bin/infer_records
+same 'infer_records, a record and 59 bytes of it' "$proposal\n" "$cut"
+
 # The program over the calls for C.
 cc -o "$made/host" examples/host.c target/staticlib/libexports.a
 from examples/J1 "$made/host"
-same 'host, J1' '0 0 0 0\n0 0 0 0\n' ''
+same 'host, J1' '0 0 0 0\n0 0 0 0\n0 0 0 0 65\n0 0 0 0\n' ''
 from / "$made/host"
 same 'host, a directory' '' "$directory"
 compared=$((compared + 1))

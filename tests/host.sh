@@ -23,8 +23,8 @@ rt staticlib exports > "$made/said" || { cat "$made/said"; exit 1; }
 run "$CC" -O2 -Wall -Wextra -Iinclude examples/host.c target/staticlib/libexports.a -o "$made/host_c"
 run "$RUSTC" --edition 2021 -O -L target/staticlib examples/host.rs -o "$made/host_rs"
 
-# The job's verdict, and the page's.
-printf '0 0 0 0\n0 0 0 0\n' > "$made/expected"
+# The job's verdict, and the page's; a script's, with the length of its proposal, and that of the job with it.
+printf '0 0 0 0\n0 0 0 0\n0 0 0 0 65\n0 0 0 0\n' > "$made/expected"
 for host in host_c host_rs; do
     "$made/$host" < examples/J1 > "$made/printed" || fail "$host on examples/J1 ended with status $?"
     if diff "$made/expected" "$made/printed"; then

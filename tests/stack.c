@@ -1,5 +1,6 @@
-/* stack job|judge: one of the calls over all records of standard input, on a thread whose stack has as many bytes as the header
-   states, above a page that nobody may touch. Prints the verdicts, and to standard error how much of the stack was used. */
+/* stack job|judge|infer: one of the calls over all records of standard input, on a thread whose stack has as many bytes as the header
+   states, above a page that nobody may touch. Prints the verdicts, and the proposals that are worked out; and to standard error how much of
+   the stack was used. */
 #define _GNU_SOURCE
 #include <pthread.h>
 #include <stdio.h>
@@ -33,14 +34,24 @@ static int read_slice(struct slice *s)
     return s->bytes != NULL && fread(s->bytes, 1, s->length, stdin) == s->length;
 }
 
-static void print(const uint64_t verdict[4])
+static struct slice first, second;
+static uint64_t verdict[4], answer[5];
+static uint64_t work[PAGE_CHECK_WORK];
+static uint8_t proposal[4194304];
+
+static void print(const uint64_t numbers[4])
 {
-    printf("%llu %llu %llu %llu\n", (unsigned long long)verdict[0], (unsigned long long)verdict[1],
-           (unsigned long long)verdict[2], (unsigned long long)verdict[3]);
+    printf("%llu %llu %llu %llu\n", (unsigned long long)numbers[0], (unsigned long long)numbers[1],
+           (unsigned long long)numbers[2], (unsigned long long)numbers[3]);
 }
 
-static struct slice first, second;
-static uint64_t verdict[4];
+static void print_proposal(void)
+{
+    printf("ok %llu ", (unsigned long long)answer[4]);
+    for (size_t i = 0; i < answer[4]; i++)
+        printf("%02X", proposal[i]);
+    printf("\n");
+}
 
 static void *call_job(void *unused)
 {
@@ -54,17 +65,24 @@ static void *call_judge(void *unused)
     return unused;
 }
 
+static void *call_infer(void *unused)
+{
+    page_check_infer(first.bytes, first.length, work, PAGE_CHECK_WORK, proposal, sizeof proposal, 0, answer);
+    return unused;
+}
+
 int main(int argc, char **argv)
 {
     int is_judge = argc == 2 && strcmp(argv[1], "judge") == 0;
-    size_t size = is_judge ? PAGE_CHECK_JUDGE_STACK : PAGE_CHECK_JOB_STACK;
+    int is_infer = argc == 2 && strcmp(argv[1], "infer") == 0;
+    size_t size = is_judge ? PAGE_CHECK_JUDGE_STACK : is_infer ? PAGE_CHECK_INFER_STACK : PAGE_CHECK_JOB_STACK;
     size_t guard = (size_t)sysconf(_SC_PAGESIZE);
     uint8_t *memory = mmap(NULL, guard + size, PROT_READ | PROT_WRITE, MAP_PRIVATE | MAP_ANONYMOUS, -1, 0);
     pthread_attr_t attributes;
     size_t unused = 0;
 
-    if (!is_judge && (argc != 2 || strcmp(argv[1], "job") != 0)) {
-        fprintf(stderr, "usage: stack job|judge\n");
+    if (!is_judge && !is_infer && (argc != 2 || strcmp(argv[1], "job") != 0)) {
+        fprintf(stderr, "usage: stack job|judge|infer\n");
         return 2;
     }
     if (memory == MAP_FAILED || mprotect(memory, guard, PROT_NONE) != 0 || pthread_attr_init(&attributes) != 0
@@ -76,12 +94,17 @@ int main(int argc, char **argv)
     while (read_slice(&first) && (!is_judge || read_slice(&second))) {
         pthread_t thread;
 
-        if (pthread_create(&thread, &attributes, is_judge ? call_judge : call_job, NULL) != 0
+        if (pthread_create(&thread, &attributes, is_judge ? call_judge : is_infer ? call_infer : call_job, NULL) != 0
             || pthread_join(thread, NULL) != 0) {
             perror("stack");
             return 1;
         }
-        print(verdict);
+        if (!is_infer)
+            print(verdict);
+        else if (answer[0] == 0)
+            print_proposal();
+        else
+            print(answer);
     }
     while (unused < size && memory[guard + unused] == UNUSED)
         unused++;

@@ -14,6 +14,7 @@ make="$CARGO_TARGET_DIR/release"
 "$make/make-jobs" 1 2000 "$made/jobs.bin" "$made/jobs.verdicts"
 "$make/limits" "$made/limits.bin" "$made/limits.verdicts"
 "$make/job-limits" "$made/job-limits.bin" "$made/job-limits.verdicts"
+"$make/make-scripts" 1 1000 "$made/scripts.bin" "$made/scripts.lines"
 
 # length N: N as 32 bits, lowest byte first.
 length() {
@@ -34,14 +35,14 @@ echo '1 0 0 0' > crates/page_check/stdout
 
 # At the end a job that is too long, J1, and a byte of a length: no line is for that one.
 {
-    cat "$vectors"/jobs-*.bin "$made/jobs.bin" "$made/job-limits.bin"
+    cat "$vectors"/jobs-*.bin "$vectors/F-1/job.bin" "$made/jobs.bin" "$made/job-limits.bin"
     too_long examples/J1
     length 121
     cat examples/J1
     printf '\000'
 } > crates/check_records/stdin
 {
-    cat "$vectors"/jobs-*.verdicts "$made/jobs.verdicts" "$made/job-limits.verdicts"
+    cat "$vectors"/jobs-*.verdicts "$vectors/F-1/job.lines" "$made/jobs.verdicts" "$made/job-limits.verdicts"
     echo '1 0 0 0'
     echo '0 0 0 0'
 } > crates/check_records/stdout
@@ -50,7 +51,7 @@ echo '1 0 0 0' > crates/page_check/stdout
 head -c 23 examples/page.records | tail -c 19 > "$made/vocabulary"
 tail -c 8 examples/page.records > "$made/page"
 {
-    cat "$vectors/pages.bin" "$made/pages.bin" "$made/limits.bin"
+    cat "$vectors/pages.bin" "$vectors/F-1/judge.bin" "$made/pages.bin" "$made/limits.bin"
     too_long "$made/vocabulary"
     length 8
     cat "$made/page"
@@ -64,8 +65,26 @@ tail -c 8 examples/page.records > "$made/page"
     cat "$made/page"
 } > crates/judge_records/stdin
 {
-    cat "$vectors/pages.verdicts" "$made/pages.verdicts" "$made/limits.verdicts"
+    cat "$vectors/pages.verdicts" "$vectors/F-1/judge.lines" "$made/pages.verdicts" "$made/limits.verdicts"
     echo '1 0 0 0'
     echo '1 0 1 0'
     echo '0 0 0 0'
 } > crates/judge_records/stdout
+
+# At the end a script that is too long, J1's, and a byte of a length.
+{
+    cat "$vectors/F-1/infer.bin" "$made/scripts.bin"
+    too_long examples/J1.script
+    length 56
+    cat examples/J1.script
+    printf '\000'
+} > crates/infer_records/stdin
+{
+    cat "$vectors/F-1/infer.lines" "$made/scripts.lines"
+    echo '1 0 0 0'
+    echo "ok 65 $(tail -c 65 examples/J1 | od -An -v -tx1 | tr -d ' \n' | tr a-f A-F)"
+} > crates/infer_records/stdout
+
+# J1's script, of which J1 comes.
+cp examples/J1.script crates/page_infer/stdin
+cp examples/J1 crates/page_infer/stdout

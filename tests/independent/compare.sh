@@ -1,5 +1,5 @@
 #!/bin/sh
-# compare.sh VECTORS: verdicts on all records of a folder of vectors, compared line by line.
+# compare.sh VECTORS: answers on all records of a folder of vectors, compared line by line.
 set -eu
 vectors=$(cd "$1" && pwd)
 cd "$(dirname "$0")"
@@ -10,7 +10,7 @@ work=$(mktemp -d)
 trap 'rm -rf "$work"' EXIT
 status=0
 
-# compare PROGRAM RECORDS VERDICTS
+# compare PROGRAM RECORDS LINES
 compare() {
     "$CARGO_TARGET_DIR/release/$1" < "$2" > "$work/found"
     if diff "$3" "$work/found" > "$work/differing"; then
@@ -30,4 +30,11 @@ for records in "$vectors"/jobs*.bin; do
     compare read-records "$records" "$work/reading"
     compare check-records "$records" "${records%.bin}.verdicts"
 done
+# Once request F-1 has landed.
+if [ -d "$vectors/F-1" ]; then
+    for kind in judge:judge check:job infer:infer; do
+        records="$vectors/F-1/${kind#*:}.bin"
+        compare "${kind%:*}-records" "$records" "${records%.bin}.lines"
+    done
+fi
 exit $status

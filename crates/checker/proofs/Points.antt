@@ -66,9 +66,9 @@ module _ (s : List ℕ) (rules : Vocabularies.Tables) (templates : TemplateTable
     (R : ReadAt s rules templates count starts points places heads j) (p : ℕ) (l : p < points) where
   pub point-stands : PointStands s heads (getD places (p % 32) 0) p j
   point-stands =
-      let few = R .parts .few-points in
+      let few = R .parts .of-script .few-points in
       let low : p < 32 = omega arith in
-      record { count = count; stands = rw (place-is points p places few l) (R .parts .statement p l); low = low; entry = R .parts .entry p low }
+      record { count = count; stands = rw (place-is points p places few l) (R .parts .of-script .statement p l); low = low; entry = R .parts .entry p low }
 
   -- What is decided for the graph of a show.
   module _ (what : Showing) (tells : ShowsAt s (getD places (p % 32) 0) what) (x : ℕ) (e : what ≡ Variable x) (empty : List ℕ) (holds-none : Keeps empty nothing)
@@ -79,8 +79,8 @@ module _ (s : List ℕ) (rules : Vocabularies.Tables) (templates : TemplateTable
       reads = R .reads;
       vocabulary = R .vocabulary;
       located = R .located;
-      stand = R .parts .start;
-      few = R .parts .few-templates;
+      stand = R .parts .of-script .start;
+      few = R .parts .of-script .few-templates;
       tabled = R .tabled;
       shown = G;
       shows = is;

@@ -18,7 +18,7 @@ use Rattle.pages.specs.Items.{Items}
 use Rattle.programs.specs.Program.{templateAt}
 use Rattle.programs.proofs.Laws.{agrees-whole, agrees-refuses}
 use Rattle.summaries.specs.Summaries.{Environment, entries}
-use Rattle.jobs.specs.declared.JobRead.{JobRead}
+use Rattle.jobs.specs.declared.ScriptRead.{ScriptRead}
 use Rattle.jobs.specs.Job.{Script, Job, job}
 use Rattle.jobs.specs.contracts.Promises.{JobKept, JobReads}
 use Rattle.jobs.specs.JobVerdict.{AllCovered, ScriptVerdict, start-uncovered, step-uncovered, JobVerdict, unreadable, readable}
@@ -44,38 +44,28 @@ module _ {π : Script} {E : ℕ → Environment} where
   covered r h e = subst (Covers π E) e h
 
 module _ (s : List ℕ) (j : Job) (end : ℕ) (reads : job s ≡ whole j end) where
-  -- The gaps of its templates.
-  pub gaps-table : (heads : List ℕ) (read : JobRead) → JobKept s heads j read → (gaps : List ℕ)
-      → ((φs : List Items) → StartsAt s φs (read .templates .starts) → read .templates .count ≡ length φs → (t : ℕ) → t ≤ read .templates .count → t < 32 → GapsAre (getD gaps t 0) (templateAt φs t))
-      → GapsTable gaps (j .script .templates)
-  gaps-table heads read K gaps told t l =
-      let T = tables-of s heads j end read reads K in
-      let few = T .few-templates in
-      let is = T .count-is in
-      told (j .script .templates) (T .start) is t (omega (arith, l, is)) (omega (arith, l, is, few))
-
   -- What is known of its parts.
-  pub read-at : (heads : List ℕ) (read : JobRead) → JobKept s heads j read → (gaps : List ℕ) → GapsTable gaps (j .script .templates) → (templates : TemplateTables) → TabledBy s gaps (read .templates .starts) (read .templates .count) templates
+  pub read-at : (heads : List ℕ) (read : ScriptRead) → JobKept s heads j read → (gaps : List ℕ) → GapsTable gaps (j .script .templates) → (templates : TemplateTables) → TabledBy s gaps (read .templates .starts) (read .templates .count) templates
       → ReadAt s (read .tables) templates (read .templates .count) (read .templates .starts) (read .program .count) (read .program .places) heads j
   read-at heads read K gaps table templates tabled =
       let T = tables-of s heads j end read reads K in
       record {
         end = end;
         reads = reads;
-        vocabulary = K .vocabulary;
-        located = K .templates;
-        tabled = tabled (j .script .templates) table (T .start) (T .count-is) (T .few-templates);
+        vocabulary = K .of-script .vocabulary;
+        located = K .of-script .templates;
+        tabled = tabled (j .script .templates) table (T .of-script .start) (T .of-script .count-is) (T .of-script .few-templates);
         names = read .program .named;
         parts = T;
       }
 
 -- 1 to 8.
-pub refused : (s heads : List ℕ) (r : JobRead) → JobReads s heads r → (f : Form) (at : ℕ) → r .part ≡ Refused f at → (v : Verdict)
+pub refused : (s heads : List ℕ) (r : ScriptRead) → JobReads s heads r → (f : Form) (at : ℕ) → r .part ≡ Refused f at → (v : Verdict)
     → v ≡ Verdicts.Refused (Refusals.Form f (record { at = at; slice = 0 })) → JobVerdict s (numbersOf v)
 refused s heads r h f at e v is = rw is (unreadable (agrees-refuses (λ j end. JobKept s heads j r) (job s) (r .part) f at e h))
 
 -- A job that was read whole has the verdict that is found for it.
-pub read-whole : (s heads : List ℕ) (r : JobRead) → JobReads s heads r → (p : Position) → r .part ≡ Whole p → (v : Verdict)
+pub read-whole : (s heads : List ℕ) (r : ScriptRead) → JobReads s heads r → (p : Position) → r .part ≡ Whole p → (v : Verdict)
     → ((j : Job) (end : ℕ) → job s ≡ whole j end → JobKept s heads j r → ScriptVerdict (j .script) (entries (j .proposal)) (numbersOf v)) → JobVerdict s (numbersOf v)
 read-whole s heads r h p e v found =
     let w = agrees-whole (λ j end. JobKept s heads j r) (job s) (r .part) p e h in

@@ -13,7 +13,7 @@ ghost use Rattle.checker.specs.contracts.Promises.{faultAt, ReadAt, Pass
 use commands::Part;
 use covering::Covering;
 use graphs::Graph;
-use jobs::JobRead;
+use jobs::ScriptRead;
 use shows::Showing;
 use shows::Shown;
 use shows::TemplateTables;
@@ -120,7 +120,7 @@ fn first_fault(
 }
 
 // The verdict of a job that was read: 9 and 10, then the shows.
-fn check_read(s: &[u8], heads: &[usize; 256], read: JobRead) -> Verdict
+fn check_read(s: &[u8], heads: &[usize; 256], read: ScriptRead) -> Verdict
     ensures { λ r. ⌜ ((j : Job) (end : ℕ) → job (now (s .entry)) ≡ whole j end → JobKept (now (s .entry)) (now (heads .entry)) j read → ScriptVerdict (j .script) (entries (j .proposal)) (numbersOf r)) ⌝ }
 {
     let count = read.templates.count;

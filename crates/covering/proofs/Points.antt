@@ -19,10 +19,11 @@ use Rattle.summaries.specs.Summaries.{entries}
 use Rattle.summaries.specs.Covering.{StepCovered}
 use Rattle.jobs.specs.Job.{Job}
 use Rattle.jobs.specs.JobVerdict.{StepHolds, nextOf}
+use Rattle.jobs.specs.contracts.ScriptTables.{NamesAre, StatementStands}
 use Rattle.entries.proofs.Tests.{and-left, and-right}
 use Rattle.covering.specs.declared.Covering.the-variants.{Covered}
 use Rattle.pages.specs.contracts.Gaps.{GapsTable}
-use Rattle.covering.specs.contracts.Tables.{NamesAre, StatementStands, Tables, PointAt, StepAt}
+use Rattle.covering.specs.contracts.Tables.{Tables, PointAt, StepAt}
 use Rattle.covering.specs.contracts.Promises.{Lowest, PointUncovered, PointCovers}
 
 module _ (j : Job) (s : List ℕ) (count : ℕ) (starts : List ℕ) (points : ℕ) (places : List ℕ) (names : ℕ) (heads : List ℕ)
@@ -33,7 +34,7 @@ module _ (j : Job) (s : List ℕ) (count : ℕ) (starts : List ℕ) (points : �
   t-is = rw here-is at found
 
   stands : StatementStands s count place (statementAt (j .script .program) p)
-  stands = rw place-is (T .statement p f)
+  stands = rw place-is (T .of-script .statement p f)
 
   -- `38` has no step.
   pub stops : t ≡ Stop → PointCovers (j .script) (entries (j .proposal)) p Covered
@@ -50,7 +51,7 @@ module _ (j : Job) (s : List ℕ) (count : ℕ) (starts : List ℕ) (points : �
     next b = cond b k′ k
 
     there : (ltb k points && ltb k′ points) ≡ true
-    there = rw is at (T .points-there p f)
+    there = rw is at (T .of-script .points-there p f)
 
     next-there : (b : Bool) → next b < points
     next-there true = ltb-true k′ points (and-right (ltb k points) _ there)
@@ -61,19 +62,19 @@ module _ (j : Job) (s : List ℕ) (count : ℕ) (starts : List ℕ) (points : �
         let here : statementHere s place ≡ step (asAct a) k k′ = stands .is ∙ is in
         record {
           fits = rw here at (statement-fits s place (stands .ranges));
-          template-there = rw (T .count-is, is) at (stands .template-there);
-          few = rw (← T .count-is) (T .few-templates);
+          template-there = rw (T .of-script .count-is, is) at (stands .template-there);
+          few = rw (← T .of-script .count-is) (T .of-script .few-templates);
           gaps-are = G;
-          low = let l = T .few-points in omega arith;
-          entry = T .entry p (let l = T .few-points in omega arith);
+          low = let l = T .of-script .few-points in omega arith;
+          entry = T .entry p (let l = T .of-script .few-points in omega arith);
         }
 
     -- The step to the next point of a side.
     pub step-at : (b : Bool) → StepAt j s gaps heads p (next b) (asAct a)
     step-at b = record {
       point = point-at;
-      next-low = let l = T .few-points in let h = next-there b in omega arith;
-      next-entry = T .entry (next b) (let l = T .few-points in let h = next-there b in omega arith);
+      next-low = let l = T .of-script .few-points in let h = next-there b in omega arith;
+      next-entry = T .entry (next b) (let l = T .of-script .few-points in let h = next-there b in omega arith);
     }
 
     abbrev pub Compared : ℕ → ℕ → Type 0
@@ -89,9 +90,9 @@ module _ (j : Job) (s : List ℕ) (count : ℕ) (starts : List ℕ) (points : �
     next-is : (b : Bool) → next b ≡ nextOf (statementAt (j .script .program) p) b
     next-is b = rw is
 
-    module _ (v : ℕ) (lowest : StepAt j s gaps heads p k (asAct a) → NamesAre j names → Lowest (Compared k) v) where
+    module _ (v : ℕ) (lowest : StepAt j s gaps heads p k (asAct a) → NamesAre (j .script) names → Lowest (Compared k) v) where
       L : Lowest (Compared k) v
-      L = lowest (step-at false) (T .names-are)
+      L = lowest (step-at false) (T .of-script .names-are)
 
       pub first-fails : v < 8 → PointUncovered (j .script) (entries (j .proposal)) p p k v
       first-fails l = record {
@@ -112,17 +113,17 @@ module _ (j : Job) (s : List ℕ) (count : ℕ) (starts : List ℕ) (points : �
         same-sides q false u h = first-holds u h
         same-sides q true u h = holds true u (rw q (L .below u (omega arith)))
 
-        pub second-fails : (w : ℕ) → (StepAt j s gaps heads p k′ (asAct a) → NamesAre j names → Lowest (Compared k′) w) → w < 8 → PointUncovered (j .script) (entries (j .proposal)) p p k′ w
+        pub second-fails : (w : ℕ) → (StepAt j s gaps heads p k′ (asAct a) → NamesAre (j .script) names → Lowest (Compared k′) w) → w < 8 → PointUncovered (j .script) (entries (j .proposal)) p p k′ w
         second-fails w lowest′ l = record {
           point = refl;
           second = true;
           next-is = next-is true;
           variable = l;
-          fails = λ h. lowest′ (step-at true) (T .names-are) .fails l (held true w h);
+          fails = λ h. lowest′ (step-at true) (T .of-script .names-are) .fails l (held true w h);
           sides = λ q. first-holds;
-          variables = λ u h. holds true u (lowest′ (step-at true) (T .names-are) .below u h);
+          variables = λ u h. holds true u (lowest′ (step-at true) (T .of-script .names-are) .below u h);
         }
 
-        pub both-hold : (w : ℕ) → (StepAt j s gaps heads p k′ (asAct a) → NamesAre j names → Lowest (Compared k′) w) → 8 ≤ w → PointCovers (j .script) (entries (j .proposal)) p Covered
+        pub both-hold : (w : ℕ) → (StepAt j s gaps heads p k′ (asAct a) → NamesAre (j .script) names → Lowest (Compared k′) w) → 8 ≤ w → PointCovers (j .script) (entries (j .proposal)) p Covered
         both-hold w lowest′ n′ false u h = first-holds u h
-        both-hold w lowest′ n′ true u h = holds true u (lowest′ (step-at true) (T .names-are) .below u (omega arith))
+        both-hold w lowest′ n′ true u h = holds true u (lowest′ (step-at true) (T .of-script .names-are) .below u (omega arith))

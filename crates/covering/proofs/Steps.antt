@@ -1,18 +1,16 @@
--- What the code compares at a point is what the act's transfer function gives the variable.
+-- What the code compares at a point is what the act's transfer function gives the variable, by the way in which it does.
 use Prim.Native.Nat.{ℕ, _+_, _*_, _-_, _%_, _≤_, _<_}
-use mathlib.Core.Path.{_≡_, refl, sym, _∙_}
+use mathlib.Core.Path.{_≡_, sym, subst, _∙_}
 use mathlib.Core.List.{List}
-use mathlib.Core.Bool.{Bool, true, false, not, false≢true}
+use mathlib.Core.Bool.{Bool, true, not, false, false≢true}
 use native.Mathlib.Omega.{arith}
 use lib.ListN.{length, getD}
 use lib.Dec.{eqb}
-use borrow.Author.Tests.{leb-true, lt-ltb, le-ltb, not-true, not-false}
+use borrow.Author.Tests.{lt-ltb, le-ltb, not-true, not-false}
 use Rattle.commands.specs.declared.Context.the-variants.{TemplateHoldings, StringHoldings}
 use Rattle.pages.specs.Items.{Items}
-use Rattle.programs.specs.declared.Act as Declared
-use Rattle.programs.specs.declared.Act.the-variants.{CopyTemplate, SetTemplate, CopyString, SetString, AnyString, Plug, PlugString}
-use Rattle.programs.specs.Program.{Act, copyTemplate, setTemplate, copyString, setString, anyString, plug, plugString, show, templateVariable, stringVariable, templateAt}
-use Rattle.programs.specs.contracts.Promises.{asAct}
+use Rattle.pages.specs.contracts.Gaps.{GapsAre}
+use Rattle.programs.specs.Program.{Act, templateVariable, stringVariable, templateAt}
 use Rattle.summaries.specs.Proposal.{Head, Holding}
 use Rattle.summaries.specs.ProposalReading.{variableOf}
 use Rattle.summaries.specs.Summaries.{Summary, Strings, Environment, Within, fragment, plugSummary, plugStringSummary, transfer, transferTemplate, transferString, saysClaim, saysString, held, under, entries}
@@ -20,12 +18,17 @@ use Rattle.summaries.specs.contracts.Listed.{Listed}
 use Rattle.summaries.specs.Covering.{WithinAt}
 use Rattle.jobs.specs.Job.{Job}
 use Rattle.strings.specs.declared.Values.{Values}
-use Rattle.strings.specs.contracts.Promises.{holdsValue}
+use Rattle.strings.specs.contracts.Promises.{holdsValue, ValuesWithin}
+use Rattle.transfers.specs.declared.Made.{Made}
+use Rattle.transfers.specs.declared.Made.the-variants.{Value, Template, Plugged, Filled}
+use Rattle.transfers.specs.declared.MadeString.{MadeString}
+use Rattle.transfers.specs.declared.MadeString.the-variants.{One, Any}
+use Rattle.transfers.specs.declared.MadeString.the-variants as MadeStrings
+use Rattle.transfers.specs.contracts.Ways.{madeBy, stringMadeBy, summaryMade, stringsMade, MadeFits, StringMadeFits, MadeThere}
+use Rattle.transfers.proofs.Transfers.{made-is, string-made-is, made-fits, string-made-fits, made-there}
 use Rattle.entries.specs.contracts.Passing.{Decides}
-use Rattle.pages.specs.contracts.Gaps.{GapsAre}
-use Rattle.entries.proofs.Tests.{decides-map}
+use Rattle.entries.proofs.Tests.{decides-map, values-decide}
 use Rattle.covering.specs.contracts.Tables.{EntriesAt, PointAt}
-use Rattle.covering.specs.contracts.Promises.{setsTemplate, setsString}
 
 -- The entry of a variable at a point, by the offset that the code takes from the table.
 module _ (s heads : List ℕ) (hs : List Head) (p : ℕ) (low : p < 32) (entry : EntriesAt s heads hs p) where
@@ -35,122 +38,81 @@ module _ (s heads : List ℕ) (hs : List Head) (p : ℕ) (low : p < 32) (entry :
   pub string-listed : (y from : ℕ) → y < 4 → (p < 32 → y < 4 → from ≡ getD heads (p * 8 + (4 + y)) 0) → Listed StringHoldings s from (under hs p (stringVariable y))
   string-listed y from f is = rw (is low f) (entry .string y f)
 
--- An act leaves a variable that it does not set.
-template-left : (φs : List Items) (a : Act) (E : Environment) (x : ℕ) → setsTemplate a x ≡ false → transferTemplate φs a E x ≡ E .template x
-template-left φs (copyTemplate y z) E x e = rw e
-template-left φs (setTemplate y t) E x e = rw e
-template-left φs (copyString y z) E x e = refl
-template-left φs (setString y t) E x e = refl
-template-left φs (anyString y) E x e = refl
-template-left φs (plug y z g w) E x e = rw e
-template-left φs (plugString y z h w) E x e = rw e
-template-left φs (show y) E x e = refl
+module _ (j : Job) (s gaps heads : List ℕ) (p : ℕ) (a : Act) (P : PointAt j s gaps heads p a) where
+  abbrev φs : List Items
+  φs = j .script .templates
 
-string-left : (a : Act) (E : Environment) (y : ℕ) → setsString a y ≡ false → transferString a E y ≡ E .string y
-string-left (copyTemplate x z) E y e = refl
-string-left (setTemplate x t) E y e = refl
-string-left (copyString x z) E y e = rw e
-string-left (setString x t) E y e = rw e
-string-left (anyString x) E y e = rw e
-string-left (plug x z g w) E y e = refl
-string-left (plugString x z h w) E y e = refl
-string-left (show x) E y e = refl
-
-module _ (j : Job) (s gaps heads : List ℕ) (p : ℕ) (act : Declared.Act) (P : PointAt j s gaps heads p (asAct act)) where
   abbrev E : Environment
   E = entries (j .proposal) p
 
-  known : (a : Act) → asAct act ≡ a → PointAt j s gaps heads p a
-  known a e = rw e at P
+  -- A template variable, by the way in which the act makes its value.
+  module _ (x : ℕ) (low : x < 4) (R : Summary) (r : Bool) (made : Made) (is : made ≡ madeBy a x) where
+    fits : (w : Made) → made ≡ w → MadeFits w
+    fits w e = subst MadeFits (sym is ∙ e) (made-fits x low (length φs) (P .few) a (P .fits) (P .template-there))
 
-  -- A template variable.
-  module _ (x : ℕ) (R : Summary) (r : Bool) where
-    pub template-stays : setsTemplate (asAct act) x ≡ false → (from : ℕ) → x < 4 → (p < 32 → x < 4 → from ≡ getD heads (p * 8 + x) 0)
-        → ((xs : List Holding) → Listed TemplateHoldings s from xs → Decides r (Within (held saysClaim xs) R)) → Decides r (Within (transferTemplate (j .script .templates) (asAct act) E x) R)
+    by-way : (w : Made) → made ≡ w → Decides r (Within (summaryMade φs E w) R) → Decides r (Within (transferTemplate φs a E x) R)
+    by-way w e d = rw (made-is φs E a x, ← is, e) d
+
+    pub value-decides : (y : ℕ) → made ≡ Value y → (from : ℕ) → (p < 32 → y < 4 → from ≡ getD heads (p * 8 + y) 0)
+        → ((xs : List Holding) → Listed TemplateHoldings s from xs → Decides r (Within (held saysClaim xs) R)) → Decides r (Within (transferTemplate φs a E x) R)
     unfolding entries
-    template-stays n from f from-is h =
-        rw (template-left (j .script .templates) (asAct act) E x n)
-        (h (under (j .proposal) p (templateVariable x)) (template-listed s heads (j .proposal) p (P .low) (P .entry) x from f from-is))
+    value-decides y e from from-is h =
+        by-way (Value y) e (h (under (j .proposal) p (templateVariable y)) (template-listed s heads (j .proposal) p (P .low) (P .entry) y from (fits (Value y) e) from-is))
 
-    module _ (set : setsTemplate (asAct act) x ≡ true) where
-      pub copied-decides : (y z : ℕ) → act ≡ CopyTemplate y z → (from : ℕ) → (p < 32 → z < 4 → from ≡ getD heads (p * 8 + z) 0)
-          → ((xs : List Holding) → Listed TemplateHoldings s from xs → Decides r (Within (held saysClaim xs) R)) → Decides r (Within (transferTemplate (j .script .templates) (asAct act) E x) R)
-      unfolding entries
-      copied-decides y z e from from-is h =
-          let K = known (copyTemplate y z) (rw e) in
-          let q : eqb x y ≡ true = rw e at set in
-          rw (e, q) (h (under (j .proposal) p (templateVariable z)) (template-listed s heads (j .proposal) p (K .low) (K .entry) z from (K .fits .1) from-is))
+    pub fragment-decides : (t : ℕ) → made ≡ Template t → ((φ : Items) → GapsAre (getD gaps (t % 32) 0) φ → Decides r (Within (fragment t φ) R)) → Decides r (Within (transferTemplate φs a E x) R)
+    fragment-decides t e h =
+        let l = fits (Template t) e in
+        let w : t % 32 ≡ t = omega arith in
+        let there : t ≤ length φs = subst (MadeThere (length φs)) (sym is ∙ e) (made-there x (length φs) a (P .template-there)) in
+        by-way (Template t) e (h (templateAt φs t) (rw w (P .gaps-are t there)))
 
-      pub fragment-decides : (y t : ℕ) → act ≡ SetTemplate y t → ((φ : Items) → GapsAre (getD gaps (t % 32) 0) φ → Decides r (Within (fragment t φ) R))
-          → Decides r (Within (transferTemplate (j .script .templates) (asAct act) E x) R)
-      fragment-decides y t e h =
-          let K = known (setTemplate y t) (rw e) in
-          let q : eqb x y ≡ true = rw e at set in
-          let l : t ≤ length (j .script .templates) = leb-true _ _ (K .template-there) in
-          let m = K .few in
-          let w : t % 32 ≡ t = omega arith in
-          rw (e, q) (h (templateAt (j .script .templates) t) (rw w (K .gaps-are t l)))
-
-      pub plugged-decides : (y b g d : ℕ) → act ≡ Plug y b g d → (from other : ℕ)
-          → (p < 32 → b < 4 → from ≡ getD heads (p * 8 + b) 0) → (p < 32 → d < 4 → other ≡ getD heads (p * 8 + d) 0)
-          → ((xs ys : List Holding) → Listed TemplateHoldings s from xs → Listed TemplateHoldings s other ys → Decides r (Within (plugSummary g (held saysClaim xs) (held saysClaim ys)) R))
-          → Decides r (Within (transferTemplate (j .script .templates) (asAct act) E x) R)
-      unfolding entries
-      plugged-decides y b g d e from other from-is other-is h =
-          let K = known (plug y b g d) (rw e) in
-          let q : eqb x y ≡ true = rw e at set in
-          rw (e, q) (h (under (j .proposal) p (templateVariable b)) (under (j .proposal) p (templateVariable d))
-          (template-listed s heads (j .proposal) p (K .low) (K .entry) b from (K .fits .1) from-is)
-          (template-listed s heads (j .proposal) p (K .low) (K .entry) d other (K .fits .3) other-is))
-
-      pub filled-decides : (y b g d : ℕ) → act ≡ PlugString y b g d → (from other : ℕ)
-          → (p < 32 → b < 4 → from ≡ getD heads (p * 8 + b) 0) → (p < 32 → d < 4 → other ≡ getD heads (p * 8 + (4 + d)) 0)
-          → (values : Values) → ((ys : List Holding) → Listed StringHoldings s other ys → (t : ℕ) → held saysString ys t ≡ holdsValue values t)
-          → ((xs : List Holding) (Y : Strings) → Listed TemplateHoldings s from xs → ((t : ℕ) → Y t ≡ holdsValue values t) → Decides r (Within (plugStringSummary g (held saysClaim xs) Y) R))
-          → Decides r (Within (transferTemplate (j .script .templates) (asAct act) E x) R)
-      unfolding entries
-      filled-decides y b g d e from other from-is other-is values is h =
-          let K = known (plugString y b g d) (rw e) in
-          let q : eqb x y ≡ true = rw e at set in
-          rw (e, q) (h (under (j .proposal) p (templateVariable b)) (held saysString (under (j .proposal) p (stringVariable d)))
-          (template-listed s heads (j .proposal) p (K .low) (K .entry) b from (K .fits .1) from-is)
-          (is (under (j .proposal) p (stringVariable d)) (string-listed s heads (j .proposal) p (K .low) (K .entry) d other (K .fits .3) other-is)))
-
-      -- No other act sets a template variable.
-      pub no-template : (a : Declared.Act) → act ≡ a → ((y : ℕ) → setsTemplate (asAct a) y ≡ false) → Decides r (Within (transferTemplate (j .script .templates) (asAct act) E x) R)
-      no-template a e n = absurd (false≢true (sym (n x) ∙ (rw e at set)))
-
-  -- A string variable.
-  module _ (y : ℕ) where
-    pub string-stays : setsString (asAct act) y ≡ false → (from : ℕ) → y < 4 → (p < 32 → y < 4 → from ≡ getD heads (p * 8 + (4 + y)) 0) → (R : Strings) (r : Bool)
-        → ((xs : List Holding) → Listed StringHoldings s from xs → Decides r (Within (held saysString xs) R)) → Decides r (Within (transferString (asAct act) E y) R)
+    pub plugged-decides : (y g z : ℕ) → made ≡ Plugged y g z → (from other : ℕ) → (p < 32 → y < 4 → from ≡ getD heads (p * 8 + y) 0) → (p < 32 → z < 4 → other ≡ getD heads (p * 8 + z) 0)
+        → ((xs ys : List Holding) → Listed TemplateHoldings s from xs → Listed TemplateHoldings s other ys → Decides r (Within (plugSummary g (held saysClaim xs) (held saysClaim ys)) R))
+        → Decides r (Within (transferTemplate φs a E x) R)
     unfolding entries
-    string-stays n from f from-is R r h =
-        rw (string-left (asAct act) E y n)
-        (h (under (j .proposal) p (stringVariable y)) (string-listed s heads (j .proposal) p (P .low) (P .entry) y from f from-is))
+    plugged-decides y g z e from other from-is other-is h =
+        let f = fits (Plugged y g z) e in
+        by-way (Plugged y g z) e
+        (h (under (j .proposal) p (templateVariable y)) (under (j .proposal) p (templateVariable z))
+        (template-listed s heads (j .proposal) p (P .low) (P .entry) y from (f .0) from-is)
+        (template-listed s heads (j .proposal) p (P .low) (P .entry) z other (f .2) other-is))
 
-    module _ (set : setsString (asAct act) y ≡ true) where
-      pub string-copied-decides : (x z : ℕ) → act ≡ CopyString x z → (from : ℕ) → (p < 32 → z < 4 → from ≡ getD heads (p * 8 + (4 + z)) 0) → (R : Strings) (r : Bool)
-          → ((xs : List Holding) → Listed StringHoldings s from xs → Decides r (Within (held saysString xs) R)) → Decides r (Within (transferString (asAct act) E y) R)
-      unfolding entries
-      string-copied-decides x z e from from-is R r h =
-          let K = known (copyString x z) (rw e) in
-          let q : eqb y x ≡ true = rw e at set in
-          rw (e, q) (h (under (j .proposal) p (stringVariable z)) (string-listed s heads (j .proposal) p (K .low) (K .entry) z from (K .fits .1) from-is))
+    pub filled-decides : (y h z : ℕ) → made ≡ Filled y h z → (from other : ℕ) → (p < 32 → y < 4 → from ≡ getD heads (p * 8 + y) 0) → (p < 32 → z < 4 → other ≡ getD heads (p * 8 + (4 + z)) 0)
+        → (values : Values) → ((ys : List Holding) → Listed StringHoldings s other ys → (t : ℕ) → held saysString ys t ≡ holdsValue values t)
+        → ((xs : List Holding) (Y : Strings) → Listed TemplateHoldings s from xs → ((t : ℕ) → Y t ≡ holdsValue values t) → Decides r (Within (plugStringSummary h (held saysClaim xs) Y) R))
+        → Decides r (Within (transferTemplate φs a E x) R)
+    unfolding entries
+    filled-decides y h z e from other from-is other-is values are k =
+        let f = fits (Filled y h z) e in
+        by-way (Filled y h z) e
+        (k (under (j .proposal) p (templateVariable y)) (held saysString (under (j .proposal) p (stringVariable z)))
+        (template-listed s heads (j .proposal) p (P .low) (P .entry) y from (f .0) from-is)
+        (are (under (j .proposal) p (stringVariable z)) (string-listed s heads (j .proposal) p (P .low) (P .entry) z other (f .2) other-is)))
 
-      pub string-set-is : (x b : ℕ) → act ≡ SetString x b → (one : Values) → ((t : ℕ) → holdsValue one t ≡ eqb t (b % 64)) → (t : ℕ) → transferString (asAct act) E y t ≡ holdsValue one t
-      string-set-is x b e one h t =
-          let K = known (setString x b) (rw e) in
-          let q : eqb y x ≡ true = rw e at set in
-          let l : b < 64 = K .fits .1 in
+  -- A string variable, likewise.
+  module _ (y : ℕ) (low : y < 4) (R : Strings) (r : Bool) (made : MadeString) (is : made ≡ stringMadeBy a y) where
+    string-fits : (w : MadeString) → made ≡ w → StringMadeFits w
+    string-fits w e = subst StringMadeFits (sym is ∙ e) (string-made-fits y low a (P .fits))
+
+    by-string-way : (w : MadeString) → made ≡ w → Decides r (Within (stringsMade E w) R) → Decides r (Within (transferString a E y) R)
+    by-string-way w e d = rw (string-made-is E a y, ← is, e) d
+
+    pub string-value-decides : (z : ℕ) → made ≡ MadeStrings.Value z → (from : ℕ) → (p < 32 → z < 4 → from ≡ getD heads (p * 8 + (4 + z)) 0)
+        → ((xs : List Holding) → Listed StringHoldings s from xs → Decides r (Within (held saysString xs) R)) → Decides r (Within (transferString a E y) R)
+    unfolding entries
+    string-value-decides z e from from-is h =
+        by-string-way (MadeStrings.Value z) e
+        (h (under (j .proposal) p (stringVariable z)) (string-listed s heads (j .proposal) p (P .low) (P .entry) z from (string-fits (MadeStrings.Value z) e) from-is))
+
+    module _ (given there : Values) (within : ValuesWithin given there r) (R-is : (t : ℕ) → R t ≡ holdsValue there t) where
+      pub one-decides : (b : ℕ) → made ≡ One b → ((t : ℕ) → holdsValue given t ≡ eqb t (b % 64)) → Decides r (Within (transferString a E y) R)
+      one-decides b e h =
+          let l : b < 64 = string-fits (One b) e in
           let m : b % 64 ≡ b = omega arith in
-          rw (e, q) (sym (h t ∙ rw m))
+          by-string-way (One b) e (values-decide (λ t. eqb t b) R given there (λ t. sym (h t ∙ rw m)) R-is r within)
 
-      pub string-any-is : (x : ℕ) → act ≡ AnyString x → (any : Values) → ((t : ℕ) → holdsValue any t ≡ true) → (t : ℕ) → transferString (asAct act) E y t ≡ holdsValue any t
-      string-any-is x e any h t = let q : eqb y x ≡ true = rw e at set in rw (e, q) (sym (h t))
-
-      pub no-string : (a : Declared.Act) → act ≡ a → ((x : ℕ) → setsString (asAct a) x ≡ false) → (R : Strings) (r : Bool) → Decides r (Within (transferString (asAct act) E y) R)
-      no-string a e n R r = absurd (false≢true (sym (n y) ∙ (rw e at set)))
+      pub any-decides : made ≡ Any → ((t : ℕ) → holdsValue given t ≡ true) → Decides r (Within (transferString a E y) R)
+      any-decides e h = by-string-way Any e (values-decide (λ t. true) R given there (λ t. sym (h t)) R-is r within)
 
 -- Variables as `40` numbers them.
 module _ (φs : List Items) (a : Act) (E F : Environment) (v : ℕ) (r : Bool) where

@@ -3,25 +3,25 @@ ghost use mathlib.Core.Path.{_≡_};
 ghost use mathlib.Core.List.{List};
 ghost use Prim.Native.Nat.{ℕ, _+_, _*_, _<_};
 ghost use lib.ListN.{getD};
-ghost use mathlib.Core.Bool.{true};
 ghost use Rattle.programs.specs.contracts.Promises.{asAct};
-ghost use Rattle.summaries.specs.Proposal.{Holding, Head};
+ghost use Rattle.summaries.specs.Proposal.{Head};
 ghost use Rattle.summaries.specs.ProposalReading.{variableOf};
-ghost use Rattle.summaries.specs.Summaries.{Within, saysClaim, saysString, held, entries, transfer, transferTemplate, transferString};
+ghost use Rattle.summaries.specs.Summaries.{Within, entries, transfer, transferTemplate, transferString};
 ghost use Rattle.summaries.specs.Covering.{WithinAt, startEnvironment, StepCovered};
 ghost use Rattle.jobs.specs.Job.{Job};
 ghost use Rattle.jobs.specs.JobVerdict.{StartHolds};
+ghost use Rattle.jobs.specs.contracts.ScriptTables.{NamesAre};
 ghost use Rattle.pages.specs.contracts.Gaps.{GapsTable};
-ghost use Rattle.summaries.specs.contracts.Listed.{Listed};
 ghost use Rattle.graphs.specs.contracts.Graphs.{Keeps, nothing};
 ghost use Rattle.entries.specs.contracts.Passing.{Decides};
-ghost use Rattle.covering.specs.contracts.Tables.{EntriesAt, NamesAre, Tables, PointAt, StepAt};
-ghost use Rattle.covering.specs.contracts.Promises.{setsTemplate, setsString, Lowest, Covers, PointCovers, StepsCover};
-use commands::Context;
+ghost use Rattle.covering.specs.contracts.Tables.{EntriesAt, Tables, StepAt};
+ghost use Rattle.covering.specs.contracts.Promises.{Lowest, Covers, PointCovers, StepsCover};
 use commands::Position;
 use graphs::Graph;
 use programs::Act;
 use programs::Statement;
+use transfers::Made;
+use transfers::MadeString;
 use verdicts::Cover;
 
 pub enum Covering {
@@ -49,87 +49,13 @@ fn string_head(heads: &[usize; 256], p: usize, y: usize) -> Position
     Position::new(heads[(p % 32) * 8 + (4 + y % 4)])
 }
 
-// Whether an act sets template variable x.
-fn sets_template(act: Act, x: usize) -> bool
-    ensures { λ r. ⌜ r ≡ setsTemplate (asAct act) x ⌝ }
-{
-    match act {
-        Act::CopyTemplate(y, _) => x == (y as usize),
-        Act::SetTemplate(y, _) => x == (y as usize),
-        Act::Plug(y, _, _, _) => x == (y as usize),
-        Act::PlugString(y, _, _, _) => x == (y as usize),
-        Act::CopyString(_, _) => false,
-        Act::SetString(_, _) => false,
-        Act::AnyString(_) => false,
-        Act::Show(_) => false,
-    }
-}
-
-// Whether an act sets string variable y.
-fn sets_string(act: Act, y: usize) -> bool
-    ensures { λ r. ⌜ r ≡ setsString (asAct act) y ⌝ }
-{
-    match act {
-        Act::CopyString(x, _) => y == (x as usize),
-        Act::SetString(x, _) => y == (x as usize),
-        Act::AnyString(x) => y == (x as usize),
-        Act::CopyTemplate(_, _) => false,
-        Act::SetTemplate(_, _) => false,
-        Act::Plug(_, _, _, _) => false,
-        Act::PlugString(_, _, _, _) => false,
-        Act::Show(_) => false,
-    }
-}
-
-// Whether the value that an act gives the template variable that it sets lies within the entry whose items stand there.
-fn assigned_holds(
-    s: &[u8],
-    gaps: &[u64; 32],
-    heads: &[usize; 256],
-    act: Act,
-    p: usize,
-    there: Position,
-    graph: &mut Graph,
-) -> bool
-    requires { ⌜ Keeps (now graph) nothing ⌝ }
-    ensures decides { λ r. ⌜ ((j : Job) (x : ℕ) (zs : List Holding) → PointAt j (now (s .entry)) (now (gaps .entry)) (now (heads .entry)) p (asAct act) → setsTemplate (asAct act) x ≡ true → Listed Context.TemplateHoldings (now (s .entry)) (there .at) zs → Decides r (Within (transferTemplate (j .script .templates) (asAct act) (entries (j .proposal) p) x) (held saysClaim zs))) ⌝ }
-    ensures empty { λ _. ⌜ Keeps (now (graph .exit)) nothing ⌝ }
-{
-    match act {
-        Act::CopyTemplate(_, x) => {
-            entries::entry_within(s, template_head(heads, p, x as usize), there, graph)
-        }
-        Act::SetTemplate(_, t) => entries::fragment_within(
-            s,
-            t,
-            gaps[(t % 32) as usize],
-            there,
-            graph,
-        ),
-        Act::Plug(_, x, g, y) => {
-            let first = template_head(heads, p, x as usize);
-            let second = template_head(heads, p, y as usize);
-            entries::plug_within(s, first, g, second, there, graph)
-        }
-        Act::PlugString(_, x, h, y) => {
-            let from = template_head(heads, p, x as usize);
-            let strings = entries::strings_of(s, string_head(heads, p, y as usize));
-            entries::fill_within(s, from, h, strings, there, graph)
-        }
-        Act::CopyString(_, _) => true,
-        Act::SetString(_, _) => true,
-        Act::AnyString(_) => true,
-        Act::Show(_) => true,
-    }
-}
-
 // Whether template variable x is covered in the step of a point over an act to a next point.
 fn template_holds(
     s: &[u8],
     gaps: &[u64; 32],
     heads: &[usize; 256],
     step: Step,
-    x: usize,
+    x: u8,
     graph: &mut Graph,
 ) -> bool
     requires { ⌜ Keeps (now graph) nothing ⌝ }
@@ -137,52 +63,46 @@ fn template_holds(
     ensures empty { λ _. ⌜ Keeps (now (graph .exit)) nothing ⌝ }
 {
     let act = step.act;
-    let there = template_head(heads, step.next, x);
-    if sets_template(act, x) {
-        return assigned_holds(s, gaps, heads, act, step.point, there, graph);
-    }
-    entries::entry_within(s, template_head(heads, step.point, x), there, graph)
-}
-
-// Whether the strings that an act gives the string variable that it sets lie within those whose items stand there.
-fn assigned_strings_hold(
-    s: &[u8],
-    heads: &[usize; 256],
-    act: Act,
-    p: usize,
-    there: Position,
-) -> bool
-    ensures { λ r. ⌜ ((j : Job) (gaps : List ℕ) (y : ℕ) (zs : List Holding) → PointAt j (now (s .entry)) gaps (now (heads .entry)) p (asAct act) → setsString (asAct act) y ≡ true → Listed Context.StringHoldings (now (s .entry)) (there .at) zs → Decides r (Within (transferString (asAct act) (entries (j .proposal) p) y) (held saysString zs))) ⌝ }
-{
-    match act {
-        Act::CopyString(_, y) => {
-            entries::strings_entry_within(s, string_head(heads, p, y as usize), there)
+    let p = step.point;
+    let there = template_head(heads, step.next, x as usize);
+    let made = transfers::template_made(act, x);
+    match made {
+        Made::Value(y) => {
+            entries::entry_within(s, template_head(heads, p, y as usize), there, graph)
         }
-        Act::SetString(_, t) => {
-            let one = strings::one_value(t % strings::OUTSIDE);
-            strings::values_within(one, entries::strings_of(s, there))
+        Made::Template(t) => entries::fragment_within(s, t, gaps[(t % 32) as usize], there, graph),
+        Made::Plugged(y, g, z) => {
+            let first = template_head(heads, p, y as usize);
+            let second = template_head(heads, p, z as usize);
+            entries::plug_within(s, first, g, second, there, graph)
         }
-        Act::AnyString(_) => {
-            strings::values_within(strings::any_value(), entries::strings_of(s, there))
+        Made::Filled(y, h, z) => {
+            let from = template_head(heads, p, y as usize);
+            let strings = entries::strings_of(s, string_head(heads, p, z as usize));
+            entries::fill_within(s, from, h, strings, there, graph)
         }
-        Act::CopyTemplate(_, _) => true,
-        Act::SetTemplate(_, _) => true,
-        Act::Plug(_, _, _, _) => true,
-        Act::PlugString(_, _, _, _) => true,
-        Act::Show(_) => true,
     }
 }
 
 // Whether string variable y is covered in the step of a point over an act to a next point.
-fn string_holds(s: &[u8], heads: &[usize; 256], step: Step, y: usize) -> bool
+fn string_holds(s: &[u8], heads: &[usize; 256], step: Step, y: u8) -> bool
     ensures { λ r. ⌜ ((j : Job) (gaps : List ℕ) → StepAt j (now (s .entry)) gaps (now (heads .entry)) (step .point) (step .next) (asAct (step .act)) → y < 4 → Decides r (Within (transferString (asAct (step .act)) (entries (j .proposal) (step .point)) y) (entries (j .proposal) (step .next) .string y))) ⌝ }
 {
     let act = step.act;
-    let there = string_head(heads, step.next, y);
-    if sets_string(act, y) {
-        return assigned_strings_hold(s, heads, act, step.point, there);
+    let there = string_head(heads, step.next, y as usize);
+    let made = transfers::string_made(act, y);
+    match made {
+        MadeString::Value(z) => {
+            entries::strings_entry_within(s, string_head(heads, step.point, z as usize), there)
+        }
+        MadeString::One(t) => {
+            let one = strings::one_value(t % strings::OUTSIDE);
+            strings::values_within(one, entries::strings_of(s, there))
+        }
+        MadeString::Any => {
+            strings::values_within(strings::any_value(), entries::strings_of(s, there))
+        }
     }
-    entries::strings_entry_within(s, string_head(heads, step.point, y), there)
 }
 
 // Whether a variable, as `40` numbers it, is covered in the step of a point to a next point.
@@ -194,14 +114,15 @@ fn variable_holds(
     v: usize,
     graph: &mut Graph,
 ) -> bool
+    requires { ⌜ v < 8 ⌝ }
     requires { ⌜ Keeps (now graph) nothing ⌝ }
-    ensures decides { λ r. ⌜ ((j : Job) → StepAt j (now (s .entry)) (now (gaps .entry)) (now (heads .entry)) (step .point) (step .next) (asAct (step .act)) → v < 8 → Decides r (WithinAt (variableOf v) (transfer (j .script .templates) (asAct (step .act)) (entries (j .proposal) (step .point))) (entries (j .proposal) (step .next)))) ⌝ }
+    ensures decides { λ r. ⌜ ((j : Job) → StepAt j (now (s .entry)) (now (gaps .entry)) (now (heads .entry)) (step .point) (step .next) (asAct (step .act)) → Decides r (WithinAt (variableOf v) (transfer (j .script .templates) (asAct (step .act)) (entries (j .proposal) (step .point))) (entries (j .proposal) (step .next)))) ⌝ }
     ensures empty { λ _. ⌜ Keeps (now (graph .exit)) nothing ⌝ }
 {
     if v < 4 {
-        return template_holds(s, gaps, heads, step, v, graph);
+        return template_holds(s, gaps, heads, step, v as u8, graph);
     }
-    string_holds(s, heads, step, v - 4)
+    string_holds(s, heads, step, (v - 4) as u8)
 }
 
 // Whether a variable is covered in the step of a point to a next point, if some statement names it; no other is looked at.
@@ -216,7 +137,7 @@ fn named_holds(
 ) -> bool
     requires { ⌜ v < 8 ⌝ }
     requires { ⌜ Keeps (now graph) nothing ⌝ }
-    ensures decides { λ r. ⌜ ((j : Job) → StepAt j (now (s .entry)) (now (gaps .entry)) (now (heads .entry)) (step .point) (step .next) (asAct (step .act)) → NamesAre j names → Decides r (StepCovered (j .script .templates) (j .script .program) (entries (j .proposal)) (step .point) (asAct (step .act)) (step .next) (variableOf v))) ⌝ }
+    ensures decides { λ r. ⌜ ((j : Job) → StepAt j (now (s .entry)) (now (gaps .entry)) (now (heads .entry)) (step .point) (step .next) (asAct (step .act)) → NamesAre (j .script) names → Decides r (StepCovered (j .script .templates) (j .script .program) (entries (j .proposal)) (step .point) (asAct (step .act)) (step .next) (variableOf v))) ⌝ }
     ensures empty { λ _. ⌜ Keeps (now (graph .exit)) nothing ⌝ }
 {
     if !sets::has(names, v as u8) {
@@ -237,7 +158,7 @@ fn lowest_uncovered(
     graph: &mut Graph,
 ) -> usize
     requires { ⌜ Keeps (now graph) nothing ⌝ }
-    ensures lowest { λ r. ⌜ ((j : Job) → StepAt j (now (s .entry)) (now (gaps .entry)) (now (heads .entry)) p next (asAct act) → NamesAre j names → Lowest (λ v. StepCovered (j .script .templates) (j .script .program) (entries (j .proposal)) p (asAct act) next (variableOf v)) r) ⌝ }
+    ensures lowest { λ r. ⌜ ((j : Job) → StepAt j (now (s .entry)) (now (gaps .entry)) (now (heads .entry)) p next (asAct act) → NamesAre (j .script) names → Lowest (λ v. StepCovered (j .script .templates) (j .script .program) (entries (j .proposal)) p (asAct act) next (variableOf v)) r) ⌝ }
     ensures empty { λ _. ⌜ Keeps (now (graph .exit)) nothing ⌝ }
 {
     let step = Step {
@@ -335,7 +256,7 @@ fn start_holds(s: &[u8], heads: &[usize; 256], v: usize) -> bool
 // Whether the start is covered at a variable, if some statement names it; no other is looked at.
 fn named_start_holds(s: &[u8], heads: &[usize; 256], names: u64, v: usize) -> bool
     requires { ⌜ v < 8 ⌝ }
-    ensures { λ r. ⌜ ((j : Job) → EntriesAt (now (s .entry)) (now (heads .entry)) (j .proposal) 0 → NamesAre j names → Decides r (StartHolds (j .script) (entries (j .proposal)) v)) ⌝ }
+    ensures { λ r. ⌜ ((j : Job) → EntriesAt (now (s .entry)) (now (heads .entry)) (j .proposal) 0 → NamesAre (j .script) names → Decides r (StartHolds (j .script) (entries (j .proposal)) v)) ⌝ }
 {
     if !sets::has(names, v as u8) {
         return true;
@@ -345,7 +266,7 @@ fn named_start_holds(s: &[u8], heads: &[usize; 256], names: u64, v: usize) -> bo
 
 // The lowest variable at which the start is not covered; 8: it is at all of them.
 fn start_uncovered(s: &[u8], heads: &[usize; 256], names: u64) -> usize
-    ensures { λ r. ⌜ ((j : Job) → EntriesAt (now (s .entry)) (now (heads .entry)) (j .proposal) 0 → NamesAre j names → Lowest (StartHolds (j .script) (entries (j .proposal))) r) ⌝ }
+    ensures { λ r. ⌜ ((j : Job) → EntriesAt (now (s .entry)) (now (heads .entry)) (j .proposal) 0 → NamesAre (j .script) names → Lowest (StartHolds (j .script) (entries (j .proposal))) r) ⌝ }
 {
     let mut v: usize = 0;
     while v < 8 {

@@ -3,6 +3,8 @@ pub mod Claims
 pub mod Walks
 pub mod Loading
 pub mod Passings
+pub mod PassingOn
+pub mod Templates
 pub mod Held
 pub mod Gathering
 pub mod Fragments

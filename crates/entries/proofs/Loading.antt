@@ -15,7 +15,7 @@ use Rattle.summaries.specs.declared.ClaimHere.the-variants.{Item, End}
 use Rattle.summaries.specs.contracts.Listed.{HoldingFits, Listed, meaningOf, claimHere, ClaimMoves}
 use Rattle.summaries.proofs.Steps.{claims-first, claims-end}
 use Rattle.graphs.specs.contracts.Graphs.{Keeps, Forgotten, nothing, adding}
-use Rattle.graphs.proofs.ClosedGraphs.{keeps-same}
+use Rattle.graphs.proofs.Storing.{keeps-same}
 use Rattle.entries.specs.contracts.Entries.{Taken, Loads, Unloads}
 use Rattle.entries.proofs.Tests.{or-cases, refuted}
 use Rattle.entries.proofs.Walks.{claim-moves}

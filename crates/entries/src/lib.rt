@@ -1,7 +1,7 @@
 // The entries of a proposal: what is held of a variable at a point, read again from the items under its head.
 ghost use mathlib.Core.Path.{_≡_};
 ghost use mathlib.Core.List.{List};
-ghost use mathlib.Core.Bool.{true};
+ghost use mathlib.Core.Bool.{true, _||_};
 ghost use Prim.Native.Nat.{ℕ, _<_};
 ghost use Rattle.sets.specs.Sets.{member};
 ghost use Rattle.strings.specs.contracts.Promises.{holdsValue};
@@ -11,8 +11,8 @@ ghost use Rattle.summaries.specs.Proposal.{root, gapFrom, attributeGapFrom, Hol
 ghost use Rattle.summaries.specs.Summaries.{Summary, Strings, Within, fragment, plugSummary, plugStringSummary, saysClaim, saysString, held};
 ghost use Rattle.summaries.specs.contracts.Listed.{Listed, meaningOf};
 ghost use Rattle.graphs.specs.contracts.Graphs.{holds, Keeps, nothing};
-ghost use Rattle.entries.specs.contracts.Passing.{passed, Decides};
-ghost use Rattle.entries.specs.contracts.Entries.{Loads, Unloads, ItemHolds, WithRoot, originOf};
+ghost use Rattle.entries.specs.contracts.Passing.{passed, wholly, withoutRoots, plugging, filling, Unfilled, rootsPassed, gapPassed, attributePassed, Decides};
+ghost use Rattle.entries.specs.contracts.Entries.{Loads, Unloads, ItemHolds, WithRoot, originOf, withOrigin};
 use commands::Context;
 use commands::Position;
 use graphs::Graph;
@@ -32,6 +32,58 @@ pub struct Passing {
 }
 
 const NO_GAP: u8 = 8;
+
+// All of an entry passes.
+pub fn wholly() -> Passing
+    ensures { λ r. ⌜ Unfilled wholly r ⌝ }
+{
+    Passing {
+        roots: true,
+        gap: NO_GAP,
+        plugged: 0,
+        attribute: NO_GAP,
+        strings: strings::no_values(),
+    }
+}
+
+// All but the roots passes.
+pub fn without_roots() -> Passing
+    ensures { λ r. ⌜ Unfilled withoutRoots r ⌝ }
+{
+    Passing {
+        roots: false,
+        gap: NO_GAP,
+        plugged: 0,
+        attribute: NO_GAP,
+        strings: strings::no_values(),
+    }
+}
+
+// A value with these roots is plugged into a gap.
+pub fn plugging(gap: u8, roots: u64) -> Passing
+    ensures { λ r. ⌜ Unfilled (λ none. plugging none gap roots) r ⌝ }
+{
+    Passing {
+        roots: true,
+        gap,
+        plugged: roots,
+        attribute: NO_GAP,
+        strings: strings::no_values(),
+    }
+}
+
+// Strings are plugged into an attribute gap.
+pub fn filling(attribute: u8, strings: Values) -> Passing
+    ensures { λ r. ⌜ r ≡ filling attribute strings ⌝ }
+{
+    Passing {
+        roots: true,
+        gap: NO_GAP,
+        plugged: 0,
+        attribute,
+        strings,
+    }
+}
 
 // The items from here on are added to a graph.
 pub fn load(s: &[u8], here: Position, graph: &mut Graph)
@@ -233,14 +285,7 @@ pub fn entry_within(s: &[u8], from: Position, there: Position, graph: &mut Graph
     ensures empty { λ _. ⌜ Keeps (now (graph .exit)) nothing ⌝ }
 {
     load(s, there, graph);
-    let how = Passing {
-        roots: true,
-        gap: NO_GAP,
-        plugged: 0,
-        attribute: NO_GAP,
-        strings: strings::no_values(),
-    };
-    let holds = items_hold(s, from, graph, how);
+    let holds = items_hold(s, from, graph, wholly());
     unload(s, there, graph);
     holds
 }
@@ -261,25 +306,12 @@ pub fn fragment_within(s: &[u8], t: u8, gaps: u64, there: Position, graph: &mut 
 fn plug_holds(s: &[u8], first: Position, gap: u8, second: Position, graph: &Graph) -> bool
     ensures { λ r. ⌜ ((xs ys : List Holding) (R : Summary) → Listed Context.TemplateHoldings (now (s .entry)) (first .at) xs → Listed Context.TemplateHoldings (now (s .entry)) (second .at) ys → Keeps (now (graph .entry)) R → Decides r (Within (plugSummary gap (held saysClaim xs) (held saysClaim ys)) R)) ⌝ }
 {
-    let none = strings::no_values();
-    let plugging = Passing {
-        roots: true,
-        gap,
-        plugged: roots_of(s, second),
-        attribute: NO_GAP,
-        strings: none,
-    };
-    if !items_hold(s, first, graph, plugging) {
+    let plugged = plugging(gap, roots_of(s, second));
+    let plugged_in = without_roots();
+    if !items_hold(s, first, graph, plugged) {
         return false;
     }
-    let without_roots = Passing {
-        roots: false,
-        gap: NO_GAP,
-        plugged: 0,
-        attribute: NO_GAP,
-        strings: none,
-    };
-    items_hold(s, second, graph, without_roots)
+    items_hold(s, second, graph, plugged_in)
 }
 
 // Whether the plug of the second entry into a gap of the first lies within the entry whose items stand there.
@@ -315,14 +347,7 @@ pub fn fill_within(
     ensures empty { λ _. ⌜ Keeps (now (graph .exit)) nothing ⌝ }
 {
     load(s, there, graph);
-    let how = Passing {
-        roots: true,
-        gap: NO_GAP,
-        plugged: 0,
-        attribute,
-        strings,
-    };
-    let holds = items_hold(s, from, graph, how);
+    let holds = items_hold(s, from, graph, filling(attribute, strings));
     unload(s, there, graph);
     holds
 }
@@ -332,4 +357,74 @@ pub fn strings_entry_within(s: &[u8], from: Position, there: Position) -> bool
     ensures { λ r. ⌜ ((xs ys : List Holding) → Listed Context.StringHoldings (now (s .entry)) (from .at) xs → Listed Context.StringHoldings (now (s .entry)) (there .at) ys → Decides r (Within (held saysString xs) (held saysString ys))) ⌝ }
 {
     strings::values_within(strings_of(s, from), strings_of(s, there))
+}
+
+// The roots of a graph stay if they pass.
+fn pass_roots(graph: &mut Graph, roots: bool)
+    ensures { λ _. ⌜ ((S : Summary) → Keeps (now (graph .entry)) S → Keeps (now (graph .exit)) (rootsPassed roots S)) ⌝ }
+{
+    if roots {
+        return;
+    }
+    graphs::drop_roots(graph);
+}
+
+// The origins of the gap that is plugged become edges to the roots that are plugged in.
+fn pass_gap(graph: &mut Graph, g: u8, plugged: u64)
+    ensures { λ _. ⌜ ((S : Summary) → Keeps (now (graph .entry)) S → Keeps (now (graph .exit)) (gapPassed g plugged S)) ⌝ }
+{
+    if NO_GAP <= g {
+        return;
+    }
+    let open = graphs::origins(graph, g);
+    graphs::add_edges(graph, open, g, plugged);
+    graphs::drop_origins(graph, g);
+}
+
+// The origins of the attribute gap that is filled take its strings.
+fn pass_attribute(graph: &mut Graph, h: u8, strings: Values)
+    ensures { λ _. ⌜ ((S : Summary) → Keeps (now (graph .entry)) S → Keeps (now (graph .exit)) (attributePassed h strings S)) ⌝ }
+{
+    if NO_GAP <= h {
+        return;
+    }
+    let open = graphs::attribute_origins(graph, h);
+    graphs::add_strings(graph, open, h, strings);
+    graphs::drop_attribute_origins(graph, h);
+}
+
+// The graph holds what passes of what it held.
+pub fn pass(graph: &mut Graph, how: Passing)
+    ensures { λ _. ⌜ ((S : Summary) → Keeps (now (graph .entry)) S → Keeps (now (graph .exit)) (passed how S)) ⌝ }
+{
+    pass_roots(graph, how.roots);
+    pass_gap(graph, how.gap, how.plugged);
+    pass_attribute(graph, how.attribute, how.strings);
+}
+
+// A template is an origin of a gap, if it has the gap: gap k is bit k, attribute gap h is bit 8 + h.
+fn add_origin(graph: &mut Graph, k: u8, n: u8, gaps: u64)
+    requires { ⌜ k < 16 ⌝ }
+    ensures { λ _. ⌜ (n < 32 → (R : Summary) → Keeps (now (graph .entry)) R → Keeps (now (graph .exit)) (withOrigin k n gaps R)) ⌝ }
+{
+    if !sets::has(gaps, k) {
+        return;
+    }
+    if k < 8 {
+        graphs::add(graph, Claim::GapFrom(k, n));
+        return;
+    }
+    graphs::add(graph, Claim::AttributeGapFrom(k - 8, n));
+}
+
+// The graph also holds what is held of a template that is just loaded.
+pub fn add_template(graph: &mut Graph, t: u8, gaps: u64)
+    ensures { λ _. ⌜ ((φ : Items) (R : Summary) → GapsAre gaps φ → t < 32 → Keeps (now (graph .entry)) R → Keeps (now (graph .exit)) (λ c. R c || fragment t φ c)) ⌝ }
+{
+    graphs::add(graph, Claim::Root(t));
+    let mut k: u8 = 0;
+    while k < 16 {
+        add_origin(graph, k, t, gaps);
+        k += 1;
+    }
 }

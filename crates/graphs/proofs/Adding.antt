@@ -6,9 +6,7 @@ use mathlib.Core.Bool.{Bool, true, false, _||_}
 use native.Mathlib.Omega.{arith}
 use native.Mathlib.Nat.{mod-lt}
 use lib.ListN.{length, getD, set, replicate, length-set}
-use lib.Seq.{getD-set-same, getD-set-other}
 use lib.Dec.{eqb, lit<}
-use borrow.Author.Tests.{eqb-true, eqb-false}
 use Rattle.sets.specs.Sets.{member}
 use Rattle.summaries.specs.Proposal.{Claim, root, edge, string, gapFrom, attributeGapFrom, Holding, claim, anyAt}
 use Rattle.summaries.specs.Summaries.{Summary, saysClaim}
@@ -19,6 +17,7 @@ use Rattle.summaries.proofs.Laws.{zeros}
 use Rattle.graphs.specs.declared.Slot.{Slot}
 use Rattle.graphs.specs.contracts.Graphs.{holdingWord, holdingBit, holds, InWords, Keeps, nothing, adding}
 use Rattle.graphs.specs.contracts.Promises.{SlotOf}
+use Rattle.graphs.proofs.Storing.{stored-narrow}
 use Rattle.graphs.proofs.Slots.{holds-claim, holds-any, holds-none}
 
 pub none-keeps : (graph : List ℕ) → graph ≡ replicate 544 0 → Keeps graph nothing
@@ -78,13 +77,6 @@ module _ (graph : List ℕ) (slot : Slot) (v : ℕ) (more : (k : ℕ) → member
   holds-then (GapFrom g n) is f = holds-claim graph _ v _ inside more (gapFrom g n) (is .word-is f) (is .bit-is f) (f .0)
   holds-then (AttributeGapFrom h n) is f = holds-claim graph _ v _ inside more (attributeGapFrom h n) (is .word-is f) (is .bit-is f) (f .0)
 
-  stored-narrow : ((i : ℕ) → getD graph i 0 < 2 ^ 64) → v < 2 ^ 64 → (k : ℕ) → getD stored k 0 < 2 ^ 64
-  stored-narrow h l k = go (eqb k (slot .word)) refl
-    where
-      go : (t : Bool) → eqb k (slot .word) ≡ t → getD stored k 0 < 2 ^ 64
-      go true e = rw (eqb-true k (slot .word) e, getD-set-same graph (slot .word) v 0 inside) l
-      go false e = rw (getD-set-other graph (slot .word) k v 0 (eqb-false k (slot .word) e)) (h k)
-
 pub add-keeps : (item : Declared.Claim) (graph : List ℕ) (slot : Slot) (v : ℕ) → SlotOf item slot → v < 2 ^ 64
     → ((k : ℕ) → member v k ≡ (eqb k (slot .bit) || member (getD graph (slot .word) 0) k))
     → HoldingFits (meaningOf item) → (R : Summary) → Keeps graph R → Keeps (set graph (slot .word) v) (adding (meaningOf item) R)
@@ -93,5 +85,5 @@ add-keeps item graph slot v is l more fits R keeps =
     record {
       room = simp length-set (keeps .room);
       same = λ c g. rw (keeps .same c g) (sym (holds-then graph slot v more inside item is fits c g));
-      narrow = stored-narrow graph slot v more inside (keeps .narrow) l;
+      narrow = stored-narrow graph (slot .word) v inside (keeps .narrow) l;
     }

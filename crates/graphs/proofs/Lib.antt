@@ -1,6 +1,10 @@
 pub mod Tests
 pub mod Claims
 pub mod Slots
+pub mod Storing
+pub mod AddingAt
+pub mod Growth
+pub mod Joining
 pub mod Adding
 pub mod Forgetting
 pub mod ClosedGraphs

@@ -1,15 +1,16 @@
 // Graphs: what a summary of a template variable holds, as words. No crate above this one knows which word an item has.
 ghost use mathlib.Core.Path.{_≡_};
-ghost use mathlib.Core.Bool.{true};
+ghost use mathlib.Core.Bool.{true, false};
 ghost use Prim.Native.Nat.{ℕ, _+_, _*_, _<_};
+ghost use lib.Dec.{eqb};
 ghost use Rattle.sets.specs.Sets.{member};
 ghost use Rattle.strings.specs.contracts.Promises.{holdsValue};
-ghost use Rattle.summaries.specs.Proposal.{claim, root, edge, string, gapFrom, attributeGapFrom};
+ghost use Rattle.summaries.specs.Proposal.{root, edge, string, gapFrom, attributeGapFrom};
 ghost use Rattle.summaries.specs.Summaries.{Summary};
 ghost use Rattle.summaries.specs.Languages.{closedSummary};
 ghost use Rattle.summaries.specs.contracts.Listed.{HoldingFits, meaningOf};
 ghost use Rattle.graphs.specs.contracts.Graphs.{holds, Keeps, SameGraph, Forgotten, nothing, adding};
-ghost use Rattle.graphs.specs.contracts.Promises.{SlotOf, OtherWord, closing, closedAt};
+ghost use Rattle.graphs.specs.contracts.Promises.{SlotOf, OtherWord, JoinsWord, Joins, addedAt, rootless, withoutGap, withoutAttributeGap};
 use strings::Values;
 use summaries::Claim;
 
@@ -158,25 +159,65 @@ pub fn forget(graph: &mut Graph, item: Claim)
     graph[k] = 0;
 }
 
-// What closing adds at template n: an edge of gap g to template 0, or string 0 at attribute gap g.
-fn closing(attribute: bool, n: u8, g: u8) -> Claim
-    ensures { λ r. ⌜ meaningOf r ≡ claim (closing attribute n g) ⌝ }
+// Gap g of template n also has edges to the templates of a set.
+fn add_edges_at(graph: &mut Graph, n: u8, g: u8, to: u64)
+    ensures { λ _. ⌜ (n < 32 → g < 8 → (R : Summary) → Keeps (now (graph .entry)) R → Keeps (now (graph .exit)) (addedAt false g (member to) (λ k. eqb k n) R)) ⌝ }
 {
-    if attribute {
-        return Claim::String(n, g, 0);
-    }
-    Claim::Edge(n, g, 0)
+    let i = word_at(EDGES, n, g);
+    graph[i] = sets::union(graph[i], to);
 }
 
-// That is added at the templates of a set.
-fn close_at(graph: &mut Graph, templates: u64, attribute: bool, g: u8)
-    ensures { λ _. ⌜ (g < 8 → (R : Summary) → Keeps (now (graph .entry)) R → Keeps (now (graph .exit)) (closedAt attribute g (member templates) R)) ⌝ }
+// Attribute gap h of template n can also take these values.
+fn add_strings_at(graph: &mut Graph, n: u8, h: u8, values: Values)
+    ensures { λ _. ⌜ (n < 32 → h < 8 → (R : Summary) → Keeps (now (graph .entry)) R → Keeps (now (graph .exit)) (addedAt true h (holdsValue values) (λ k. eqb k n) R)) ⌝ }
 {
-    let mut n = sets::first_member(templates, 0);
+    let i = word_at(STRINGS, n, h);
+    graph[i] = sets::union(graph[i], values.named.word);
+    let k = ANY_STRINGS + (h % 8) as usize;
+    graph[k] = sets::with_if(graph[k], n % 64, values.any);
+}
+
+// Gap g also has edges from the templates of one set to those of another.
+pub fn add_edges(graph: &mut Graph, from: u64, g: u8, to: u64)
+    ensures { λ _. ⌜ (g < 8 → (R : Summary) → Keeps (now (graph .entry)) R → Keeps (now (graph .exit)) (addedAt false g (member to) (member from) R)) ⌝ }
+{
+    let mut n = sets::first_member(from, 0);
     while n < 32 {
-        add(graph, closing(attribute, n as u8, g));
-        n = sets::first_member(templates, n + 1);
+        add_edges_at(graph, n as u8, g, to);
+        n = sets::first_member(from, n + 1);
     }
+}
+
+// Attribute gap h of the templates of a set can also take these values.
+pub fn add_strings(graph: &mut Graph, at: u64, h: u8, values: Values)
+    ensures { λ _. ⌜ (h < 8 → (R : Summary) → Keeps (now (graph .entry)) R → Keeps (now (graph .exit)) (addedAt true h (holdsValue values) (member at) R)) ⌝ }
+{
+    let mut n = sets::first_member(at, 0);
+    while n < 32 {
+        add_strings_at(graph, n as u8, h, values);
+        n = sets::first_member(at, n + 1);
+    }
+}
+
+// The graph holds no root.
+pub fn drop_roots(graph: &mut Graph)
+    ensures { λ _. ⌜ ((R : Summary) → Keeps (now (graph .entry)) R → Keeps (now (graph .exit)) (rootless R)) ⌝ }
+{
+    graph[ROOTS] = 0;
+}
+
+// Open gap g comes from no template.
+pub fn drop_origins(graph: &mut Graph, g: u8)
+    ensures { λ _. ⌜ (g < 8 → (R : Summary) → Keeps (now (graph .entry)) R → Keeps (now (graph .exit)) (withoutGap g R)) ⌝ }
+{
+    graph[ORIGINS + (g % 8) as usize] = 0;
+}
+
+// Open attribute gap h comes from no template.
+pub fn drop_attribute_origins(graph: &mut Graph, h: u8)
+    ensures { λ _. ⌜ (h < 8 → (R : Summary) → Keeps (now (graph .entry)) R → Keeps (now (graph .exit)) (withoutAttributeGap h R)) ⌝ }
+{
+    graph[ATTRIBUTE_ORIGINS + (h % 8) as usize] = 0;
 }
 
 // The closed graph of a show: each origin of a gap also gets an edge to template 0, each origin of an attribute gap also string 0.
@@ -186,9 +227,9 @@ pub fn close(graph: &mut Graph)
     let mut g: u8 = 0;
     while g < 8 {
         let open = origins(graph, g);
-        close_at(graph, open, false, g);
+        add_edges(graph, open, g, 1);
         let taken = attribute_origins(graph, g);
-        close_at(graph, taken, true, g);
+        add_strings(graph, taken, g, strings::one_value(0));
         g += 1;
     }
 }
@@ -205,4 +246,29 @@ pub fn same(a: &Graph, b: &Graph) -> bool
         i += 1;
     }
     true
+}
+
+// One word gains the members of another; whether it has changed.
+fn join_word(graph: &mut Graph, i: usize, more: u64) -> bool
+    requires { ⌜ i < 544 ⌝ }
+    ensures { λ r. ⌜ JoinsWord (now (graph .entry)) i more (now (graph .exit)) r ⌝ }
+{
+    let before = graph[i];
+    let both = sets::union(before, more);
+    graph[i] = both;
+    both != before
+}
+
+// The graph holds what either held; the answer is whether it has changed.
+pub fn join(graph: &mut Graph, from: &Graph) -> bool
+    ensures { λ r. ⌜ Joins (now (graph .entry)) (now (from .entry)) (now (graph .exit)) r ⌝ }
+{
+    let mut changed = false;
+    let mut i: usize = ROOTS;
+    while i < WORDS {
+        let rises = join_word(graph, i, from[i]);
+        changed = changed | rises;
+        i += 1;
+    }
+    changed
 }

@@ -1,6 +1,6 @@
 -- The verdict of a job (document 01, "Verdicts", Check a job): the first violation in document 01's order, or acceptance. After the
--- reading it is about a script and the entries of all points, E; the proposal is one way to give them, the smallest that cover another
--- (document 02, F-1).
+-- reading it is about a script and the entries of all points, E; the proposal is one way to give them; those of the smallest
+-- proposal (document 02, F-1) are another.
 use Prim.Native.Nat.{ℕ, _≤_, _<_}
 use mathlib.Core.Path.{_≡_}
 use mathlib.Core.List.{List}

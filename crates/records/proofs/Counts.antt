@@ -1,4 +1,4 @@
--- A number of bytes that came, as what it is the number of promises it.
+-- A number of bytes that came or were written, as what it is the number of promises it.
 use Prim.Native.Nat.{ℕ, _≤_, _<_}
 use mathlib.Core.Path.{_≡_, subst}
 use mathlib.Core.List.{[], _∷_}
@@ -6,6 +6,9 @@ use mathlib.Core.Bool.{Bool, true, false, cond}
 use lib.Dec.{ltb}
 use types.Run.{OneOf, miss}
 use denote.Enum.Declared.{tagOf}
+use Rattle.verdicts.specs.declared.Writing.{Writing}
+use Rattle.verdicts.specs.declared.Writing.the-variants.{Written}
+use Rattle.verdicts.specs.Printed.{bytesWritten}
 use Rattle.records.specs.declared.Attempt.{Attempt}
 use Rattle.records.specs.declared.Attempt.the-variants.{Got}
 use Rattle.records.specs.declared.Filled.{Filled}
@@ -25,6 +28,9 @@ module _ (most : ℕ) {n : ℕ} where
 
   pub found-in : (r : Found) → r ≡ Findings.Bytes n → FoundIn r most → n ≤ most
   found-in r e k = subst (λ (q : Found). FoundIn q most) e k
+
+  pub written-in : (r : Writing) → r ≡ Written n → bytesWritten r ≤ most → n ≤ most
+  written-in r e k = subst (λ (q : Writing). bytesWritten q ≤ most) e k
 
 -- What is found and is no number of bytes.
 pub others-in : (most : ℕ) (r : Found) → OneOf (1 ∷ 2 ∷ 3 ∷ []) (tagOf Declared.the-type r) → FoundIn r most

@@ -1,14 +1,18 @@
 // Standard input and standard output: what the programs share. A record is one slice, or two; a slice is a 32-bit length, lowest byte
 // first, and that many bytes. Standard error says why a record or a job gets no verdict.
-ghost use Prim.Native.Nat.{_≤_, _<_, min};
+ghost use Prim.Native.Nat.{_+_, _≤_, _<_, min};
 ghost use mathlib.Core.Path.{_≡_};
 ghost use lib.ListN.{length};
 ghost use Rattle.records.specs.Reading.{attemptOf, startOf, endedAt, numberOf, partOf};
+ghost use Rattle.verdicts.specs.Printed.{bytesWritten};
+ghost use Rattle.memory.specs.contracts.Laid.{Writes};
+ghost use Rattle.records.specs.Spelling.{hexDigit, digitsOf, spelt};
 ghost use Rattle.records.specs.contracts.Promises.{GotIn, FilledIn, FoundIn};
 use libc::STDERR_FILENO;
 use libc::STDIN_FILENO;
 use libc::STDOUT_FILENO;
 use verdicts::Numbers;
+use verdicts::Writing;
 
 // What a call of `read` comes to.
 enum Attempt {
@@ -213,13 +217,93 @@ pub fn read_slice(begins: bool, buffer: &mut [u8]) -> Found
 }
 
 // One line: the four numbers in decimal, with single spaces.
+fn write_numbers(fd: i32, v: Numbers) {
+    io::print_decimal(fd, v.n as u64);
+    io::write_all(fd, b" ");
+    io::print_decimal(fd, v.a as u64);
+    io::write_all(fd, b" ");
+    io::print_decimal(fd, v.b as u64);
+    io::write_all(fd, b" ");
+    io::print_decimal(fd, v.c as u64);
+    io::write_all(fd, b"\n");
+}
+
+// The line on standard output, and on standard error.
 pub fn print_verdict(v: Numbers) {
-    io::print_decimal(STDOUT_FILENO, v.n as u64);
+    write_numbers(STDOUT_FILENO, v);
+}
+
+pub fn tell_verdict(v: Numbers) {
+    write_numbers(STDERR_FILENO, v);
+}
+
+// Bytes as they are.
+pub fn write_bytes(bytes: &[u8]) {
+    io::write_all(STDOUT_FILENO, bytes);
+}
+
+fn hex_digit(d: u8) -> u8
+    requires { ⌜ d < 16 ⌝ }
+    ensures { λ r. ⌜ r ≡ hexDigit d ⌝ }
+{
+    if d < 10 { b'0' + d } else { b'A' + (d - 10) }
+}
+
+fn put_digits(line: &mut [u8], at: usize, b: u8) -> usize
+    requires { ⌜ at + 2 ≤ length (now line) ⌝ }
+    ensures { λ r. ⌜ Writes (now (line .entry)) at (digitsOf b) r (now (line .exit)) ⌝ }
+{
+    memory::put_two(line, at, hex_digit(b / 16), hex_digit(b % 16))
+}
+
+// The hexadecimal digits of bytes are put at a line's start; how many there are.
+fn spell(bytes: &[u8], line: &mut [u8]) -> usize
+    requires { ⌜ length (now bytes) + length (now bytes) ≤ length (now line) ⌝ }
+    ensures { λ r. ⌜ Writes (now (line .entry)) 0 (spelt (now (bytes .entry))) r (now (line .exit)) ⌝ }
+{
+    let mut at: usize = 0;
+    let mut i: usize = 0;
+    while i < bytes.len() {
+        at = put_digits(line, at, bytes[i]);
+        i += 1;
+    }
+    at
+}
+
+// At most 4,096 bytes in hexadecimal.
+fn print_part(bytes: &[u8])
+    requires { ⌜ length (now bytes) ≤ 4096 ⌝ }
+{
+    let mut line = [0u8; 8192];
+    let n = spell(bytes, &mut line);
+    io::write_all(STDOUT_FILENO, &line[..n]);
+}
+
+// Bytes in hexadecimal, however many.
+fn print_hex(bytes: &[u8]) {
+    let mut done = 0;
+    while done < bytes.len() {
+        let end = done + least(bytes.len() - done, 4096);
+        print_part(&bytes[done..end]);
+        done = end;
+    }
+}
+
+// One line: `ok`, how many bytes there are, and the bytes in hexadecimal.
+fn print_bytes(bytes: &[u8]) {
+    io::write_all(STDOUT_FILENO, b"ok ");
+    io::print_decimal(STDOUT_FILENO, bytes.len() as u64);
     io::write_all(STDOUT_FILENO, b" ");
-    io::print_decimal(STDOUT_FILENO, v.a as u64);
-    io::write_all(STDOUT_FILENO, b" ");
-    io::print_decimal(STDOUT_FILENO, v.b as u64);
-    io::write_all(STDOUT_FILENO, b" ");
-    io::print_decimal(STDOUT_FILENO, v.c as u64);
+    print_hex(bytes);
     io::write_all(STDOUT_FILENO, b"\n");
+}
+
+// One line for an answer: the bytes written, from the buffer's start on, or the refusal.
+pub fn print_answer(buffer: &[u8], answer: Writing)
+    requires { ⌜ bytesWritten answer ≤ length (now buffer) ⌝ }
+{
+    match answer {
+        Writing::Written(n) => print_bytes(&buffer[..n]),
+        Writing::Refused(_) => print_verdict(verdicts::numbers_of(verdicts::verdict_of(answer))),
+    }
 }

@@ -19,7 +19,7 @@ use Rattle.round_trip.proofs.ProgramsWritten.{program-written}
 use Rattle.round_trip.proofs.ProposalsWritten.{proposal-written}
 
 module _ (s : List ℕ) (b : Bytes s) where
-  script-read : Gives (Unit {0}) (λ π end. Span s 0 (written-script π) end × ScriptInRange π) (script s)
+  pub script-read : Gives (Unit {0}) (λ π end. Span s 0 (written-script π) end × ScriptInRange π) (script s)
   unfolding script written-script
   script-read =
       gives-then (vocabulary-read s b) λ D next v.

@@ -1,6 +1,6 @@
 -- Covering (document 01, "Covering, and the language of a show"), at one variable: the entry at point 0 covers the start, that of a next
 -- point covers the step to it, if some statement names the variable. The entries of all points are given; a proposal is one way to give
--- them (`entries`), the smallest that cover another (document 02, F-1).
+-- them (`entries`); those of the smallest proposal (document 02, F-1) are another.
 use Prim.Native.Nat.{ℕ}
 use mathlib.Core.Path.{_≡_}
 use mathlib.Core.List.{List}

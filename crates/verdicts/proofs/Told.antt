@@ -34,7 +34,8 @@ toldBy n a b c =
     (cond (eqb n 10) (Refused (Refusals.Cover (Step a b c)))
     (cond (eqb n 11) (Refused (Refusals.Page (NotRoot a b)))
     (cond (eqb n 12) (Refused (Refusals.Page (WrongElement a b c)))
-    (Refused (Refusals.Form (formOf n) (record { at = a; slice = b })))))))
+    (cond (eqb n 13) (Refused (Refusals.NoRoom a))
+    (Refused (Refusals.Form (formOf n) (record { at = a; slice = b }))))))))
 
 abbrev told : Numbers → Verdict
 told v = toldBy (v .n) (v .a) (v .b) (v .c)
@@ -56,6 +57,7 @@ told-of (Refused (Refusals.Cover (Start x))) = refl
 told-of (Refused (Refusals.Cover (Step p q x))) = refl
 told-of (Refused (Refusals.Page (NotRoot p t))) = refl
 told-of (Refused (Refusals.Page (WrongElement p t at))) = refl
+told-of (Refused (Refusals.NoRoom needed)) = refl
 
 -- So a promise that leaves one set of numbers leaves one answer.
 pub one-answer : (r r′ : Verdict) → numbersOf r ≡ numbersOf r′ → r ≡ r′

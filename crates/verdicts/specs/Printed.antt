@@ -1,4 +1,5 @@
--- The numbers N A B C that document 01, "Verdicts", gives each verdict: N is the kind, A B C are its places, unused ones 0.
+-- The numbers N A B C that document 01, "Verdicts", gives each verdict: N is the kind, A B C are its places, unused ones 0. 13 is
+-- document 02's.
 use Prim.Native.Nat.{ℕ}
 use Rattle.verdicts.specs.declared.Form.{Form}
 use Rattle.verdicts.specs.declared.Form.the-variants.{TooLong, Ended, NotAllowed, OutOfRange, NotRising, TooMany, TooManyFacts, Missing}
@@ -11,6 +12,9 @@ use Rattle.verdicts.specs.declared.Refusal.the-variants as Refusals
 use Rattle.verdicts.specs.declared.Verdict.{Verdict}
 use Rattle.verdicts.specs.declared.Verdict.the-variants.{Accepted, Refused}
 use Rattle.verdicts.specs.declared.Numbers.{Numbers}
+use Rattle.verdicts.specs.declared.Writing.{Writing}
+use Rattle.verdicts.specs.declared.Writing.the-variants.{Written}
+use Rattle.verdicts.specs.declared.Writing.the-variants as Writings
 
 -- N A B C.
 abbrev pub prints : ℕ → ℕ → ℕ → ℕ → Numbers
@@ -38,7 +42,18 @@ abbrev pub refusalNumbers : Refusal → Numbers
 refusalNumbers (Refusals.Form f place) = prints (formNumber f) (place .at) (place .slice) 0
 refusalNumbers (Refusals.Cover c) = coverNumbers c
 refusalNumbers (Refusals.Page f) = faultNumbers f
+refusalNumbers (Refusals.NoRoom needed) = prints 13 needed 0 0
 
 abbrev pub numbersOf : Verdict → Numbers
 numbersOf Accepted = prints 0 0 0 0
 numbersOf (Refused r) = refusalNumbers r
+
+-- What a call that writes tells (document 02, F-1: "success also tells the bytes written"): its verdict, and the bytes written, 0 on a
+-- refusal.
+abbrev pub verdictOf : Writing → Verdict
+verdictOf (Written n) = Accepted
+verdictOf (Writings.Refused r) = Refused r
+
+abbrev pub bytesWritten : Writing → ℕ
+bytesWritten (Written n) = n
+bytesWritten (Writings.Refused r) = 0

@@ -1,8 +1,8 @@
--- What a call that judges or checks promises of its answer (document 01, "Conditions of acceptance"): what document 01 gives for these
--- bytes has the answer's four numbers, and no others.
+-- What a call promises of its answer (document 01, "Conditions of acceptance"): it is the one that the documents give for what is lent, and
+-- they give no other. The answer of a call that judges or checks is its four numbers; that of a call that writes is also the number of
+-- bytes written and what is left in memory.
 use mathlib.Core.Path.{_≡_}
-use Rattle.verdicts.specs.declared.Numbers.{Numbers}
 
-pub record TheVerdict (Given : Numbers → Type 0) (v : Numbers) : Type 0 where
+pub record TheVerdict {A : Type 0} (Given : A → Type 0) (v : A) : Type 0 where
   pub is : Given v
-  pub only : (v′ : Numbers) → Given v′ → v′ ≡ v
+  pub only : (v′ : A) → Given v′ → v′ ≡ v

@@ -1,6 +1,6 @@
 // What a call answers: acceptance, or a refusal with its kind and place (document 01, "Verdicts").
 ghost use mathlib.Core.Path.{_≡_};
-ghost use Rattle.verdicts.specs.Printed.{formNumber, coverNumbers, faultNumbers, refusalNumbers, numbersOf};
+ghost use Rattle.verdicts.specs.Printed.{formNumber, coverNumbers, faultNumbers, refusalNumbers, numbersOf, verdictOf, bytesWritten};
 ghost use Rattle.verdicts.specs.contracts.Acceptance.{accepts};
 
 // Why bytes cannot be read.
@@ -60,11 +60,39 @@ pub enum Refusal {
     Form(Form, Place),
     Cover(Cover),
     Page(Fault),
+    // 13: what is lent is too short; this many numbers or bytes are needed.
+    NoRoom(usize),
 }
 
 pub enum Verdict {
     Accepted,
     Refused(Refusal),
+}
+
+// What a call that writes answers (document 02): how many bytes it has written, or a refusal.
+pub enum Writing {
+    Written(usize),
+    Refused(Refusal),
+}
+
+// Its verdict: what is written was accepted.
+pub fn verdict_of(answer: Writing) -> Verdict
+    ensures { λ r. ⌜ r ≡ verdictOf answer ⌝ }
+{
+    match answer {
+        Writing::Written(_) => Verdict::Accepted,
+        Writing::Refused(refusal) => Verdict::Refused(refusal),
+    }
+}
+
+// The number of bytes written: none by a refusal.
+pub fn bytes_written(answer: Writing) -> usize
+    ensures { λ r. ⌜ r ≡ bytesWritten answer ⌝ }
+{
+    match answer {
+        Writing::Written(n) => n,
+        Writing::Refused(_) => 0,
+    }
 }
 
 // Whether a verdict is acceptance.
@@ -158,6 +186,12 @@ fn refusal_numbers(r: Refusal) -> Numbers
         },
         Refusal::Cover(cover) => cover_numbers(cover),
         Refusal::Page(fault) => fault_numbers(fault),
+        Refusal::NoRoom(needed) => Numbers {
+            n: 13,
+            a: needed,
+            b: 0,
+            c: 0,
+        },
     }
 }
 

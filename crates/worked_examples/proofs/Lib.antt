@@ -7,3 +7,4 @@ pub mod ClosedGraphs
 pub mod Derivations
 pub mod RightPages
 pub mod JudgingJ1
+pub mod Proposals

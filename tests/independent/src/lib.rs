@@ -1,11 +1,16 @@
-//! The page check of document 01: reading a job, checking it, judging one page.
+//! The page check of document 01: reading a job, checking it, judging one page. And request F-1 of document 02: working
+//! out the proposal.
 
 pub mod check;
 pub mod cover;
+pub mod flow;
 pub mod graph;
+pub mod held;
+pub mod infer;
 pub mod job;
 pub mod judge;
 pub mod patterns;
+pub mod plugged;
 pub mod program;
 pub mod proposal;
 pub mod reader;
@@ -13,18 +18,22 @@ pub mod records;
 pub mod summary;
 pub mod templates;
 pub mod vocabulary;
+pub mod writer;
 
 pub mod damage;
 pub mod job_limits;
 pub mod language;
+pub mod large_scripts;
 pub mod least;
 pub mod page_limits;
 pub mod random;
 pub mod random_jobs;
 pub mod random_pages;
+pub mod random_scripts;
 pub mod random_vocabulary;
 pub mod run;
 
 pub use check::check;
+pub use infer::{infer, Inferred};
 pub use job::read_job;
 pub use judge::judge;

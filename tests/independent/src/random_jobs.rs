@@ -12,7 +12,7 @@ use crate::reader::*;
 const AIMS: [(u32, usize); 12] =
     [(0, 36), (12, 18), (11, 6), (10, 9), (9, 4), (2, 4), (3, 6), (4, 4), (5, 4), (6, 3), (7, 2), (8, 4)];
 
-const COMMANDS: [u8; 43] = [
+pub const COMMANDS: [u8; 43] = [
     0x01, 0x02, 0x03, 0x04, 0x05, 0x10, 0x11, 0x12, 0x13, 0x14, 0x15, 0x16, 0x17, 0x20, 0x21, 0x22, 0x23, 0x24, 0x25,
     0x26, 0x27, 0x28, 0x2F, 0x30, 0x31, 0x32, 0x33, 0x34, 0x35, 0x36, 0x37, 0x38, 0x3F, 0x40, 0x41, 0x42, 0x43, 0x44,
     0x45, 0x46, 0x47, 0x48, 0x4F,
@@ -185,7 +185,7 @@ fn allow_more(random: &mut Random, draft: &mut Draft) {
     }
 }
 
-fn template(random: &mut Random, draft: &Draft, page: bool, gaps: usize, bytes: &mut Vec<u8>) {
+pub fn template(random: &mut Random, draft: &Draft, page: bool, gaps: usize, bytes: &mut Vec<u8>) {
     let mut budget = random.from_to(1, 6);
     if page {
         return element(random, draft, draft.root, gaps, 0, &mut budget, bytes);

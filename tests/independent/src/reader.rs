@@ -17,6 +17,7 @@ pub const START: u32 = 9;
 pub const STEP: u32 = 10;
 pub const NOT_THE_ROOT: u32 = 11;
 pub const WRONG_ELEMENT: u32 = 12;
+pub const NO_ROOM: u32 = 13;
 
 /// Most bytes of a job, a vocabulary or a page.
 pub const LONGEST: usize = 65_535;

@@ -1,6 +1,8 @@
 //! Records: slices one after another, each behind a 32-bit length, lowest byte first.
 
-use crate::reader::Verdict;
+use crate::infer::{infer, WORK};
+use crate::reader::{Verdict, ACCEPTED, NO_ROOM};
+use std::fmt::Write as _;
 use std::io::{self, BufWriter, Read, Write};
 
 pub struct Records {
@@ -72,6 +74,57 @@ pub fn print_pages(verdict: fn(&[u8], &[u8]) -> Verdict) -> io::Result<()> {
     let mut out = BufWriter::new(io::stdout().lock());
     while let Some((vocabulary, page)) = records.two_slices() {
         print(&mut out, verdict(vocabulary, page))?;
+    }
+    out.flush()
+}
+
+/// What a call of `infer` needs besides the job. The buffer grows as answers need.
+pub struct Lent {
+    work: Vec<u64>,
+    buffer: Vec<u8>,
+}
+
+impl Default for Lent {
+    fn default() -> Lent {
+        Lent { work: vec![0; WORK], buffer: Vec::new() }
+    }
+}
+
+impl Lent {
+    /// The proposal, or the refusal.
+    pub fn infer(&mut self, job: &[u8]) -> Result<&[u8], Verdict> {
+        let mut answer = infer(job, &mut self.work, &mut self.buffer, 0);
+        if answer.verdict[0] == NO_ROOM {
+            self.buffer.resize(answer.verdict[1] as usize, 0);
+            answer = infer(job, &mut self.work, &mut self.buffer, 0);
+        }
+        match answer.verdict {
+            ACCEPTED => Ok(&self.buffer[..answer.written]),
+            refusal => Err(refusal),
+        }
+    }
+
+    /// `ok LENGTH HEX` or `N A B C`.
+    pub fn line(&mut self, job: &[u8]) -> String {
+        match self.infer(job) {
+            Ok(proposal) => {
+                let mut text = format!("ok {} ", proposal.len());
+                proposal.iter().for_each(|byte| write!(text, "{byte:02X}").unwrap());
+                text.push('\n');
+                text
+            }
+            Err(refusal) => line(refusal),
+        }
+    }
+}
+
+/// Prints a line on each job, up to its `3F`, of standard input.
+pub fn print_inferred() -> io::Result<()> {
+    let mut records = Records::from_stdin()?;
+    let mut out = BufWriter::new(io::stdout().lock());
+    let mut lent = Lent::default();
+    while let Some(job) = records.slice() {
+        out.write_all(lent.line(job).as_bytes())?;
     }
     out.flush()
 }

@@ -1,7 +1,9 @@
 -- 9 and 10 where the covering fails, else what the shows give.
 use borrow.Author.Needs.{needs}
 use Rattle.covering.proofs.Laws.{tables-of}
-use Rattle.checker.proofs.Reading.{uncovered, covered, gaps-table, read-at}
+use Rattle.jobs.proofs.Tables.{gaps-table}
+use Rattle.covering.proofs.Laws.{tables-of}
+use Rattle.checker.proofs.Reading.{uncovered, covered, read-at}
 use Rattle.checker.proofs.check_read.Statement.{statement}
 use Rattle.checker.proofs.check_read.Tie as tie
 
@@ -25,12 +27,12 @@ first-fault-requires c κs = search needs
 
 returns : tie.Need-returns
 returns c j end reads K =
-    let gaps = gaps-table _ j end reads _ _ K (c .before .before .before .before .before .before .gaps-of .result) (c .before .before .before .before .before .before .gaps-of .ensures) in
+    let gaps = gaps-table (j .script) _ _ _ _ _ _ (tables-of _ _ j end _ reads K .of-script) (c .before .before .before .before .before .before .gaps-of .result) (c .before .before .before .before .before .before .gaps-of .ensures) in
     uncovered (c .before .before .before .first-uncovered .result) (c .before .before .before .first-uncovered .ensures j _ _ (tables-of _ _ j end _ reads K) gaps) _ (c .before .covering .given .1)
 
 returns-2 : tie.Need-returns-2
 returns-2 c j end reads K =
-    let gaps = gaps-table _ j end reads _ _ K (c .before .before .before .before .before .before .before .before .before .before .before .gaps-of .result) (c .before .before .before .before .before .before .before .before .before .before .before .gaps-of .ensures) in
+    let gaps = gaps-table (j .script) _ _ _ _ _ _ (tables-of _ _ j end _ reads K .of-script) (c .before .before .before .before .before .before .before .before .before .before .before .gaps-of .result) (c .before .before .before .before .before .before .before .before .before .before .before .gaps-of .ensures) in
     c .first-fault .ensures j (read-at _ j end reads _ _ K (c .before .before .before .before .before .before .before .before .before .before .before .gaps-of .result) gaps (c .before .before .before .tables-of .result) (c .before .before .before .tables-of .ensures))
     (covered (c .before .before .before .before .before .before .before .before .first-uncovered .result) (c .before .before .before .before .before .before .before .before .first-uncovered .ensures j _ _ (tables-of _ _ j end _ reads K) gaps) (c .before .before .before .before .before .before .enum-told .given .1))
 

@@ -105,7 +105,7 @@ loop-again-2 c j R =
 
 returns-2 : tie.Need-returns-2 Inv-loop μ-loop
 returns-2 c j R covered =
-    shows-end (j .script) (entries (j .proposal)) (c .before .loop .p) (c .before .loop .inv j R) (c .before .before .before .args .points) (R .parts .points-are) (c .loop-test .left) covered
+    shows-end (j .script) (entries (j .proposal)) (c .before .loop .p) (c .before .loop .inv j R) (c .before .before .before .args .points) (R .parts .of-script .points-are) (c .loop-test .left) covered
 
 pub first-fault-spec : {M : Type 1} → statement M
 first-fault-spec =

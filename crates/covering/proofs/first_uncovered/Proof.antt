@@ -11,7 +11,7 @@ start-uncovered-requires c κs = search needs
 
 returns : tie.Need-returns
 returns c j count starts T G =
-    start-fails (j .script) (entries (j .proposal)) (c .before .start-uncovered .result) (c .before .start-uncovered .ensures j (T .entry 0 (lit< tt)) (T .names-are)) (c .if1 .taken)
+    start-fails (j .script) (entries (j .proposal)) (c .before .start-uncovered .result) (c .before .start-uncovered .ensures j (T .entry 0 (lit< tt)) (T .of-script .names-are)) (c .if1 .taken)
 
 none-requires : tie.Need-none-requires
 none-requires c κs = search needs
@@ -22,7 +22,7 @@ steps-uncovered-requires c κs = search needs
 returns-2 : tie.Need-returns-2
 returns-2 c j count starts T G =
     let start = c .before .before .before .before .start-uncovered in
-    start-then (j .script) (entries (j .proposal)) (start .result) (start .ensures j (T .entry 0 (lit< tt)) (T .names-are)) (c .before .before .before .if1 .left) (c .steps-uncovered .result) (c .steps-uncovered .ensures .0 j count starts T G)
+    start-then (j .script) (entries (j .proposal)) (start .result) (start .ensures j (T .entry 0 (lit< tt)) (T .of-script .names-are)) (c .before .before .before .if1 .left) (c .steps-uncovered .result) (c .steps-uncovered .ensures .0 j count starts T G)
 
 pub first-uncovered-spec : {M : Type 1} → statement M
 first-uncovered-spec =

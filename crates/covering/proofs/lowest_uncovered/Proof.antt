@@ -11,14 +11,15 @@ use Rattle.summaries.specs.Covering.{StepCovered}
 use Rattle.jobs.specs.Job.{Job}
 use Rattle.graphs.specs.contracts.Graphs.{Keeps, nothing}
 use Rattle.entries.proofs.Tests.{decided-true, decided-false}
-use Rattle.covering.specs.contracts.Tables.{NamesAre, StepAt}
+use Rattle.jobs.specs.contracts.ScriptTables.{NamesAre}
+use Rattle.covering.specs.contracts.Tables.{StepAt}
 use Rattle.covering.proofs.lowest_uncovered.Statement.{statement}
 use Rattle.covering.proofs.lowest_uncovered.Tie as tie
 
 abbrev Inv-loop : tie.InvT-loop
 Inv-loop s gaps heads names p next graph₀ step v₀ graph v =
     (v ≤ 8)
-    × ((j : Job) → StepAt j s gaps heads (step .point) (step .next) (asAct (step .act)) → NamesAre j names → (u : ℕ) → u < v → StepCovered (j .script .templates) (j .script .program) (entries (j .proposal)) (step .point) (asAct (step .act)) (step .next) (variableOf u))
+    × ((j : Job) → StepAt j s gaps heads (step .point) (step .next) (asAct (step .act)) → NamesAre (j .script) names → (u : ℕ) → u < v → StepCovered (j .script .templates) (j .script .program) (entries (j .proposal)) (step .point) (asAct (step .act)) (step .next) (variableOf u))
     × Keeps graph nothing
 
 abbrev μ-loop : tie.MeasureT-loop

@@ -28,7 +28,7 @@ returns-2 c =
     let pre = c .before .before .before .before .before .pre in
     let has = c .before .before .before .has in (
       λ j S names-are.
-          named-decides _ (c .variable-holds .result) _ (has .result) (has .ensures ∙ names-are (c .before .before .before .before .before .args .v) (pre .0)) (c .before .before .if1 .left) (c .variable-holds .ensures .0 j S (pre .0)),
+          named-decides _ (c .variable-holds .result) _ (has .result) (has .ensures ∙ names-are (c .before .before .before .before .before .args .v) (pre .0)) (c .before .before .if1 .left) (c .variable-holds .ensures .0 j S),
       c .variable-holds .ensures .1,
     )
 

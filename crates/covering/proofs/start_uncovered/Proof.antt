@@ -8,12 +8,13 @@ use Rattle.summaries.specs.Summaries.{entries}
 use Rattle.jobs.specs.Job.{Job}
 use Rattle.jobs.specs.JobVerdict.{StartHolds}
 use Rattle.entries.proofs.Tests.{decided-true, decided-false}
-use Rattle.covering.specs.contracts.Tables.{EntriesAt, NamesAre}
+use Rattle.jobs.specs.contracts.ScriptTables.{NamesAre}
+use Rattle.covering.specs.contracts.Tables.{EntriesAt}
 use Rattle.covering.proofs.start_uncovered.Statement.{statement}
 use Rattle.covering.proofs.start_uncovered.Tie as tie
 
 abbrev Inv-loop : tie.InvT-loop
-Inv-loop s heads names v₀ v = (v ≤ 8) × ((j : Job) → EntriesAt s heads (j .proposal) 0 → NamesAre j names → (u : ℕ) → u < v → StartHolds (j .script) (entries (j .proposal)) u)
+Inv-loop s heads names v₀ v = (v ≤ 8) × ((j : Job) → EntriesAt s heads (j .proposal) 0 → NamesAre (j .script) names → (u : ℕ) → u < v → StartHolds (j .script) (entries (j .proposal)) u)
 
 abbrev μ-loop : tie.MeasureT-loop
 μ-loop s heads names v₀ v = 8 - v

@@ -27,7 +27,7 @@ found : (c : tie.After-point-uncovered Inv-loop μ-loop) (j : Job) (count : ℕ)
     → PointCovers (j .script) (entries (j .proposal)) (c .before .before .before .before .loop .p) (c .point-uncovered .result)
 found c j count starts T G =
     let h = c .before .before .before .loop-test .taken in
-    let l = T .few-points in
+    let l = T .of-script .few-points in
     let q : c .before .before .before .before .loop .p % 32 ≡ c .before .before .before .before .loop .p = omega arith in
     c .point-uncovered .ensures .0 j count starts (c .before .before .before .before .before .before .args .points) (c .before .before .before .before .before .before .args .places .now) T G h (rw q)
 
@@ -74,7 +74,7 @@ loop-again c =
 returns-2 : tie.Need-returns-2 Inv-loop μ-loop
 returns-2 c =
     let l = c .before .loop in (
-      λ j count starts T G. steps-end (j .script) (entries (j .proposal)) (c .before .before .before .args .points) (l .p) (T .points-are) (c .loop-test .left) (l .inv .0 j count starts T G),
+      λ j count starts T G. steps-end (j .script) (entries (j .proposal)) (c .before .before .before .args .points) (l .p) (T .of-script .points-are) (c .loop-test .left) (l .inv .0 j count starts T G),
       l .inv .1,
     )
 

@@ -2,36 +2,14 @@
 use Prim.Native.Nat.{ℕ, _≤_, _<_}
 use mathlib.Core.Path.{_≡_}
 use mathlib.Core.Bool.{Bool, true, false}
-use lib.Dec.{eqb}
 use Rattle.verdicts.specs.declared.Cover.{Cover}
 use Rattle.verdicts.specs.declared.Cover.the-variants.{Start, Step}
-use Rattle.programs.specs.Program.{Act, copyTemplate, setTemplate, copyString, setString, anyString, plug, plugString, show, statementAt}
+use Rattle.programs.specs.Program.{statementAt}
 use Rattle.summaries.specs.Summaries.{Environment}
 use Rattle.jobs.specs.Job.{Script}
 use Rattle.jobs.specs.JobVerdict.{StartHolds, StepHolds, StepsBefore, AllCovered, nextOf}
 use Rattle.covering.specs.declared.Covering.{Covering}
 use Rattle.covering.specs.declared.Covering.the-variants.{Covered, Uncovered}
-
--- Which variable an act sets.
-abbrev pub setsTemplate : Act → ℕ → Bool
-setsTemplate (copyTemplate y y′) x = eqb x y
-setsTemplate (setTemplate y t) x = eqb x y
-setsTemplate (copyString y y′) x = false
-setsTemplate (setString y s) x = false
-setsTemplate (anyString y) x = false
-setsTemplate (plug y y′ g y″) x = eqb x y
-setsTemplate (plugString y y′ h z) x = eqb x y
-setsTemplate (show y) x = false
-
-abbrev pub setsString : Act → ℕ → Bool
-setsString (copyTemplate y y′) x = false
-setsString (setTemplate y t) x = false
-setsString (copyString y y′) x = eqb x y
-setsString (setString y s) x = eqb x y
-setsString (anyString y) x = eqb x y
-setsString (plug y y′ g y″) x = false
-setsString (plugString y y′ h z) x = false
-setsString (show y) x = false
 
 -- The lowest of the numbers below 8 of which a proposition fails; 8: it holds of all of them.
 pub record Lowest (P : ℕ → Type 0) (r : ℕ) : Type 0 where

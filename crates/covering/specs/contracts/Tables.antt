@@ -5,18 +5,16 @@ use mathlib.Core.Path.{_≡_}
 use mathlib.Core.List.{List}
 use mathlib.Core.Bool.{true}
 use lib.ListN.{length, getD}
-use Rattle.sets.specs.Sets.{member}
 use Rattle.commands.specs.declared.Context.the-variants.{TemplateHoldings, StringHoldings}
-use Rattle.commands.specs.Commands.{byte, operandsOf, allInRange}
-use Rattle.programs.specs.Program.{Act, Statement, templateVariable, stringVariable, statementAt, named}
-use Rattle.programs.specs.ProgramReading.{statementRead, actTemplatesThere, templatesThere, pointsThere}
+use Rattle.programs.specs.Program.{Act, templateVariable, stringVariable}
+use Rattle.programs.specs.ProgramReading.{actTemplatesThere}
 use Rattle.programs.specs.contracts.Promises.{ActFits}
 use Rattle.summaries.specs.Proposal.{Head}
-use Rattle.summaries.specs.ProposalReading.{variableOf}
 use Rattle.summaries.specs.Summaries.{under}
 use Rattle.jobs.specs.Job.{Job}
+use Rattle.jobs.specs.contracts.ScriptTables.{ScriptTables}
 use Rattle.summaries.specs.contracts.Listed.{Listed}
-use Rattle.pages.specs.contracts.Gaps.{StartsAt, GapsTable}
+use Rattle.pages.specs.contracts.Gaps.{GapsTable}
 
 -- The items under each head of a point stand where the table says. Variable v, as `40` numbers it, has place 8 p + v; where there is
 -- no head, the table may name any offset at which no item stands.
@@ -24,25 +22,9 @@ pub record EntriesAt (s heads : List ℕ) (hs : List Head) (p : ℕ) : Type 0 wh
   pub template : (x : ℕ) → x < 4 → Listed TemplateHoldings s (getD heads (p * 8 + x) 0) (under hs p (templateVariable x))
   pub string : (y : ℕ) → y < 4 → Listed StringHoldings s (getD heads (p * 8 + (4 + y)) 0) (under hs p (stringVariable y))
 
--- The statement at an offset, in range and with its template there.
-pub record StatementStands (s : List ℕ) (count place : ℕ) (t : Statement) : Type 0 where
-  pub is : statementRead s place (byte s place) ≡ t
-  pub ranges : allInRange (operandsOf (byte s place)) s (place + 1) ≡ true
-  pub template-there : templatesThere count t ≡ true
-
--- The set has just the variables that some statement names.
-abbrev pub NamesAre : Job → ℕ → Type 0
-NamesAre j names = (v : ℕ) → v < 8 → member names v ≡ named (j .script .program) (variableOf v)
-
+-- What is known of a job: of its script, and of the entries of its proposal.
 pub record Tables (j : Job) (s : List ℕ) (count : ℕ) (starts : List ℕ) (points : ℕ) (places : List ℕ) (names : ℕ) (heads : List ℕ) : Type 0 where
-  pub count-is : count ≡ length (j .script .templates)
-  pub few-templates : count ≤ 31
-  pub start : StartsAt s (j .script .templates) starts
-  pub points-are : points ≡ length (j .script .program)
-  pub few-points : points ≤ 32
-  pub statement : (p : ℕ) → p < points → StatementStands s count (getD places p 0) (statementAt (j .script .program) p)
-  pub points-there : (p : ℕ) → p < points → pointsThere points (statementAt (j .script .program) p) ≡ true
-  pub names-are : NamesAre j names
+  pub of-script : ScriptTables (j .script) s count starts points places names
   pub entry : (p : ℕ) → p < 32 → EntriesAt s heads (j .proposal) p
 
 -- What is known where the statement of a point, with this act, is compared.

@@ -9,8 +9,8 @@ use Rattle.entries.proofs.entry_within.Tie as tie
 load-requires : tie.Need-load-requires
 load-requires c κs = search needs
 
-no-values-requires : tie.Need-no-values-requires
-no-values-requires c κs = search needs
+wholly-requires : tie.Need-wholly-requires
+wholly-requires c κs = search needs
 
 items-hold-requires : tie.Need-items-hold-requires
 items-hold-requires c κs = search needs
@@ -23,10 +23,10 @@ returns c =
     let args = c .before .before .before .before .before .before .before .before .args in
     let empty = c .before .before .before .before .before .before .before .before .pre in
     let loads = c .before .before .before .before .before .load .ensures in
-    let none = c .before .before .before .before .no-values in
+    let all = c .before .before .before .wholly in
     let holds = c .before .before .items-hold in (
       λ xs ys l m.
-          copy-decides (none .result) (none .ensures) (held saysClaim xs) (held saysClaim ys) (listed-low (args .s .now) (args .from .at) xs l) (holds .result)
+          copy-decides (all .result) (all .ensures) (held saysClaim xs) (held saysClaim ys) (listed-low (args .s .now) (args .from .at) xs l) (holds .result)
           (holds .ensures xs (held saysClaim ys) l (kept-entry (args .s .now) (args .there .at) _ _ empty loads ys m)),
       emptied (args .s .now) (args .there .at) _ _ empty loads _ (c .unload .ensures),
     )
@@ -36,7 +36,7 @@ entry-within-spec =
     tie.close
     (tie.spec
     load-requires
-    no-values-requires
+    wholly-requires
     items-hold-requires
     unload-requires
     returns)

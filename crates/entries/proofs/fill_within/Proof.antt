@@ -9,6 +9,9 @@ use Rattle.entries.proofs.fill_within.Tie as tie
 load-requires : tie.Need-load-requires
 load-requires c κs = search needs
 
+filling-requires : tie.Need-filling-requires
+filling-requires c κs = search needs
+
 items-hold-requires : tie.Need-items-hold-requires
 items-hold-requires c κs = search needs
 
@@ -17,12 +20,13 @@ unload-requires c κs = search needs
 
 returns : tie.Need-returns
 returns c =
-    let args = c .before .before .before .before .before .before .before .args in
-    let empty = c .before .before .before .before .before .before .before .pre in
-    let loads = c .before .before .before .before .load .ensures in
+    let args = c .before .before .before .before .before .before .before .before .args in
+    let empty = c .before .before .before .before .before .before .before .before .pre in
+    let loads = c .before .before .before .before .before .load .ensures in
+    let filled = c .before .before .before .filling in
     let holds = c .before .before .items-hold in (
       λ xs Y zs l is m.
-          fill-decides (args .attribute) (held saysClaim xs) (held saysClaim zs) (listed-low (args .s .now) (args .from .at) xs l) Y (args .strings) is (holds .result)
+          fill-decides (args .attribute) (args .strings) (filled .result) (filled .ensures) (held saysClaim xs) Y is (held saysClaim zs) (listed-low (args .s .now) (args .from .at) xs l) (holds .result)
           (holds .ensures xs (held saysClaim zs) l (kept-entry (args .s .now) (args .there .at) _ _ empty loads zs m)),
       emptied (args .s .now) (args .there .at) _ _ empty loads _ (c .unload .ensures),
     )
@@ -32,6 +36,7 @@ fill-within-spec =
     tie.close
     (tie.spec
     load-requires
+    filling-requires
     items-hold-requires
     unload-requires
     returns)

@@ -2,13 +2,13 @@
 use Prim.Native.Nat.{ℕ, _-_}
 use mathlib.Core.Path.{_≡_}
 use mathlib.Core.List.{List, [], _∷_}
-use mathlib.Core.Bool.{Bool, cond, _||_}
+use mathlib.Core.Bool.{Bool, cond, _&&_, _||_}
 use lib.Dec.{ltb}
 use Rattle.sets.specs.Sets.{member}
 use Rattle.commands.specs.declared.Position.{Position}
 use Rattle.summaries.specs.declared.Claim as Declared
 use Rattle.summaries.specs.declared.ClaimHere.the-variants.{Item, End}
-use Rattle.summaries.specs.Proposal.{Claim, root, gapFrom, attributeGapFrom, Holding}
+use Rattle.summaries.specs.Proposal.{Claim, root, gapFrom, attributeGapFrom, Holding, claim}
 use Rattle.summaries.specs.Summaries.{Summary, Within, saysClaim, held}
 use Rattle.summaries.specs.contracts.Listed.{HoldingFits, meaningOf, claimHere}
 use Rattle.graphs.specs.contracts.Graphs.{Keeps, nothing}
@@ -50,3 +50,7 @@ ItemHolds graph how y r = HoldingFits y → (R : Summary) → Keeps graph R → 
 -- That an open gap may come from template n: gap k, or from 8 on attribute gap k - 8.
 abbrev pub originOf : ℕ → ℕ → Claim
 originOf k n = cond (ltb k 8) (gapFrom k n) (attributeGapFrom (k - 8) n)
+
+-- A summary with that, if the template has the gap.
+abbrev pub withOrigin : ℕ → ℕ → ℕ → Summary → Summary
+withOrigin k n gaps R c = (member gaps k && saysClaim (claim (originOf k n)) c) || R c

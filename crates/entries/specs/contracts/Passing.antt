@@ -2,6 +2,7 @@
 -- origins of its gap, which become edges to the roots plugged in, and the value plugged in but for its roots. One definition has all
 -- of these; the laws say that the transfer functions of the statements are its instances.
 use Prim.Native.Nat.{ℕ}
+use mathlib.Core.Path.{_≡_}
 use mathlib.Core.Bool.{Bool, true, false, not, _&&_, _||_}
 use lib.Dec.{eqb}
 use Rattle.sets.specs.Sets.{member}
@@ -42,6 +43,33 @@ plugging none g roots = record { roots = true; gap = g; plugged = roots; attribu
 
 abbrev pub filling : ℕ → Values → Passing
 filling h strings = record { roots = true; gap = 8; plugged = 0; attribute = h; strings = strings }
+
+-- A way of passing in which no attribute gap is filled.
+pub record Unfilled (way : Values → Passing) (how : Passing) : Type 0 where
+  pub is : how ≡ way (how .strings)
+  pub empty : (t : ℕ) → holdsValue (how .strings) t ≡ false
+
+-- The parts of passing, one after the other: the roots, the gap that is plugged, the attribute gap that is filled.
+abbrev pub rootsPassed : Bool → Summary → Summary
+rootsPassed roots S (root n) = roots && S (root n)
+rootsPassed roots S (edge n g m) = S (edge n g m)
+rootsPassed roots S (string n h s) = S (string n h s)
+rootsPassed roots S (gapFrom g n) = S (gapFrom g n)
+rootsPassed roots S (attributeGapFrom h n) = S (attributeGapFrom h n)
+
+abbrev pub gapPassed : ℕ → ℕ → Summary → Summary
+gapPassed gap plugged S (root n) = S (root n)
+gapPassed gap plugged S (edge n g m) = S (edge n g m) || (eqb g gap && (S (gapFrom g n) && member plugged m))
+gapPassed gap plugged S (string n h s) = S (string n h s)
+gapPassed gap plugged S (gapFrom g n) = not (eqb g gap) && S (gapFrom g n)
+gapPassed gap plugged S (attributeGapFrom h n) = S (attributeGapFrom h n)
+
+abbrev pub attributePassed : ℕ → Values → Summary → Summary
+attributePassed attribute strings S (root n) = S (root n)
+attributePassed attribute strings S (edge n g m) = S (edge n g m)
+attributePassed attribute strings S (string n h s) = S (string n h s) || (eqb h attribute && (S (attributeGapFrom h n) && holdsValue strings s))
+attributePassed attribute strings S (gapFrom g n) = S (gapFrom g n)
+attributePassed attribute strings S (attributeGapFrom h n) = not (eqb h attribute) && S (attributeGapFrom h n)
 
 -- By the answer, a proposition holds or does not.
 abbrev pub Decides : Bool → Type 0 → Type 0

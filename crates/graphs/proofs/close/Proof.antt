@@ -1,5 +1,6 @@
 -- The gaps before the loop's are closed.
 use Prim.Native.Nat.{_-_}
+use Rattle.sets.proofs.Laws.{member-single}
 use Rattle.summaries.specs.Summaries.{Summary}
 use Rattle.graphs.specs.contracts.Graphs.{Keeps}
 use Rattle.graphs.proofs.ClosedGraphs.{closedBelow, below-begins, below-goes, below-ends}
@@ -19,14 +20,17 @@ loop-holds c = λ R k. below-begins R _ k
 origins-requires : tie.Need-origins-requires Inv-loop μ-loop
 origins-requires c κs = search needs
 
-close-at-requires : tie.Need-close-at-requires Inv-loop μ-loop
-close-at-requires c κs = search needs
+add-edges-requires : tie.Need-add-edges-requires Inv-loop μ-loop
+add-edges-requires c κs = search needs
 
 attribute-origins-requires : tie.Need-attribute-origins-requires Inv-loop μ-loop
 attribute-origins-requires c κs = search needs
 
-close-at-requires-2 : tie.Need-close-at-requires-2 Inv-loop μ-loop
-close-at-requires-2 c κs = search needs
+one-value-requires : tie.Need-one-value-requires Inv-loop μ-loop
+one-value-requires c κs = search needs
+
+add-strings-requires : tie.Need-add-strings-requires Inv-loop μ-loop
+add-strings-requires c κs = search needs
 
 add-g : tie.Need-add-g Inv-loop μ-loop
 add-g c = search needs
@@ -36,8 +40,8 @@ loop-less c = search needs
 
 loop-again : tie.Need-loop-again Inv-loop μ-loop
 loop-again c = λ R k.
-    let at-gap = c .before .before .before .before .before .before .before .before in
-    below-goes R _ _ _ (at-gap .loop-test .taken) _ _ _ (at-gap .before .loop .inv R k) (c .before .before .before .before .before .before .origins .ensures) (c .before .before .before .before .close-at .ensures) (c .before .before .attribute-origins .ensures) (c .close-at2 .ensures)
+    let at-gap = c .before .before .before .before .before .before .before .before .before in
+    below-goes R _ _ _ _ _ (member-single 0) (c .before .one-value .ensures) (at-gap .loop-test .taken) _ _ _ (at-gap .before .loop .inv R k) (c .before .before .before .before .before .before .before .origins .ensures) (c .before .before .before .before .before .add-edges .ensures) (c .before .before .before .attribute-origins .ensures) (c .add-strings .ensures)
 
 returns : tie.Need-returns Inv-loop μ-loop
 returns c = λ R k. below-ends R _ _ (c .loop-test .left) (c .before .loop .inv R k)
@@ -50,9 +54,10 @@ close-spec =
     μ-loop
     loop-holds
     origins-requires
-    close-at-requires
+    add-edges-requires
     attribute-origins-requires
-    close-at-requires-2
+    one-value-requires
+    add-strings-requires
     add-g
     loop-less
     loop-again

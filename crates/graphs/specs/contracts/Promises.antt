@@ -1,15 +1,19 @@
--- The steps on the way: where an item stands among the words, and closing gap by gap.
-use Prim.Native.Nat.{ℕ, _+_, _*_, _<_}
+-- The steps on the way: where an item stands among the words, what is added and taken at one gap, and joining.
+use Prim.Native.Nat.{ℕ, _+_, _*_, _^_, _<_}
 use mathlib.Core.Path.{_≡_}
-use mathlib.Core.Bool.{Bool, false, cond, _&&_, _||_}
+use mathlib.Core.List.{List}
+use mathlib.Core.Bool.{Bool, false, not, cond, _&&_, _||_}
 use lib.Dec.{eqb}
+use lib.ListN.{getD, set}
+use Rattle.sets.specs.Sets.{member}
 use Rattle.summaries.specs.Proposal.{Claim, root, edge, string, gapFrom, attributeGapFrom}
 use Rattle.summaries.specs.Summaries.{Summary}
 use Rattle.summaries.specs.declared.Claim as Declared
 use Rattle.summaries.specs.declared.Claim.the-variants.{Root, Edge, String, AnyString, GapFrom, AttributeGapFrom}
 use Rattle.summaries.specs.contracts.Listed.{HoldingFits, meaningOf}
 use Rattle.graphs.specs.declared.Slot.{Slot}
-use Rattle.graphs.specs.contracts.Graphs.{holdingWord, holdingBit}
+use Rattle.graphs.specs.contracts.Graphs.{holdingWord, holdingBit, Keeps}
+use Rattle.graphs.specs.contracts.Growth.{Grows}
 
 -- The word and the bit of an item; in range in any case.
 pub record SlotOf (c : Declared.Claim) (slot : Slot) : Type 0 where
@@ -27,14 +31,45 @@ OtherWord (AnyString n h) w = n < 32 → h < 8 → w ≡ 288 + n * 8 + h
 OtherWord (GapFrom g n) w = Unit {0}
 OtherWord (AttributeGapFrom h n) w = Unit {0}
 
--- What closing adds at template n: an edge of gap g to template 0, or string 0 at attribute gap g.
-abbrev pub closing : Bool → ℕ → ℕ → Claim
-closing attribute n g = cond attribute (string n g 0) (edge n g 0)
+-- A summary with edges of gap g to some templates, or strings at attribute gap g, added at the templates of a set.
+abbrev pub addedAt : Bool → ℕ → (ℕ → Bool) → (ℕ → Bool) → Summary → Summary
+addedAt attribute g more isIn R (root n) = R (root n)
+addedAt attribute g more isIn R (edge n k m) = R (edge n k m) || cond attribute false (eqb k g && (more m && isIn n))
+addedAt attribute g more isIn R (string n k s) = R (string n k s) || cond attribute (eqb k g && (more s && isIn n)) false
+addedAt attribute g more isIn R (gapFrom k n) = R (gapFrom k n)
+addedAt attribute g more isIn R (attributeGapFrom k n) = R (attributeGapFrom k n)
 
--- A summary with that added at the templates of a set.
-abbrev pub closedAt : Bool → ℕ → (ℕ → Bool) → Summary → Summary
-closedAt attribute g isIn R (root n) = R (root n)
-closedAt attribute g isIn R (edge n k m) = R (edge n k m) || cond attribute false (eqb k g && (eqb m 0 && isIn n))
-closedAt attribute g isIn R (string n k s) = R (string n k s) || cond attribute (eqb k g && (eqb s 0 && isIn n)) false
-closedAt attribute g isIn R (gapFrom k n) = R (gapFrom k n)
-closedAt attribute g isIn R (attributeGapFrom k n) = R (attributeGapFrom k n)
+-- A summary without its roots; without the origins of gap g; without those of attribute gap h.
+abbrev pub rootless : Summary → Summary
+rootless R (root n) = false
+rootless R (edge n k m) = R (edge n k m)
+rootless R (string n k s) = R (string n k s)
+rootless R (gapFrom k n) = R (gapFrom k n)
+rootless R (attributeGapFrom k n) = R (attributeGapFrom k n)
+
+abbrev pub withoutGap : ℕ → Summary → Summary
+withoutGap g R (root n) = R (root n)
+withoutGap g R (edge n k m) = R (edge n k m)
+withoutGap g R (string n k s) = R (string n k s)
+withoutGap g R (gapFrom k n) = not (eqb k g) && R (gapFrom k n)
+withoutGap g R (attributeGapFrom k n) = R (attributeGapFrom k n)
+
+abbrev pub withoutAttributeGap : ℕ → Summary → Summary
+withoutAttributeGap h R (root n) = R (root n)
+withoutAttributeGap h R (edge n k m) = R (edge n k m)
+withoutAttributeGap h R (string n k s) = R (string n k s)
+withoutAttributeGap h R (gapFrom k n) = R (gapFrom k n)
+withoutAttributeGap h R (attributeGapFrom k n) = not (eqb k h) && R (attributeGapFrom k n)
+
+-- One word gains the members of another.
+pub record JoinsWord (before : List ℕ) (i more : ℕ) (after : List ℕ) (changed : Bool) : Type 0 where
+  pub word : ℕ
+  pub word-fits : word < 2 ^ 64
+  pub after-is : after ≡ set before i word
+  pub either : (k : ℕ) → member word k ≡ (member (getD before i 0) k || member more k)
+  pub changes : changed ≡ not (eqb word (getD before i 0))
+
+-- The graph holds what either held, and its words have grown.
+pub record Joins (before from after : List ℕ) (changed : Bool) : Type 0 where
+  pub keeps : (R S : Summary) → Keeps before R → Keeps from S → Keeps after (λ c. R c || S c)
+  pub grows : (R : Summary) → Keeps before R → Grows before after changed

@@ -19,7 +19,8 @@ use Rattle.summaries.specs.Languages.{closedSummary, graphShown}
 use Rattle.jobs.specs.Job.{Script, Job, job}
 use Rattle.jobs.specs.JobVerdict.{ShowHolds, NotRootAt, WrongIn}
 use Rattle.graphs.specs.contracts.Graphs.{Keeps, nothing}
-use Rattle.covering.specs.contracts.Tables.{EntriesAt, StatementStands}
+use Rattle.jobs.specs.contracts.ScriptTables.{StatementStands}
+use Rattle.covering.specs.contracts.Tables.{EntriesAt}
 use Rattle.reach.specs.contracts.Promises.{OutlinesTo}
 use Rattle.occurrences.specs.contracts.Occurrences.{Occurrences}
 use Rattle.pattern_sets.specs.contracts.PatternSets.{holds}

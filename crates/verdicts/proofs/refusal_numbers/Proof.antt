@@ -33,6 +33,10 @@ enum-known-r-3 c = search needs
 fault-numbers-requires : tie.Need-fault-numbers-requires
 fault-numbers-requires c κs = search needs
 
+-- src/lib.rt:114:25
+enum-known-r-4 : tie.Need-enum-known-r-4
+enum-known-r-4 c = search needs
+
 -- src/lib.rt:107:1
 returns : tie.Need-returns
 returns c = rw (c .form-number .ensures) (sym (ap refusalNumbers (c .before .before .r .given .1)))
@@ -45,6 +49,10 @@ returns-2 c = search needs
 returns-3 : tie.Need-returns-3
 returns-3 c = search needs
 
+-- src/lib.rt:107:1
+returns-4 : tie.Need-returns-4
+returns-4 c = sym (ap refusalNumbers (c .before .r4 .given .1))
+
 pub refusal-numbers-spec : {M : Type 1} → statement M
 refusal-numbers-spec =
     tie.close
@@ -55,6 +63,8 @@ refusal-numbers-spec =
     cover-numbers-requires
     enum-known-r-3
     fault-numbers-requires
+    enum-known-r-4
     returns
     returns-2
-    returns-3)
+    returns-3
+    returns-4)

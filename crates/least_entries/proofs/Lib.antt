@@ -1,0 +1,10 @@
+pub mod Transfers
+pub mod Monotone
+pub mod Each
+pub mod Unique
+pub mod Rising
+pub mod Listed
+pub mod Least
+pub mod There
+pub mod PlainEntries
+pub mod Accepted

@@ -1,0 +1,2 @@
+-- The contracts of inner functions: nothing here has to be believed.
+pub mod Laid

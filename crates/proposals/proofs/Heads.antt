@@ -1,0 +1,146 @@
+-- The bytes of the variables at a point: by the words of the work area, under heads, and how many they are at most.
+use Prim.Native.Nat.{ℕ, zero, suc, _+_, _-_, _≤_, _<_}
+use mathlib.Core.Path.{_≡_, refl, sym, ap, ap₂, _∙_}
+use mathlib.Core.Bool.{Bool, true, false, cond, not, _&&_}
+use mathlib.Core.List.{List, [], _∷_, _++_}
+use native.Mathlib.Omega.{arith}
+use lib.ListN.{length, length-append}
+use lib.Dec.{ltb}
+use borrow.Author.Tests.{lt-ltb, le-ltb}
+use Rattle.commands.specs.Commands.{strings}
+use Rattle.summaries.specs.Summaries.{Summary, Strings, Environment}
+use Rattle.summaries.specs.Proposal.{Claim, root, edge, string, gapFrom, attributeGapFrom}
+use Rattle.summaries.specs.ProposalOf.{each, unlisted}
+use Rattle.graphs.specs.contracts.Graphs.{holds, Keeps}
+use Rattle.strings.specs.declared.Values.{Values}
+use Rattle.strings.specs.contracts.Promises.{holdsValue}
+use Rattle.states.specs.contracts.Promises.{GraphTaken, ValuesTaken}
+use Rattle.proposals.specs.declared.Sort.{Sort}
+use Rattle.proposals.specs.declared.Sort.the-variants.{Roots, Edges, Listed, Any, Origins, AttributeOrigins}
+use Rattle.proposals.specs.contracts.Bytes.{prefixBytes, memberItems, members, sortOf, firsts, seconds, limit, prefixOf, listedOf, isHeld, MayStand, MayBe, placeBytes, rowBytes, sortBytes, sortBytesAt, templateBytes, stringBytes, entryBytes, headBytes, entryAt, variableBytes, pointBytes, pointsBytes}
+use Rattle.proposals.proofs.Each.{each-same, each-most}
+use Rattle.proposals.proofs.Members.{members-most, members-same}
+use Rattle.proposals.proofs.Sorts.{may-stand, may-be, template-most}
+
+-- ---- entries that hold the same have the same bytes
+
+held-same : (graph : List ℕ) (R : Summary) → Keeps graph R → (sort : Sort) (a b k : ℕ) → MayStand sort a b → MayBe sort k → isHeld (holds graph) sort a b k ≡ isHeld R sort a b k
+held-same graph R keeps Roots a b k f m = sym (keeps .same _ tt)
+held-same graph R keeps Edges a b k f m = sym (keeps .same _ f)
+held-same graph R keeps Listed a b k f m = ap₂ (λ s t. s && not t) (sym (keeps .same _ f)) (sym (keeps .same _ f))
+held-same graph R keeps Any a b k f m = sym (keeps .same _ (f, m))
+held-same graph R keeps Origins a b k f m = sym (keeps .same _ f)
+held-same graph R keeps AttributeOrigins a b k f m = sym (keeps .same _ f)
+
+template-same : (templates : ℕ) → templates < 32 → (graph : List ℕ) (R : Summary) → Keeps graph R → templateBytes templates (holds graph) ≡ templateBytes templates R
+unfolding templateBytes sortBytes rowBytes
+template-same templates few graph R keeps =
+    each-same 6 (sortBytesAt templates (holds graph)) (sortBytesAt templates R) λ i li.
+    each-same (firsts templates (sortOf i)) (rowBytes templates (holds graph) (sortOf i)) (rowBytes templates R (sortOf i)) λ a la.
+    each-same (seconds (sortOf i)) (placeBytes templates (holds graph) (sortOf i) a) (placeBytes templates R (sortOf i) a) λ b lb.
+    members-same (prefixBytes (prefixOf (sortOf i) a b)) (limit templates (sortOf i)) (isHeld (holds graph) (sortOf i) a b) (isHeld R (sortOf i) a b) λ k lk.
+    held-same graph R keeps (sortOf i) a b k (may-stand templates few (sortOf i) a b la lb) (may-be templates few (sortOf i) k lk)
+
+strings-same : (Y Z : Strings) → ((s : ℕ) → Y s ≡ Z s) → stringBytes Y ≡ stringBytes Z
+unfolding stringBytes
+strings-same Y Z same =
+    ap₂ (λ xs ys. xs ++ ys)
+    (members-same (0x47 ∷ []) strings (listedOf Y) (listedOf Z) (λ k l. ap₂ (λ s t. s && not t) (same k) (same unlisted)))
+    (ap (λ (t : Bool). cond t (0x48 ∷ []) []) (same unlisted))
+
+-- ---- the entry of a variable
+
+entry-template : (templates : ℕ) (E : Environment) (v : ℕ) → v < 4 → entryBytes templates E v ≡ templateBytes templates (E .template v)
+unfolding entryBytes
+entry-template templates E v l = rw (lt-ltb v 4 l)
+
+entry-string : (templates : ℕ) (E : Environment) (v : ℕ) → 4 ≤ v → entryBytes templates E v ≡ stringBytes (E .string (v - 4))
+unfolding entryBytes
+entry-string templates E v l = rw (le-ltb v 4 l)
+
+pub entry-of-graph : (templates : ℕ) → templates < 32 → (work : List ℕ) (p v : ℕ) → v < 4 → (graph : List ℕ) → GraphTaken work p v graph
+    → entryBytes templates (entryAt work p) v ≡ templateBytes templates (holds graph)
+entry-of-graph templates few work p v l graph taken =
+    entry-template templates (entryAt work p) v l ∙ sym (template-same templates few graph (entryAt work p .template v) (taken .keeps (p + 1) (omega arith)))
+
+pub entry-of-values : (templates : ℕ) (work : List ℕ) (p v : ℕ) → 4 ≤ v → (values : Values) → ValuesTaken work p (v - 4) values
+    → entryBytes templates (entryAt work p) v ≡ stringBytes (holdsValue values)
+entry-of-values templates work p v l values taken =
+    entry-string templates (entryAt work p) v l ∙ sym (strings-same (holdsValue values) (entryAt work p .string (v - 4)) (taken .keeps (p + 1) (omega arith)))
+
+-- ---- a head stands where an item follows
+
+pub head-none : (p v : ℕ) (bs : List ℕ) → length bs ≡ 0 → headBytes p v bs ≡ []
+head-none p v [] e = refl
+head-none p v (b ∷ bs) e = absurd (omega arith)
+
+pub head-some : (p v : ℕ) (bs : List ℕ) → (length bs ≡ 0 → ⊥) → headBytes p v bs ≡ (0x40 ∷ p ∷ v ∷ []) ++ bs
+head-some p v [] h = absurd (h refl)
+head-some p v (b ∷ bs) h = refl
+
+-- ---- at most so many bytes
+
+head-most : (p v n : ℕ) (bs : List ℕ) → length bs ≤ n → length (headBytes p v bs) ≤ 3 + n
+head-most p v n [] l = omega arith
+head-most p v n (b ∷ bs) l = omega arith
+
+module _ (templates : ℕ) (few : templates < 32) where
+  string-most : (Y : Strings) → length (stringBytes Y) ≤ 257
+  unfolding stringBytes
+  string-most Y = omega (arith, length-append (members (0x47 ∷ []) strings (listedOf Y)) (cond (Y unlisted) (0x48 ∷ []) []), members-most (0x47 ∷ []) (listedOf Y) strings (omega arith) (omega arith), last (Y unlisted))
+    where
+      last : (t : Bool) → length {A = ℕ} (cond t (0x48 ∷ []) []) ≤ 1
+      last true = omega arith
+      last false = omega arith
+
+  pub entry-most : (E : Environment) (v : ℕ) → length (entryBytes templates E v) ≤ 393216
+  unfolding entryBytes
+  entry-most E v = go (ltb v 4)
+    where
+      go : (t : Bool) → length (cond t (templateBytes templates (E .template v)) (stringBytes (E .string (v - 4)))) ≤ 393216
+      go true = template-most templates few (E .template v)
+      go false = omega (arith, string-most (E .string (v - 4)))
+
+  module _ (work : List ℕ) where
+    pub point-most : (p : ℕ) → length (pointBytes templates work p) ≤ 3145752
+    unfolding pointBytes
+    point-most p = each-most (variableBytes templates work p) 8 8 393219 (omega arith) (λ v l. head-most p v 393216 (entryBytes templates (entryAt work p) v) (entry-most (entryAt work p) v))
+
+    pub points-most : (points : ℕ) → points ≤ 32 → length (pointsBytes templates work points) ≤ 100664064
+    unfolding pointsBytes
+    points-most points l = each-most (pointBytes templates work) points 32 3145752 l (λ p m. point-most p)
+
+-- Where nothing is held there is no item.
+none-each : (n : ℕ) (f : ℕ → List ℕ) → ((q : ℕ) → f q ≡ []) → each n f ≡ []
+unfolding each
+none-each zero f h = refl
+none-each (suc n) f h = rw (none-each n f h) (h n)
+
+module _ (S : Summary) (none : (c : Claim) → S c ≡ false) where
+  none-held : (sort : Sort) (a b k : ℕ) → isHeld S sort a b k ≡ false
+  none-held Roots a b k = none (root k)
+  none-held Edges a b k = none (edge a b k)
+  none-held Listed a b k = rw (none (string a b k)) refl
+  none-held Any a b k = none (string a k unlisted)
+  none-held Origins a b k = none (gapFrom a k)
+  none-held AttributeOrigins a b k = none (attributeGapFrom a k)
+
+  no-members : (templates : ℕ) (sort : Sort) (a b : ℕ) → placeBytes templates S sort a b ≡ []
+  unfolding members
+  no-members templates sort a b = none-each (limit templates sort) (memberItems (prefixBytes (prefixOf sort a b)) (isHeld S sort a b)) λ k. rw (none-held sort a b k) refl
+
+  no-row : (templates : ℕ) (sort : Sort) (a : ℕ) → rowBytes templates S sort a ≡ []
+  unfolding rowBytes
+  no-row templates sort a = none-each (seconds sort) (placeBytes templates S sort a) (no-members templates sort a)
+
+  no-sort : (templates : ℕ) (sort : Sort) → sortBytes templates S sort ≡ []
+  unfolding sortBytes
+  no-sort templates sort = none-each (firsts templates sort) (rowBytes templates S sort) (no-row templates sort)
+
+  no-items : (templates : ℕ) → templateBytes templates S ≡ []
+  unfolding templateBytes
+  no-items templates = none-each 6 (sortBytesAt templates S) (λ i. no-sort templates (sortOf i))
+
+pub blank-entry : (templates : ℕ) (E : Environment) (v : ℕ) → v < 4 → ((c : Claim) → E .template v c ≡ false) → 0 ≡ length (entryBytes templates E v)
+unfolding entryBytes
+blank-entry templates E v l none = rw (lt-ltb v 4 l, no-items (E .template v) none templates) refl

@@ -1,0 +1,9 @@
+pub mod Worklist
+pub mod MadeGraphs
+pub mod Entering
+pub mod Steps
+pub mod Flowing
+pub mod Bounds
+pub mod Points
+pub mod Starting
+pub mod Solving

@@ -1,0 +1,3 @@
+-- The contracts of inner functions: nothing here has to be believed.
+pub mod Flows
+pub mod Work

@@ -1,0 +1,5 @@
+//! Job records, each up to its `3F`, from standard input; the smallest covering proposal or the refusal a line.
+
+fn main() -> std::io::Result<()> {
+    independent::records::print_inferred()
+}
