@@ -1,11 +1,11 @@
 -- A buffer of 65,536 bytes tells as much of an input as the input itself: all of it, or that it is too long.
-use Prim.Native.Nat.{ℕ, _+_, _≤_, _<_}
+use Prim.Native.Nat.{ℕ, _≤_, _<_}
 use native.Mathlib.Omega.{arith}
 use native.Mathlib.Decide.{decLe}
 use native.Mathlib.Nat.{min-eq-left, min-eq-right}
 use mathlib.Core.Path.{_≡_, refl, sym, ap, _∙_}
 use mathlib.Core.List.{List}
-use lib.ListN.{length, take, drop, length-append}
+use lib.ListN.{length, take}
 use lib.Seq.{take-all, length-take-le}
 use borrow.Author.Tests.{lt-leb}
 use Rattle.verdicts.specs.declared.Verdict.{Verdict}
@@ -19,17 +19,14 @@ use Rattle.pages.specs.ItemReading.{pageSlice}
 use Rattle.pages.specs.PageVerdict.{Readable, PageVerdict, unreadable-vocabulary, unreadable-page, not-root, wrong-element, accepted}
 use Rattle.jobs.specs.Job.{job}
 use Rattle.jobs.specs.JobVerdict.{JobVerdict, unreadable, readable}
-use Rattle.jobs.specs.LeastEntries.{proposalBytes}
-use Rattle.jobs.specs.Inference as Inference
-use Rattle.jobs.specs.Inference.{scriptSlice, Outcome, Infers, work-too-short, does-not-fit, proposal-written}
 use Rattle.buffers.specs.Inputs.{ReadInto}
 
 -- A function that gives the same of all inputs that are too long.
-abbrev SameOfLong : {X : Type 0} → (List ℕ → X) → Type 0
+abbrev pub SameOfLong : {X : Type 0} → (List ℕ → X) → Type 0
 SameOfLong f = (s s′ : List ℕ) → mostBytes < length s → mostBytes < length s′ → f s ≡ f s′
 
 -- It gives the same of the buffer's bytes and of the input.
-read-same : {X : Type 0} (f : List ℕ → X) → SameOfLong f → (buffer : List ℕ) (n : ℕ) (input : List ℕ) → length buffer ≡ 65536
+pub read-same : {X : Type 0} (f : List ℕ → X) → SameOfLong f → (buffer : List ℕ) (n : ℕ) (input : List ℕ) → length buffer ≡ 65536
     → ReadInto buffer n input → f (take n buffer) ≡ f input
 read-same f long buffer n input whole-buffer r = go (decLe (length input) mostBytes)
   where
@@ -48,10 +45,6 @@ job-too-long : SameOfLong job
 unfolding job
 job-too-long s s′ l l′ = rw (lt-leb (length s) mostBytes l, lt-leb (length s′) mostBytes l′)
 
-script-too-long : SameOfLong scriptSlice
-unfolding scriptSlice
-script-too-long s s′ l l′ = rw (lt-leb (length s) mostBytes l, lt-leb (length s′) mostBytes l′)
-
 vocabulary-too-long : SameOfLong vocabularySlice
 unfolding vocabularySlice
 vocabulary-too-long s s′ l l′ = rw (lt-leb (length s) mostBytes l, lt-leb (length s′) mostBytes l′)
@@ -61,10 +54,10 @@ unfolding pageSlice
 page-too-long D s s′ l l′ = rw (lt-leb (length s) mostBytes l, lt-leb (length s′) mostBytes l′)
 
 -- A relation of verdicts that says of one input what it says of another.
-abbrev Same : {A : Type 0} → (A → Type 0) → (A → Type 0) → Type 0
+abbrev pub Same : {A : Type 0} → (A → Type 0) → (A → Type 0) → Type 0
 Same {A} P Q = ((v : A) → P v → Q v) × ((v : A) → Q v → P v)
 
-the-same : {A : Type 0} {P Q : A → Type 0} {v : A} → Same P Q → TheVerdict P v → TheVerdict Q v
+pub the-same : {A : Type 0} {P Q : A → Type 0} {v : A} → Same P Q → TheVerdict P v → TheVerdict Q v
 the-same {v} s t = record { is = s .0 v (t .is); only = λ v′ h. t .only v′ (s .1 v′ h) }
 
 -- A job's verdict is one of what is read.
@@ -77,29 +70,6 @@ pub job-numbers : (buffer : List ℕ) (n : ℕ) → length buffer ≡ 65536 → 
 job-numbers buffer n h r t v e input i =
     let q = read-same job job-too-long buffer n input h i in
     rw e (the-same (of-job q, of-job (sym q)) t)
-
--- So is the outcome of a script.
-module _ {work buffer : List ℕ} {place : ℕ} where
-  of-script : {s s′ : List ℕ} → scriptSlice s ≡ scriptSlice s′ → (o : Outcome) → Infers s work buffer place o → Infers s′ work buffer place o
-  of-script e o (Inference.unreadable r) = Inference.unreadable (sym e ∙ r)
-  of-script e o (work-too-short r l) = work-too-short (sym e ∙ r) l
-  of-script e o (does-not-fit r w least f) = does-not-fit (sym e ∙ r) w least f
-  of-script e o (proposal-written r w least f) = proposal-written (sym e ∙ r) w least f
-
-  pub script-outcome : (script : List ℕ) (n : ℕ) → length script ≡ 65536 → (o : Outcome) → TheVerdict (Infers (take n script) work buffer place) o
-      → (input : List ℕ) → ReadInto script n input → TheVerdict (Infers input work buffer place) o
-  script-outcome script n h o t input i =
-      let q = read-same scriptSlice script-too-long script n input h i in
-      the-same (of-script q, of-script (sym q)) t
-
--- What was written lies within the buffer.
-pub written-within : {job work buffer : List ℕ} (o : Outcome) → Infers job work buffer 0 o → o .written ≤ length (o .buffer)
-written-within o (Inference.unreadable r) = omega arith
-written-within o (work-too-short r l) = omega arith
-written-within o (does-not-fit r w least f) = omega arith
-written-within {job} {work} {buffer} o (proposal-written {π = π} {E = E} r w least f) =
-    let bytes = proposalBytes π E in
-    omega (arith, length-append bytes (drop (0 + length bytes) buffer))
 
 -- A page's verdict is one of what is read of both slices.
 module _ {v v′ p p′ : List ℕ} (q : vocabularySlice v ≡ vocabularySlice v′) (k : (D : Vocabulary) → pageSlice D p ≡ pageSlice D p′) where

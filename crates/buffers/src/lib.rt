@@ -1,17 +1,14 @@
-// The answers for what was read into a buffer (document 01, "Verdicts"; document 02, F-1). Buffers of input are lent as `&`: `untouched` holds
+// The answers for what was read into a buffer (document 01, "Verdicts"). Buffers of input are lent as `&`: `untouched` holds
 // by their type. They hold a byte more than a job or a slice may have, so that what fills one is too long, whatever follows.
 ghost use Prim.Native.Nat.{ℕ, _≤_};
 ghost use mathlib.Core.Path.{_≡_};
 ghost use mathlib.Core.List.{List};
 ghost use lib.ListN.{length};
-ghost use Rattle.verdicts.specs.Printed.{bytesWritten};
 ghost use Rattle.verdicts.specs.TheVerdict.{TheVerdict};
 ghost use Rattle.pages.specs.PageVerdict.{PageVerdict};
 ghost use Rattle.jobs.specs.JobVerdict.{JobVerdict};
-ghost use Rattle.jobs.specs.Inference.{outcome, Infers};
 ghost use Rattle.buffers.specs.Inputs.{ReadInto};
 use verdicts::Numbers;
-use verdicts::Writing;
 
 // The numbers of the job of which n bytes were read.
 pub fn job_numbers(buffer: &[u8], n: usize) -> Numbers
@@ -30,14 +27,4 @@ pub fn page_numbers(vocabulary: &[u8], n: usize, page: &[u8], m: usize) -> Numbe
     ensures untouched { λ _. ⌜ (now (vocabulary .exit) ≡ now (vocabulary .entry)) × (now (page .exit) ≡ now (page .entry)) ⌝ }
 {
     verdicts::numbers_of(judge::judge(&vocabulary[..n], &page[..m]))
-}
-
-// The outcome for the script of which n bytes were read; its proposal stands from the start of the buffer that is lent for it.
-pub fn infer_script(script: &[u8], n: usize, work: &mut [u64], buffer: &mut [u8]) -> Writing
-    requires { ⌜ (length (now script) ≡ 65536) × (n ≤ length (now script)) ⌝ }
-    ensures outcome { λ r. ⌜ ((job : List ℕ) → ReadInto (now (script .entry)) n job → TheVerdict (Infers job (now (work .entry)) (now (buffer .entry)) 0) (outcome r (now (work .exit)) (now (buffer .exit)))) ⌝ }
-    ensures within { λ r. ⌜ bytesWritten r ≤ length (now (buffer .exit)) ⌝ }
-    ensures untouched { λ _. ⌜ now (script .exit) ≡ now (script .entry) ⌝ }
-{
-    inference::infer(&script[..n], work, buffer, 0)
 }

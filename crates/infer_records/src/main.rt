@@ -12,7 +12,7 @@ fn infer_next(script: &mut [u8], work: &mut [u64], buffer: &mut [u8]) -> bool
     let Found::Bytes(n) = found else {
         return false;
     };
-    let answer = buffers::infer_script(script, n, work, buffer);
+    let answer = script_buffers::infer_script(script, n, work, buffer);
     records::print_answer(buffer, answer);
     true
 }

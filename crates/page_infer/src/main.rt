@@ -31,7 +31,7 @@ fn infer_input(script: &mut [u8], work: &mut [u64], buffer: &mut [u8])
     let Filled::Bytes(n) = filled else {
         return;
     };
-    let answer = buffers::infer_script(script, n, work, buffer);
+    let answer = script_buffers::infer_script(script, n, work, buffer);
     write_job(script, n, buffer, answer);
 }
 

@@ -7,3 +7,4 @@ pub mod Tables
 pub mod Shows
 pub mod Verdicts
 pub mod Rows
+pub mod Smallest

@@ -2,9 +2,9 @@
 use mathlib.Core.Path.{refl, sym}
 use lib.Seq.{length-take-le}
 use borrow.Author.Needs.{needs}
-use Rattle.buffers.proofs.Laws.{script-outcome, written-within}
-use Rattle.buffers.proofs.infer_script.Statement.{statement}
-use Rattle.buffers.proofs.infer_script.Tie as tie
+use Rattle.script_buffers.proofs.Laws.{script-outcome, written-within}
+use Rattle.script_buffers.proofs.infer_script.Statement.{statement}
+use Rattle.script_buffers.proofs.infer_script.Tie as tie
 
 slice-aggregate-infer : tie.Need-slice-aggregate-infer
 slice-aggregate-infer c = sym (length-take-le _ _ (c .before .before .before .before .pre .1))
