@@ -2,8 +2,9 @@
 use Prim.Native.Nat.{ℕ, zero, suc, _+_}
 use mathlib.Core.Path.{_≡_, refl}
 use mathlib.Core.List.{List, [], _∷_}
-use mathlib.Core.Bool.{Bool, true, false, cond, _||_}
+use mathlib.Core.Bool.{Bool, true, false, cond}
 use lib.Dec.{ltb, eqb}
+use Rattle.sets.proofs.Booleans.{neither}
 use Rattle.commands.specs.declared.Context.the-variants.{PageItems, PageAttributes}
 use Rattle.commands.specs.Commands.{byte, allowed, strings}
 use Rattle.commands.specs.Reading.{whole, enough}
@@ -24,9 +25,6 @@ record ClosedItem (i : Item) : Type 0 where
 
 abbrev ClosedAttributes : List Attribute → Type 0
 ClosedAttributes δ = (h : ℕ) → openIn δ h ≡ false
-
-or-false : {a b : Bool} → a ≡ false → b ≡ false → (a || b) ≡ false
-or-false p q = rw (p, q)
 
 -- Of the two commands that may stand where a page's item begins, `21` is the one that is not `23`.
 leaf-closed : (s : List ℕ) (at code : ℕ) → allowed PageItems code ≡ true → eqb code 0x23 ≡ false → ClosedItem (leafAt s at code)
@@ -51,7 +49,7 @@ module _ (s : List ℕ) where
       (λ _ _. gives-command PageAttributes s at λ code next t. gives-when (isIn (byte s (at + 1)) before)
       (λ _ _. refuses)
       (λ _ _. gives-then (attributes-close f (byte s (at + 1) ∷ before) next) λ δ end m.
-      gives (λ h. or-false (value-closed s at code h (t .may)) (m h))))
+      gives (λ h. neither _ _ (value-closed s at code h (t .may)) (m h))))
       (λ _ _. gives (λ h. refl))
 
 module _ (ruled : ℕ → Bool) (s : List ℕ) where
@@ -64,8 +62,8 @@ module _ (ruled : ℕ → Bool) (s : List ℕ) where
         (λ _ _. gives (record { gaps = λ g. refl; attribute-gaps = λ h. refl }))
         (λ _ _. gives-then (item-closes f depth at) λ i next m. gives-then (items-close f depth next) λ φ end n.
         gives (record {
-          gaps = λ g. or-false (m .gaps g) (n .gaps g);
-          attribute-gaps = λ h. or-false (m .attribute-gaps h) (n .attribute-gaps h);
+          gaps = λ g. neither _ _ (m .gaps g) (n .gaps g);
+          attribute-gaps = λ h. neither _ _ (m .attribute-gaps h) (n .attribute-gaps h);
         }))
 
     item-closes : (f depth at : ℕ) → Gives (Unit {0}) (λ i end. ClosedItem i) (item f Page ruled s depth at)
@@ -74,7 +72,7 @@ module _ (ruled : ℕ → Bool) (s : List ℕ) where
         (λ _ _. gives-when (ruled (byte s (at + 1)))
         (λ _ _. gives-when (ltb depth (nesting Page))
         (λ _ _. gives-then (attributes-close s f [] next) λ δ inside m. gives-then (items-close f (depth + 1) inside) λ φ end n.
-        gives (record { gaps = n .gaps; attribute-gaps = λ h. or-false (m h) (n .attribute-gaps h) }))
+        gives (record { gaps = n .gaps; attribute-gaps = λ h. neither _ _ (m h) (n .attribute-gaps h) }))
         (λ _ _. refuses))
         (λ _ _. refuses))
         (λ _ e. gives (leaf-closed s at code (t .may) e))

@@ -4,10 +4,11 @@ use Prim.Native.Nat.{ℕ, _≤_, _+_}
 use native.Mathlib.Omega.{arith}
 use mathlib.Core.Path.{_≡_, refl, sym, _∙_}
 use mathlib.Core.List.{List}
-use mathlib.Core.Bool.{Bool, true, false, cond, _||_, false≢true}
+use mathlib.Core.Bool.{Bool, true, false, cond, false≢true}
 use mathlib.Core.Option.{Option, some, none}
 use mathlib.Core.Logic.{_↔_, inl, inr}
 use borrow.Author.Tests.{eq-eqb}
+use Rattle.sets.proofs.Booleans.{or-neither}
 use Rattle.vocabularies.specs.Vocabulary.{Vocabulary}
 use Rattle.pages.specs.Items.{Attribute, Item, text, gap, element, Items, more, gapIn, gapInItem}
 use Rattle.pages.specs.Items as Items
@@ -32,21 +33,13 @@ module _ (D : Vocabulary) where
     no-wrong-in : (((g : ℕ) → gapInItem i g ≡ false) → AcceptsItem D i) → FoundIn i none
     wrong-in : {mark : ℕ} → WrongItem mark i → FoundIn i (some mark)
 
-or-false-left : (a b : Bool) → (a || b) ≡ false → a ≡ false
-or-false-left true b e = e
-or-false-left false b e = refl
-
-or-false-right : (a b : Bool) → (a || b) ≡ false → b ≡ false
-or-false-right true b e = absurd (false≢true (sym e))
-or-false-right false b e = e
-
 module _ (D : Vocabulary) where
   found-more : {i : Item} {φ : Items} {a b : Option ℕ} → FoundIn D i a → Found D φ b → Found D (more i φ) (orElse a b)
   unfolding WrongAt SomeElement Accepts gapIn
   found-more (wrong-in w) f = wrong (inl w)
   found-more (no-wrong-in h) (wrong w) = wrong (inr w)
   found-more {i} {φ} (no-wrong-in h) (no-wrong k) =
-      no-wrong (λ n. (h (λ g. or-false-left (gapInItem i g) (gapIn φ g) (n g)), k (λ g. or-false-right (gapInItem i g) (gapIn φ g) (n g))))
+      no-wrong (λ n. (h (λ g. or-neither (gapInItem i g) (gapIn φ g) (n g) .0), k (λ g. or-neither (gapInItem i g) (gapIn φ g) (n g) .1)))
 
   found-element : {e mark : ℕ} {δ : List Attribute} {φ : Items} {b : Bool} {o : Option ℕ} → Decided (ElementRight D e δ φ) b → Found D φ o
       → FoundIn D (element e mark δ φ) (cond b o (some mark))

@@ -114,6 +114,3 @@ module _ {A : Type 0} (s : List ℕ) where
 
   pub gives-alone : {U : Type 0} {P : A → ℕ → Type 0} {r : Read A} → Gives U P r → Gives U P (alone s r)
   gives-alone g = gives-map (λ a end p. p .2) (gives-all g)
-
-  pub alone-whole : (r : Read A) {a : A} {end : ℕ} → alone s r ≡ whole a end → r ≡ whole a end
-  alone-whole r = given (gives-alone (gives-itself r))

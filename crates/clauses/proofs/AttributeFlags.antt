@@ -22,7 +22,7 @@ use Rattle.vocabularies.specs.Facts.{Fact, present}
 use Rattle.vocabularies.specs.contracts.Promises.{meaningOf, keptAt, Stored}
 use Rattle.judging.specs.contracts.Judgement.{precedes, holdsValue}
 use Rattle.patterns.specs.contracts.Patterns.{flagged, numbered, patternOf}
-use Rattle.patterns.proofs.Tests.{or-left, or-right, failed}
+use Rattle.sets.proofs.Booleans.{or-left, or-right, refuted}
 use Rattle.schemes.specs.contracts.Promises.{OfFacts}
 use Rattle.schemes.proofs.Placing.{few-count}
 use Rattle.clauses.specs.contracts.Promises.{alone, IsPattern, WithValued, ValuedNames}
@@ -151,8 +151,8 @@ module _ (names : ℕ) (y : Kept.Fact) where
   pub valued-name : (b : ℕ) (set : StringSet) (r : ℕ) → y ≡ Valued b set → ((k : ℕ) → member r k ≡ (eqb k b || member names k)) → WithValued names (meaningOf y) r
   unfolding holdsValue
   valued-name b set r e is = record {
-    keeps = λ a h. failed (member names a) (λ p. false≢true (sym h ∙ is a ∙ or-right (eqb a b) (member names a) p));
-    others = λ a s l h. rw (e, failed (eqb a b) (λ p. false≢true (sym h ∙ is a ∙ or-left (eqb a b) (member names a) p)));
+    keeps = λ a h. refuted (member names a) (λ p. false≢true (sym h ∙ is a ∙ or-right (eqb a b) (member names a) p));
+    others = λ a s l h. rw (e, refuted (eqb a b) (λ p. false≢true (sym h ∙ is a ∙ or-left (eqb a b) (member names a) p)));
   }
 
 module _ (t : Facts) where

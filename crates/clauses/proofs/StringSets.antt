@@ -20,7 +20,8 @@ use Rattle.patterns.specs.contracts.Patterns.{flagged, numbered, patternOf}
 use Rattle.patterns.specs.contracts.Morphisms.{factMorphism}
 use Rattle.patterns.specs.contracts.Rounds.{only, anyNamed}
 use Rattle.patterns.specs.contracts.Elements.{attributePattern}
-use Rattle.patterns.proofs.Tests.{or-left, or-right, or-cases, and-both, and-left, and-right, same-test, failed, any-below, below-any}
+use Rattle.patterns.proofs.Tests.{any-below, below-any}
+use Rattle.sets.proofs.Booleans.{or-left, or-right, or-cases, and-both, and-left, and-right, alike, refuted}
 use Rattle.patterns.proofs.Clauses.{pattern-below}
 use Rattle.pattern_sets.specs.contracts.PatternSets.{holds}
 use Rattle.schemes.specs.contracts.Schemes.{Is}
@@ -85,7 +86,7 @@ module _ (t : Facts) (a s : ℕ) where
 
     pub alike-more : AlikeTo (i + 1) more
     alike-more = record {
-      itself = λ fs h few l. narrows s ∙ and-both (so-far .itself fs h few l) (agrees-itself (hasString told s));
+      itself = λ fs h few l. narrows s ∙ and-both _ _ (so-far .itself fs h few l) (agrees-itself (hasString told s));
       flags = λ fs h few k m j l c.
           let kept = sym (narrows k) ∙ m in
           let older = and-left (hasString set k) (agree (hasString told s) (hasString told k)) kept in
@@ -149,7 +150,7 @@ module _ (fs : List Fact) (set : List ℕ) (a : ℕ) (named : StringSet) where
     later k m l false e = inr (still, not-after less (s + 1) onto f k still beyond)
       where
         still : hasString less k ≡ true
-        still = without k ∙ and-both m (ap not e)
+        still = without k ∙ and-both _ _ m (ap not e)
 
         beyond : s + 1 ≤ k
         beyond = go (ℕ-discrete k s)
@@ -189,12 +190,12 @@ module _ (fs : List Fact) (a : ℕ) (words : List ℕ) (S : ℕ → Bool) where
       → ((x : ℕ) → holds words x ≡ true → (s : ℕ) × (s ≤ strings) × (S s ≡ true) × (attributePattern fs a s ≡ x))
       → Is (factMorphism fs) words (λ x. anyNamed (λ s. S s && only (attributePattern fs a s) x))
   exact complete sound = record {
-    inside = λ x l. same-test (holds words x) (anyNamed (λ s. S s && only (attributePattern fs a s) x)) (λ h. into x (sound x h)) (out x);
-    outside = λ x l. failed (holds words x) (λ h. too-large x l (sound x h));
+    inside = λ x l. alike (holds words x) (anyNamed (λ s. S s && only (attributePattern fs a s) x)) (λ h. into x (sound x h)) (out x);
+    outside = λ x l. refuted (holds words x) (λ h. too-large x l (sound x h));
   }
     where
       into : (x : ℕ) → (s : ℕ) × (s ≤ strings) × (S s ≡ true) × (attributePattern fs a s ≡ x) → anyNamed (λ s. S s && only (attributePattern fs a s) x) ≡ true
-      into x (s, l, h, e) = any-below (suc strings) (λ s. S s && only (attributePattern fs a s) x) s (omega arith) (and-both h (eq-eqb x (attributePattern fs a s) (sym e)))
+      into x (s, l, h, e) = any-below (suc strings) (λ s. S s && only (attributePattern fs a s) x) s (omega arith) (and-both _ _ h (eq-eqb x (attributePattern fs a s) (sym e)))
 
       out : (x : ℕ) → anyNamed (λ s. S s && only (attributePattern fs a s) x) ≡ true → holds words x ≡ true
       out x e =

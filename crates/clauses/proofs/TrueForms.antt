@@ -24,7 +24,8 @@ use Rattle.judging.specs.contracts.Judgement.{truthOf}
 use Rattle.judging.proofs.Evaluation.{step-none, conj-step, disj-step, neg-step, truth-step, attr-step, content-step, order-step, value-step}
 use Rattle.patterns.specs.contracts.Patterns.{flagIn, atomsBy}
 use Rattle.patterns.specs.contracts.Rounds.{anyBelow}
-use Rattle.patterns.proofs.Tests.{and-left, failed, any-below, below-any}
+use Rattle.patterns.proofs.Tests.{any-below, below-any}
+use Rattle.sets.proofs.Booleans.{and-left, refuted}
 use Rattle.pattern_sets.specs.contracts.PatternSets.{holds, IsEmpty}
 use Rattle.pattern_sets.specs.contracts.Images.{AllFlagged}
 use Rattle.pattern_sets.proofs.Tables.{below, passed}
@@ -134,7 +135,7 @@ module _ (t : Facts) (names : ℕ) (v : List ℕ) (at : ℕ) (truths : Truths) (
           go false l = absurd (false≢true (sym (held .outside x (ltb-false x (2 ^ length fs) l)) ∙ and-left (holds words x) (holds falsehoods x) (sym (both x) ∙ e)))
 
       told : (b : Bool) → IsEmpty wrong b → not b ≡ anyBelow (2 ^ length fs) (λ x. E x && not (truthOf (atomsBy fs ns x) ψ))
-      told true nothing = sym (failed (anyBelow (2 ^ length fs) (λ x. E x && not (truthOf (atomsBy fs ns x) ψ)))
+      told true nothing = sym (refuted (anyBelow (2 ^ length fs) (λ x. E x && not (truthOf (atomsBy fs ns x) ψ)))
           (λ e. let (x, b, q) = below-any (2 ^ length fs) (λ x. E x && not (truthOf (atomsBy fs ns x) ψ)) e in false≢true (sym (nothing x) ∙ same x b ∙ q)))
       told false (x, l, e) =
           let b = below-size x e in

@@ -7,6 +7,7 @@ use native.Mathlib.Omega.{arith}
 use lib.ListN.{length, List·getD-eq-default}
 use lib.Dec.{leb, ltb, eqb}
 use borrow.Author.Tests.{leb-true, ltb-true, ltb-false, lt-ltb, le-ltb, le-leb, eq-eqb, ne-eqb, eqb-true, eqb-false}
+use Rattle.sets.proofs.Booleans.{and-left, and-right}
 use Rattle.verdicts.specs.declared.Form.{Form}
 use Rattle.verdicts.specs.declared.Form.the-variants.{Ended, NotAllowed, OutOfRange}
 use Rattle.commands.specs.declared.Context.{Context}
@@ -190,14 +191,9 @@ abbrev short : List Format → Bool
 short [] = true
 short (f ∷ fs) = leb (widths (f .operands)) 9 && short fs
 
-both-true : (a b : Bool) → (a && b) ≡ true → (a ≡ true) × (b ≡ true)
-both-true true b e = (refl, e)
-both-true false true e = (e, refl)
-both-true false false e = (e, e)
-
 lookup-short : (c : ℕ) (fs : List Format) → short fs ≡ true → widths (lookup c fs) ≤ 9
 lookup-short c [] e = omega arith
-lookup-short c (f ∷ fs) e = go (eqb c (f .code)) (leb-true _ _ (both-true (leb (widths (f .operands)) 9) (short fs) e .0)) (lookup-short c fs (both-true (leb (widths (f .operands)) 9) (short fs) e .1))
+lookup-short c (f ∷ fs) e = go (eqb c (f .code)) (leb-true _ _ (and-left (leb (widths (f .operands)) 9) (short fs) e)) (lookup-short c fs (and-right (leb (widths (f .operands)) 9) (short fs) e))
   where
     go : (t : Bool) → widths (f .operands) ≤ 9 → widths (lookup c fs) ≤ 9 → widths (cond t (f .operands) (lookup c fs)) ≤ 9
     go true h o = h

@@ -23,7 +23,7 @@ use Rattle.jobs.specs.declared.ScriptRead.{ScriptRead}
 use Rattle.jobs.specs.Job.{Job, job}
 use Rattle.jobs.specs.contracts.Promises.{JobKept}
 use Rattle.jobs.proofs.Tables.{job-script, script-parts, few-templates, script-tables}
-use Rattle.entries.proofs.Tests.{or-cases}
+use Rattle.sets.proofs.Booleans.{or-cases}
 use Rattle.entries.proofs.Reading.{holdings-listed}
 use Rattle.covering.specs.contracts.Tables.{EntriesAt, Tables}
 

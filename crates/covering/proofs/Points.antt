@@ -20,7 +20,7 @@ use Rattle.summaries.specs.Covering.{StepCovered}
 use Rattle.jobs.specs.Job.{Job}
 use Rattle.jobs.specs.JobVerdict.{StepHolds, nextOf}
 use Rattle.jobs.specs.contracts.ScriptTables.{NamesAre, StatementStands}
-use Rattle.entries.proofs.Tests.{and-left, and-right}
+use Rattle.sets.proofs.Booleans.{and-left, and-right}
 use Rattle.covering.specs.declared.Covering.the-variants.{Covered}
 use Rattle.pages.specs.contracts.Gaps.{GapsTable}
 use Rattle.covering.specs.contracts.Tables.{Tables, PointAt, StepAt}

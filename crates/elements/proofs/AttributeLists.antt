@@ -26,7 +26,8 @@ use Rattle.summaries.specs.Summaries.{Summary}
 use Rattle.patterns.specs.contracts.Morphisms.{Morphism, factMorphism}
 use Rattle.patterns.specs.contracts.Rounds.{Set, product, only, anyBelow, anyNamed, valueTakes}
 use Rattle.patterns.specs.contracts.Elements.{attributePattern, valuePatterns, attributePatterns}
-use Rattle.patterns.proofs.Tests.{and-both, and-left, and-right, same-test, failed, any-below, below-any}
+use Rattle.patterns.proofs.Tests.{any-below, below-any}
+use Rattle.sets.proofs.Booleans.{and-both, and-left, and-right, alike, refuted}
 use Rattle.patterns.proofs.Bits.{pattern-of-nothing}
 use Rattle.patterns.proofs.Clauses.{pattern-below}
 use Rattle.patterns.proofs.Products.{clause-monoid, product-assoc, product-unit-left, product-unit-right}
@@ -101,17 +102,17 @@ module _ (t : Facts) (r : Scheme) (words : List ℕ) (n : ℕ) where
     extends-gap h takes set = unit-extends (opened a h) set (λ ψ G T R kept x.
         let none : (s : ℕ) → attributePattern (factsOf ψ) a s ≡ 0 = λ s. all (factsOf ψ) T (R .few) a s low out in
         let own : ℕ → Bool = λ s. G (Proposal.string n h s) && only (attributePattern (factsOf ψ) a s) x in
-        same-test (anyNamed own) (only 0 x)
+        alike (anyNamed own) (only 0 x)
         (λ e. let (s, l, q) = below-any (suc strings) own e in
         sym (ap (λ (p : ℕ). only p x) (none s)) ∙ and-right (G (Proposal.string n h s)) (only (attributePattern (factsOf ψ) a s) x) q)
         (λ e. let (s, l, q) = below-any (suc strings) (λ s. G (Proposal.string n h s)) (takes G kept) in
-        any-below (suc strings) own s l (and-both q (ap (λ (p : ℕ). only p x) (none s) ∙ e))))
+        any-below (suc strings) own s l (and-both _ _ q (ap (λ (p : ℕ). only p x) (none s) ∙ e))))
 
   -- A gap with nothing to take leaves no pattern.
   pub extends-none : (a h : ℕ) → ((G : Summary) → Keeps words G → valueTakes G n (open-gap h) ≡ false) → (set empty : List ℕ) → ((y : ℕ) → holds empty y ≡ false)
       → Extends (opened a h) set empty
   extends-none a h takes set empty none ψ G T R kept A held = record {
-    inside = λ z l. none z ∙ sym (failed (product M A own z) (nothing z));
+    inside = λ z l. none z ∙ sym (refuted (product M A own z) (nothing z));
     outside = λ z l. none z;
   }
     where

@@ -24,7 +24,7 @@ use Rattle.vocabularies.specs.Facts.{factsOf}
 use Rattle.vocabularies.specs.contracts.Promises.{FormulaReads, FactsRead}
 use Rattle.vocabularies.proofs.Laws.{Clausal, no-more, one-more, clauses-formed, formula-whole}
 use Rattle.pages.specs.Items.{Attribute, Items}
-use Rattle.pages.specs.RightPages.{_∈_, SomeElement}
+use Rattle.pages.specs.RightPages.{_∈_}
 use Rattle.pages.proofs.Whole.{never-unfinished}
 use Rattle.programs.specs.Program.{templateAt}
 use Rattle.summaries.specs.Summaries.{Summary}
@@ -34,7 +34,7 @@ use Rattle.patterns.specs.contracts.Rounds.{Sets}
 use Rattle.patterns.specs.contracts.Exactness.{Exact}
 use Rattle.patterns.specs.contracts.Elements.{clauseFails, someClauseFails}
 use Rattle.patterns.specs.contracts.LowestWrong.{lowerWrong, LowestWrong, Passing}
-use Rattle.patterns.proofs.Tests.{and-both, and-left}
+use Rattle.sets.proofs.Booleans.{and-both, and-left}
 use Rattle.patterns.proofs.Bits.{facts-distinct}
 use Rattle.patterns.proofs.LowestOf.{lower-assoc, lower-nowhere, lowest-iff, lowest-none, lowest-either, lowest-same, lowest-never}
 use Rattle.schemes.specs.declared.Scheme as Schemes
@@ -43,7 +43,7 @@ use Rattle.occurrences.specs.contracts.Occurrences.{Stands, Occurrences}
 use Rattle.occurrences.proofs.Elements.{all-met}
 use Rattle.reach.specs.contracts.PlainlyWrong.{clauseBy, wrongByClause}
 use Rattle.elements.specs.declared.Clause.{Clause}
-use Rattle.elements.specs.contracts.Attributes.{ClauseAt, patternsBy}
+use Rattle.elements.specs.contracts.Attributes.{patternsBy}
 use Rattle.elements.specs.contracts.Search.{failsAt}
 use Rattle.elements.specs.contracts.Rules.{Standing, SearchesClause, SearchesRule, RulesStand, ExactClauses, SearchesRules}
 
@@ -166,7 +166,7 @@ module _ (φs : List Items) (reached standing chosen : ℕ) (table : List ℕ) (
           (member (getD table e 0) n ≡ true)
           (λ e′ mark δ φ T q. subst (λ (k : ℕ). member (getD table k 0) n ≡ true) (eqb-true e′ e (and-left (eqb e′ e) (test n e′ mark δ φ) (q .1))) (T .stands))
           (templateAt φs n) (H n l) h in
-          (l, common n ∙ and-both c (ap (λ (k : ℕ). member k n) is ∙ stands), h)
+          (l, common n ∙ and-both _ _ c (ap (λ (k : ℕ). member k n) is ∙ stands), h)
 
 module _ (s : List ℕ) (declared : ℕ) (clauses standing words starts : List ℕ) (count reached : ℕ) where
   -- The rules of the elements below a number.

@@ -1,10 +1,10 @@
 -- The items of a template from the left: the patterns and the lowest wrong element of what was passed, then of the item, then of the
 -- others.
-use Prim.Native.Nat.{ℕ, _+_, _≤_}
+use Prim.Native.Nat.{ℕ, _+_}
 use mathlib.Core.Path.{_≡_, refl, sym, ap, ap₂, subst, _∙_}
 use mathlib.Core.List.{List, []}
 use mathlib.Core.Bool.{Bool, true, false, not, _&&_, and-false, false≢true}
-use mathlib.Core.Logic.{_⊎_, inl, inr}
+use mathlib.Core.Logic.{inl, inr}
 use borrow.Author.Tests.{ne-eqb, eq-eqb}
 use Rattle.commands.specs.declared.Position.{Position}
 use Rattle.commands.specs.Reading.{whole}
@@ -28,11 +28,12 @@ use Rattle.patterns.specs.contracts.Rounds.{Sets, anyBelow, attributesTake, all
 use Rattle.patterns.specs.contracts.Elements.{attributePatterns, elementPatterns, clauseFails}
 use Rattle.patterns.specs.contracts.Shows.{lower, onlyIf, lowestMark, lowestMarkIn}
 use Rattle.patterns.specs.contracts.LowestWrong.{lowerWrong, wrongIn}
-use Rattle.patterns.proofs.Tests.{and-both, failed, any-below, below-any}
+use Rattle.patterns.proofs.Tests.{any-below, below-any}
+use Rattle.sets.proofs.Booleans.{and-both, refuted}
 use Rattle.patterns.proofs.LowestOf.{lower-in, lower-nowhere, lower-assoc}
 use Rattle.patterns.proofs.Products.{clause-monoid, some-pattern}
 use Rattle.patterns.proofs.Lawful.{clause-lawful}
-use Rattle.pattern_sets.specs.contracts.PatternSets.{holds, IsEmpty}
+use Rattle.pattern_sets.specs.contracts.PatternSets.{IsEmpty}
 use Rattle.schemes.specs.contracts.Schemes.{Is, of-facts}
 use Rattle.schemes.specs.contracts.Promises.{Multiplies}
 use Rattle.clauses.specs.declared.Tested.{Tested}
@@ -78,10 +79,10 @@ pattern-had φs G bounded ψ X n e mark δ φ takes fills inner is = go
     go : (y : Bool) → HasPattern takes inner y → y ≡ (attributesTake G n δ && allTake φs G (patternsBy ψ) X n φ)
     go true (t, (x, l, h)) =
         let b = held-below inner _ is x h in
-        sym (and-both (sym fills ∙ t) (sym some ∙ any-below (patternsBy ψ .size) (patterns φs G (patternsBy ψ) X n φ) x b (sym (is .inside x b) ∙ h)))
+        sym (and-both _ _ (sym fills ∙ t) (sym some ∙ any-below (patternsBy ψ .size) (patterns φs G (patternsBy ψ) X n φ) x b (sym (is .inside x b) ∙ h)))
     go false (inl t) = rw (sym fills ∙ t)
     go false (inr none) =
-        let lacking : allTake φs G (patternsBy ψ) X n φ ≡ false = sym some ∙ failed _ (λ q.
+        let lacking : allTake φs G (patternsBy ψ) X n φ ≡ false = sym some ∙ refuted _ (λ q.
         let (x, l, p) = below-any (patternsBy ψ .size) (patterns φs G (patternsBy ψ) X n φ) q in
         false≢true (sym (none x) ∙ (is .inside x l ∙ p))) in
         sym (ap (λ (b : Bool). attributesTake G n δ && b) lacking ∙ and-false (attributesTake G n δ))

@@ -13,7 +13,7 @@ use Rattle.summaries.specs.Proposal.{root, edge, string, gapFrom, attributeGapF
 use Rattle.summaries.specs.Summaries.{Summary, Within, fragment}
 use Rattle.graphs.specs.contracts.Graphs.{holds, Keeps}
 use Rattle.entries.specs.contracts.Entries.{originOf}
-use Rattle.entries.proofs.Tests.{and-both, and-left, and-right}
+use Rattle.sets.proofs.Booleans.{and-both, and-left, and-right}
 
 -- It is a root, and an origin of each of its gaps.
 abbrev pub Origin : List ℕ → ℕ → ℕ → ℕ → Type 0

@@ -21,7 +21,8 @@ use Rattle.strings.specs.contracts.Promises.{holdsValue}
 use Rattle.entries.specs.declared.Passing.{Passing}
 use Rattle.entries.specs.contracts.Passing.{Decides}
 use Rattle.entries.specs.contracts.Entries.{WithRoot}
-use Rattle.entries.proofs.Tests.{decided-true, decided-false, alike}
+use Rattle.entries.proofs.Tests.{decided-true, decided-false}
+use Rattle.sets.proofs.Booleans.{alike}
 use Rattle.entries.proofs.Claims.{says-itself, says-alone}
 use Rattle.entries.proofs.Walks.{Walked, walk-begins, walk-goes, walk-ends, walk-stops}
 use Rattle.entries.proofs.Passings.{Passes, AllPass, none-pass, more-pass, first-passes, rest-pass}

@@ -17,7 +17,7 @@ use Rattle.summaries.proofs.Steps.{claims-first, claims-end}
 use Rattle.graphs.specs.contracts.Graphs.{Keeps, Forgotten, nothing, adding}
 use Rattle.graphs.proofs.Storing.{keeps-same}
 use Rattle.entries.specs.contracts.Entries.{Taken, Loads, Unloads}
-use Rattle.entries.proofs.Tests.{or-cases, refuted}
+use Rattle.sets.proofs.Booleans.{or-cases, refuted}
 use Rattle.entries.proofs.Walks.{claim-moves}
 
 pub swap : (k y r : Bool) → (k || (y || r)) ≡ ((y || k) || r)

@@ -14,7 +14,8 @@ use Rattle.strings.specs.declared.Values.{Values}
 use Rattle.entries.specs.declared.Passing.{Passing}
 use Rattle.strings.specs.contracts.Promises.{holdsValue}
 use Rattle.entries.specs.contracts.Passing.{stays, added, passed, Decides}
-use Rattle.entries.proofs.Tests.{or-left, or-right, or-cases, and-both, and-left, and-right, refuted, decides, decides-map}
+use Rattle.entries.proofs.Tests.{decides, decides-map}
+use Rattle.sets.proofs.Booleans.{or-left, or-right, or-cases, and-both, and-left, and-right, refuted}
 use Rattle.graphs.proofs.Claims.{says-itself, says-alone, says-any}
 
 -- What two summaries hold passes of the one, or of the other.

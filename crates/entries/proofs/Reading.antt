@@ -15,7 +15,7 @@ use Rattle.commands.proofs.Laws.{moved, andThen-whole, onCommand-whole, when-wh
 use Rattle.summaries.specs.Proposal.{root, edge, string, gapFrom, attributeGapFrom, Holding, claim, anyAt, oneString}
 use Rattle.summaries.specs.ProposalReading.{holdingOf, holdingAt, holdingThere, rank, holdings}
 use Rattle.summaries.specs.contracts.Listed.{HoldingFits, Listed}
-use Rattle.entries.proofs.Tests.{and-left, and-right}
+use Rattle.sets.proofs.Booleans.{and-left, and-right}
 
 chosen : (P : Holding → Type 0) (t : Bool) (x y : Holding) → (t ≡ true → P x) → P y → P (cond t x y)
 chosen P true x y f g = f refl

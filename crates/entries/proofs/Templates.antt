@@ -2,10 +2,10 @@
 use Prim.Native.Nat.{ℕ, _+_, _-_, _≤_, _<_}
 use mathlib.Core.Path.{_≡_, refl, sym, ap, _∙_}
 use mathlib.Core.List.{List}
-use mathlib.Core.Bool.{Bool, true, false, cond, _&&_, _||_, or-false, or-comm, or-assoc, and-false}
+use mathlib.Core.Bool.{Bool, true, false, cond, _&&_, _||_, or-false, or-comm, and-false}
 use native.Mathlib.Omega.{arith}
 use lib.Dec.{eqb, ltb}
-use borrow.Author.Tests.{eq-eqb, ne-eqb, eqb-true, eqb-false, lt-ltb, le-ltb, ltb-true, ltb-false}
+use borrow.Author.Tests.{eq-eqb, eqb-true, eqb-false, lt-ltb, le-ltb, ltb-true, ltb-false}
 use Rattle.sets.specs.Sets.{member}
 use Rattle.pages.specs.Items.{Items}
 use Rattle.pages.specs.contracts.Gaps.{GapsAre}
@@ -14,8 +14,8 @@ use Rattle.summaries.specs.Summaries.{Summary, sameCode, saysClaim, fragment}
 use Rattle.graphs.specs.contracts.Graphs.{InWords, Keeps, adding}
 use Rattle.graphs.proofs.Claims.{says-itself, says-alone}
 use Rattle.graphs.proofs.Storing.{keeps-same}
-use Rattle.entries.specs.contracts.Entries.{originOf, withOrigin}
-use Rattle.entries.proofs.Tests.{alike, and-both, and-left, and-right}
+use Rattle.entries.specs.contracts.Entries.{withOrigin}
+use Rattle.sets.proofs.Booleans.{and-both, and-left, and-right, alike}
 
 -- What is held once the gaps below k are passed.
 abbrev pub loadedTo : ℕ → ℕ → ℕ → Summary

@@ -6,7 +6,6 @@ use Rattle.strings.specs.declared.Values.{Values}
 use Rattle.strings.specs.contracts.Promises.{holdsValue, ValuesWithin}
 use Rattle.summaries.specs.Summaries.{Within}
 use Rattle.entries.specs.contracts.Passing.{Decides}
-pub use Rattle.graphs.proofs.Tests.{or-left, or-right, or-cases, and-both, and-left, and-right, alike, refuted}
 
 module _ {P : Type 0} where
   pub decides : (b : Bool) → (b ≡ true → P) → (P → b ≡ true) → Decides b P

@@ -17,7 +17,8 @@ use Rattle.entries.specs.declared.Passing.{Passing}
 use Rattle.summaries.specs.contracts.Listed.{HoldingFits, Listed}
 use Rattle.strings.specs.contracts.Promises.{holdsValue}
 use Rattle.entries.specs.contracts.Passing.{passed, wholly, withoutRoots, plugging, filling, Unfilled, Decides}
-use Rattle.entries.proofs.Tests.{or-left, or-right, or-cases, and-right, decided-true, decided-false, decides-map}
+use Rattle.entries.proofs.Tests.{decided-true, decided-false, decides-map}
+use Rattle.sets.proofs.Booleans.{or-left, or-right, or-cases, and-right}
 use Rattle.graphs.specs.contracts.Graphs.{InWords, Keeps}
 use Rattle.graphs.proofs.Claims.{says-alone}
 use Rattle.graphs.proofs.Storing.{keeps-same}

@@ -8,7 +8,7 @@ use lib.Dec.{eqb}
 use borrow.Author.Tests.{eq-eqb, eqb-true}
 use Rattle.summaries.specs.Proposal.{Claim, root, edge, string, gapFrom, attributeGapFrom, claim, anyAt}
 use Rattle.summaries.specs.Summaries.{claimCode, sameCode, saysClaim}
-use Rattle.graphs.proofs.Tests.{and-both, and-left, and-right}
+use Rattle.sets.proofs.Booleans.{and-both, and-left, and-right}
 
 same-code : (ns : List ℕ) → sameCode ns ns ≡ true
 unfolding sameCode

@@ -19,7 +19,7 @@ use Rattle.summaries.specs.declared.Claim.the-variants.{Root, Edge, String, Any
 use Rattle.graphs.specs.declared.Slot.{Slot}
 use Rattle.graphs.specs.contracts.Graphs.{claimWord, isKept, holds, Keeps, Forgotten}
 use Rattle.graphs.specs.contracts.Promises.{SlotOf, OtherWord}
-use Rattle.graphs.proofs.Tests.{or-left, or-right, or-cases, and-both, and-left, and-right, alike, refuted}
+use Rattle.sets.proofs.Booleans.{or-left, or-right, or-cases, and-both, and-left, and-right, alike, refuted}
 use Rattle.graphs.proofs.Claims.{says-alone}
 
 -- The other word of a string, and of any string at a place.

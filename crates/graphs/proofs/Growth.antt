@@ -1,17 +1,18 @@
 -- Words that only gain members.
-use Prim.Native.Nat.{ℕ, zero, suc, _+_, _*_, _/_, _%_, _^_, _≤_, _<_}
+use Prim.Native.Nat.{ℕ, zero, suc, _+_, _/_, _%_, _^_, _≤_, _<_}
 use mathlib.Core.Path.{_≡_, refl, sym, ap, _∙_}
-use mathlib.Core.List.{List, [], _∷_, _++_}
+use mathlib.Core.List.{List, [], _∷_}
 use mathlib.Core.Bool.{Bool, true, false, not, _||_, false≢true}
 use native.Mathlib.Omega.{arith}
-use native.Mathlib.Nat.{div-lt-iff-lt-mul}
 use lib.ListN.{length, getD, set, length-set}
 use lib.Seq.{set-getD}
 use lib.Dec.{eqb}
-use borrow.Author.Tests.{eqb-true, eqb-false, eq-eqb}
+use borrow.Author.Tests.{eqb-true, eqb-false, eq-eqb, ne-eqb}
 use Rattle.sets.specs.Sets.{member}
-use Rattle.sets.proofs.Laws.{member-head, member-tail}
+use Rattle.sets.proofs.Laws.{member-zero, member-head, member-tail}
+use Rattle.sets.proofs.Members.{no-members}
 use Rattle.graphs.specs.contracts.Growth.{sum, Grows}
+use Rattle.sets.proofs.Booleans.{or-left, or-right}
 
 -- A set with more members is a higher number.
 pub members-more : (n a b : ℕ) → a < 2 ^ n → ((k : ℕ) → member a k ≡ true → member b k ≡ true) → a ≤ b
@@ -31,11 +32,6 @@ sum-set [] i v l = absurd (omega arith)
 sum-set (n ∷ ns) zero v l = omega arith
 sum-set (n ∷ ns) (suc i) v l = let e = sum-set ns i v (omega arith) in omega arith
 
-pub sum-append : (ns ms : List ℕ) → sum (ns ++ ms) ≡ sum ns + sum ms
-unfolding sum
-sum-append [] ms = omega arith
-sum-append (n ∷ ns) ms = let e = sum-append ns ms in omega arith
-
 pub unchanged-grows : (ns : List ℕ) → Grows ns ns false
 unchanged-grows ns = record { same-length = refl; more = omega arith; strictly = λ e. absurd (false≢true e); unchanged = λ e. refl }
 
@@ -53,6 +49,29 @@ grows-both a b c false t G H = record {
   strictly = λ e. omega (arith, G .more, H .strictly e);
   unchanged = λ e. H .unchanged e ∙ G .unchanged refl;
 }
+
+-- A union has a member where either set has one.
+module _ (a b both : ℕ) (a-fits : a < 2 ^ 64) (b-fits : b < 2 ^ 64) (both-fits : both < 2 ^ 64) (either : (k : ℕ) → member both k ≡ (member a k || member b k)) where
+  some-of-union : not (eqb both 0) ≡ (not (eqb a 0) || not (eqb b 0))
+  some-of-union = go (eqb a 0) (eqb b 0) refl refl
+    where
+      none : a ≡ 0 → b ≡ 0 → both ≡ 0
+      none e f = no-members both both-fits λ k l. either k ∙ rw (e, f, member-zero k) refl
+
+      more-than-a : a ≤ both
+      more-than-a = members-more 64 a both a-fits λ k m. either k ∙ or-left _ _ m
+
+      more-than-b : b ≤ both
+      more-than-b = members-more 64 b both b-fits λ k m. either k ∙ or-right (member a k) _ m
+
+      go : (t u : Bool) → eqb a 0 ≡ t → eqb b 0 ≡ u → not (eqb both 0) ≡ (not t || not u)
+      go true true e f = ap not (eq-eqb both 0 (none (eqb-true a 0 e) (eqb-true b 0 f)))
+      go true false e f = let n = eqb-false b 0 f in ap not (ne-eqb both 0 λ z. n (omega (arith, more-than-b)))
+      go false u e f = let n = eqb-false a 0 e in ap not (ne-eqb both 0 λ z. n (omega (arith, more-than-a)))
+
+  -- One change after another, by what is gained.
+  pub grows-gained : (ns ms ks : List ℕ) → Grows ns ms (not (eqb a 0)) → Grows ms ks (not (eqb b 0)) → Grows ns ks (not (eqb both 0))
+  grows-gained ns ms ks G H = rw some-of-union (grows-both ns ms ks _ _ G H)
 
 -- One word grows.
 pub word-grows : (ns : List ℕ) (i v : ℕ) → i < length ns → getD ns i 0 ≤ v → Grows ns (set ns i v) (not (eqb v (getD ns i 0)))

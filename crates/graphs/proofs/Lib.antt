@@ -1,4 +1,3 @@
-pub mod Tests
 pub mod Claims
 pub mod Slots
 pub mod Storing

@@ -13,7 +13,7 @@ use Rattle.sets.proofs.Laws.{member-zero}
 use Rattle.summaries.specs.Proposal.{Claim, root, edge, string, gapFrom, attributeGapFrom, Holding, claim, anyAt, oneString, anyString}
 use Rattle.summaries.specs.Summaries.{saysClaim}
 use Rattle.graphs.specs.contracts.Graphs.{claimWord, claimBit, holdingWord, holdingBit, isKept, holds, InWords}
-use Rattle.graphs.proofs.Tests.{and-both, and-left, and-right, alike, refuted}
+use Rattle.sets.proofs.Booleans.{and-both, and-left, and-right, alike, refuted}
 use Rattle.graphs.proofs.Claims.{says-itself, says-alone}
 
 -- The item of a word and a bit.

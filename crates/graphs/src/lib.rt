@@ -248,27 +248,25 @@ pub fn same(a: &Graph, b: &Graph) -> bool
     true
 }
 
-// One word gains the members of another; whether it has changed.
-fn join_word(graph: &mut Graph, i: usize, more: u64) -> bool
+// One word gains the members of another; those that it lacked.
+fn join_word(graph: &mut Graph, i: usize, more: u64) -> u64
     requires { ⌜ i < 544 ⌝ }
     ensures { λ r. ⌜ JoinsWord (now (graph .entry)) i more (now (graph .exit)) r ⌝ }
 {
     let before = graph[i];
-    let both = sets::union(before, more);
-    graph[i] = both;
-    both != before
+    graph[i] = sets::union(before, more);
+    sets::without(more, before)
 }
 
 // The graph holds what either held; the answer is whether it has changed.
 pub fn join(graph: &mut Graph, from: &Graph) -> bool
     ensures { λ r. ⌜ Joins (now (graph .entry)) (now (from .entry)) (now (graph .exit)) r ⌝ }
 {
-    let mut changed = false;
+    let mut gained: u64 = 0;
     let mut i: usize = ROOTS;
     while i < WORDS {
-        let rises = join_word(graph, i, from[i]);
-        changed = changed | rises;
+        gained = sets::union(gained, join_word(graph, i, from[i]));
         i += 1;
     }
-    changed
+    gained != 0
 }

@@ -2,7 +2,7 @@
 use Prim.Native.Nat.{ℕ, suc, _+_, _≤_, _<_}
 use native.Mathlib.Omega.{arith}
 use native.Mathlib.Decide.{decLe}
-use mathlib.Core.Path.{_≡_, refl, sym, ap, _∙_}
+use mathlib.Core.Path.{_≡_, refl, ap, _∙_}
 use mathlib.Core.List.{List, [], _∷_, _++_}
 use lib.ListN.{length, getD, take, drop, replicate, length-append, length-drop, length-replicate, List·getD-append}
 use lib.Seq.{length-take-le}
@@ -16,7 +16,6 @@ use Rattle.verdicts.proofs.Told.{form-refuses}
 use Rattle.commands.specs.declared.Position.{Position}
 use Rattle.commands.specs.declared.Part.the-variants.{Whole}
 use Rattle.commands.specs.declared.Part.the-variants as Parts
-use Rattle.commands.specs.Reading.{whole}
 use Rattle.summaries.specs.Summaries.{Environment}
 use Rattle.summaries.specs.ProposalOf.{proposalOf}
 use Rattle.summaries.specs.WrittenProposal.{written-proposal}
@@ -26,8 +25,7 @@ use Rattle.jobs.specs.Job.{Script, script}
 use Rattle.jobs.specs.LeastEntries.{Least, proposalBytes}
 use Rattle.jobs.specs.Inference.{scriptSlice, workWords, outcome, zeros, storedAt, Infers, unreadable, work-too-short, does-not-fit, proposal-written, Completes}
 use Rattle.jobs.specs.contracts.Promises.{ScriptKept, SliceReads}
-use Rattle.jobs.proofs.Tables.{script-tables}
-use Rattle.agreement.proofs.Readings.{alone-whole}
+use Rattle.jobs.proofs.Tables.{alone-whole, script-tables}
 use Rattle.round_trip.specs.InRange.{Bytes}
 use Rattle.least_entries.proofs.Accepted.{accepted-if-any}
 use Rattle.states.specs.contracts.States.{entriesIn}

@@ -56,14 +56,15 @@ fn write_out(
     requires { ⌜ (workWords ≤ length (now work)) × (templates ≤ 31) × (points ≤ 32) ⌝ }
     ensures { λ r. ⌜ WritesOut (proposalIn templates points (now (work .entry))) (now (buffer .entry)) place r (now (buffer .exit)) ⌝ }
 {
-    let needed = proposals::proposal_length(work, templates, points);
+    let lengths = proposals::entry_lengths(work, templates, points);
+    let needed = proposals::proposal_length(&lengths, points);
     if buffer.len() < place {
         return no_room(needed);
     }
     if buffer.len() - place < needed {
         return no_room(needed);
     }
-    Writing::Written(proposals::put_from(buffer, place, work, templates, points))
+    Writing::Written(proposals::put_from(buffer, place, work, templates, points, &lengths))
 }
 
 // Works out, in a work area, the smallest proposal that covers the program of a job up to `3F`, and writes it into the buffer from a place on.

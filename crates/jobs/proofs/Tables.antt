@@ -23,11 +23,9 @@ use Rattle.programs.specs.Program.{stringVariable, templateAt, named}
 use Rattle.programs.specs.Program as Program
 use Rattle.programs.specs.ProgramReading.{program}
 use Rattle.programs.specs.contracts.Promises.{Names}
-use Rattle.summaries.specs.Proposal.{Head}
 use Rattle.summaries.specs.ProposalReading.{proposal}
 use Rattle.jobs.specs.declared.ScriptRead.{ScriptRead}
 use Rattle.jobs.specs.Job.{Script, Job, script, job}
-use Rattle.jobs.specs.Inference.{scriptSlice}
 use Rattle.jobs.specs.contracts.Promises.{ScriptKept}
 use Rattle.jobs.specs.contracts.ScriptTables.{NamesAre, ScriptTables}
 use Rattle.jobs.proofs.Parts.{ofParts, afterTemplates, afterVocabulary, afterScript, stops}
@@ -50,27 +48,21 @@ module _ (s : List ℕ) where
       subst (λ (k : Script). PartsRead s k) q (record { first = v .1; vocabulary-reads = v .2; second = t .1; templates-read = t .2 })
 
   -- What is read alone is read.
-  pub alone-whole : {A : Type 0} (r : Read A) (a : A) (end : ℕ) → alone s r ≡ whole a end → (next : ℕ) × (r ≡ whole a next)
-  alone-whole {A} r a end e =
+  pub alone-whole : {A : Type 0} (r : Read A) {a : A} {end : ℕ} → alone s r ≡ whole a end → r ≡ whole a end
+  alone-whole {A} r {a} {end} e =
       let short = when-whole (leb (length s) mostBytes) (λ _. andThen r (stops s)) TooLong 0 a end e in
       let b = andThen-whole r (stops s) a end (short .1) in
-      (b .1, b .2 ∙ ap (λ (k : A). whole k (b .1)) (go (ltb (b .1) (length s)) (b .0) (b .1) (b .3)))
+      b .2 ∙ go (ltb (b .1) (length s)) (b .0) (b .1) (b .3)
     where
-      go : (t : Bool) (k : A) (next : ℕ) → when t (λ _. refused NotAllowed next) (λ _. whole k next) ≡ whole a end → k ≡ a
+      go : (t : Bool) (k : A) (next : ℕ) → when t (λ _. refused NotAllowed next) (λ _. whole k next) ≡ whole a end → whole k next ≡ whole a end
       go true k next q = absurd (let z : _≡_ {A = ℕ} 0 1 = cc in omega arith)
-      go false k next q = cc
-
-  -- The script of a slice, and of a job.
-  pub slice-script : (π : Script) (end : ℕ) → scriptSlice s ≡ whole π end → (next : ℕ) × (script s ≡ whole π next)
-  unfolding scriptSlice
-  slice-script π end e = alone-whole (script s) π end e
+      go false k next q = q
 
   pub job-script : (j : Job) (end : ℕ) → job s ≡ whole j end → (next : ℕ) × (script s ≡ whole (j .script) next)
   unfolding job
   job-script j end e =
-      let a = alone-whole (andThen (script s) (afterScript s)) j end e in
-      let c = andThen-whole (script s) (afterScript s) j (a .0) (a .1) in
-      let h = andThen-whole (proposal (enough s) (length (c .0 .templates)) (length (c .0 .program)) s 0 (c .1)) (λ hs end. whole (record { script = c .0; proposal = hs }) end) j (a .0) (c .3) in
+      let c = andThen-whole (script s) (afterScript s) j end (alone-whole (andThen (script s) (afterScript s)) e) in
+      let h = andThen-whole (proposal (enough s) (length (c .0 .templates)) (length (c .0 .program)) s 0 (c .1)) (λ hs end. whole (record { script = c .0; proposal = hs }) end) j end (c .3) in
       let q : record { script = c .0; proposal = h .0 } ≡ j = cc (h .3) in
       (c .1, subst (λ (k : Job). script s ≡ whole (k .script) (c .1)) q (c .2))
 

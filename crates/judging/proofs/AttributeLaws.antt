@@ -13,7 +13,6 @@ use Rattle.sets.proofs.Laws.{member-zero}
 use Rattle.commands.specs.declared.Position.{Position}
 use Rattle.commands.specs.Reading.{whole}
 use Rattle.vocabularies.specs.Vocabulary.{isIn}
-use Rattle.pages.specs.declared.Kind.{Kind}
 use Rattle.pages.specs.declared.Kind.the-variants.{Template, Page}
 use Rattle.pages.specs.declared.AttributeHere.{AttributeHere}
 use Rattle.pages.specs.declared.AttributeHere.the-variants.{Fixed, Open, Done}
@@ -25,7 +24,7 @@ use Rattle.pages.proofs.Steps.{fixed-first, open-first, none-first}
 use Rattle.judging.specs.declared.Named.{Named}
 use Rattle.judging.specs.contracts.Judgement.{holdsValue}
 use Rattle.judging.specs.contracts.Promises.{Names}
-use Rattle.judging.proofs.Booleans.{by-test, or-right}
+use Rattle.judging.proofs.Booleans.{by-test, or-then-right}
 
 -- What the attributes δ add to the names and the strings before them. None of the names read before is among theirs.
 pub record Added (earlier : List ℕ) (named : ℕ) (held : List ℕ) (δ : List Attribute) (end : ℕ) (r : Named) (last : List ℕ) : Type 0 where
@@ -77,7 +76,7 @@ module _ (earlier : List ℕ) (n s named named′ : ℕ) (held : List ℕ)
   n-apart = A .fresh n (unfold isIn in rw (eq-eqb n n refl))
 
   small-more : (a : ℕ) → (eqb a n || isIn a (names δ)) ≡ true → a < 32
-  small-more a i = by-test (eqb a n) (λ e. omega (arith, eqb-true a n e)) (λ e. A .small a (or-right (eqb a n) (isIn a (names δ)) e i))
+  small-more a i = by-test (eqb a n) (λ e. omega (arith, eqb-true a n e)) (λ e. A .small a (or-then-right (eqb a n) (isIn a (names δ)) e i))
 
   fresh-more : (a : ℕ) → isIn a earlier ≡ true → (eqb a n || isIn a (names δ)) ≡ false
   fresh-more a i = by-test (eqb a n)

@@ -2,7 +2,7 @@
 use Prim.Native.Nat.{ℕ, _+_, _≤_, _<_}
 use mathlib.Core.Path.{_≡_, refl, sym, ap, ap₂, _∙_}
 use mathlib.Core.List.{List}
-use mathlib.Core.Bool.{Bool, true, false, not, _&&_, _||_}
+use mathlib.Core.Bool.{Bool, true, not, _&&_, _||_}
 use native.Mathlib.Omega.{arith}
 use lib.ListN.{length}
 use lib.Dec.{eqb}
@@ -12,7 +12,7 @@ use Rattle.verdicts.specs.declared.Form.{Form}
 use Rattle.commands.specs.declared.Position.{Position}
 use Rattle.commands.specs.declared.Decoded.{Decoded}
 use Rattle.commands.specs.declared.Decoded.the-variants.{Moved, Refused}
-use Rattle.commands.specs.Commands.{byte, setAt, operandBytes}
+use Rattle.commands.specs.Commands.{byte, setAt}
 use Rattle.commands.specs.contracts.Parts.{stepped}
 use Rattle.commands.proofs.Laws.{SteppedOver, stepped-over, stepped-refused}
 use Rattle.vocabularies.specs.Vocabulary.{Formula, conj, disj, neg, truth, attr, content, order, value}
@@ -20,8 +20,9 @@ use Rattle.vocabularies.specs.VocabularyReading.{Shape, leaf, shapeAt}
 use Rattle.judging.specs.declared.Held.{Held}
 use Rattle.judging.specs.declared.Shape as Shapes
 use Rattle.judging.specs.contracts.Judgement.{Atoms, truthOf}
-use Rattle.judging.specs.contracts.Promises.{tableAtoms, Walks, Holds, Shaped, Decided, Decides}
-use Rattle.judging.proofs.Booleans.{by-test, and-left, and-right}
+use Rattle.judging.specs.contracts.Promises.{Walks, Holds, Decides}
+use Rattle.judging.proofs.Booleans.{by-test}
+use Rattle.sets.proofs.Booleans.{and-left, and-right}
 use Rattle.judging.proofs.Formulas.{two-walk, one-walk, leaf-walk, past-walk, none-walk}
 
 abbrev Other : ℕ → ℕ → Type 0

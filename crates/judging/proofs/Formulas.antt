@@ -7,7 +7,7 @@ use native.Mathlib.Omega.{arith}
 use lib.ListN.{length}
 use lib.Dec.{eqb, ltb, leb}
 use borrow.Author.Tests.{eq-eqb, ne-eqb, leb-true}
-use Rattle.judging.proofs.Booleans.{and-left, and-right}
+use Rattle.sets.proofs.Booleans.{and-left, and-right}
 use Rattle.verdicts.specs.declared.Form.the-variants.{TooMany, TooManyFacts}
 use Rattle.commands.specs.declared.Context.the-variants.{Formulas}
 use Rattle.commands.specs.Commands.{byte, setAt, operandBytes, allowed}

@@ -7,6 +7,7 @@ use native.Mathlib.Omega.{arith}
 use lib.ListN.{length, getD}
 use lib.Dec.{eqb, ltb}
 use borrow.Author.Tests.{eq-eqb, eqb-true}
+use Rattle.sets.proofs.Booleans.{fails-left, fails-right}
 use Rattle.sets.specs.Sets.{member}
 use Rattle.sets.specs.contracts.Promises.{MembersWithin}
 use Rattle.vocabularies.specs.Vocabulary.{Formula, conj, disj, neg, truth, attr, content, order, value, isIn}
@@ -18,7 +19,7 @@ use Rattle.judging.specs.declared.Shape.{Shape}
 use Rattle.judging.specs.declared.Rule.{Rule}
 use Rattle.judging.specs.contracts.Judgement.{Atoms, truthOf, allTrue, atomsOf, allIn, rightUnder, precedes, holdsValue}
 use Rattle.judging.specs.contracts.Promises.{firstPlace, lastPlace, tableAtoms, AllHold, Naming, Containing, IsRight}
-use Rattle.judging.proofs.Booleans.{by-test, and-false-left, and-false-right, or-right}
+use Rattle.judging.proofs.Booleans.{by-test, or-then-right}
 use Rattle.judging.proofs.WordLaws.{none-precedes, precedes-none}
 
 -- ---- lists within lists
@@ -36,8 +37,8 @@ module _ (allowed : List ℕ) where
     unfolding allIn isIn
     not-all-in [] i = absurd (false≢true i)
     not-all-in (n ∷ ns) i = by-test (eqb k n)
-        (λ e. and-false-left (isIn n allowed) (allIn ns allowed) (rw (eqb-true k n e) at out))
-        (λ e. and-false-right (isIn n allowed) (allIn ns allowed) (not-all-in ns (or-right (eqb k n) (isIn k ns) e i)))
+        (λ e. fails-left (isIn n allowed) (allIn ns allowed) (rw (eqb-true k n e) at out))
+        (λ e. fails-right (isIn n allowed) (allIn ns allowed) (not-all-in ns (or-then-right (eqb k n) (isIn k ns) e i)))
 
 -- A set within another, as lists.
 pub within-lists : (a b : ℕ) (ns allowed : List ℕ) → ((k : ℕ) → member a k ≡ isIn k ns) → ((k : ℕ) → member b k ≡ isIn k allowed)

@@ -15,7 +15,7 @@ use Rattle.sets.proofs.Counts.{count-more}
 use Rattle.vocabularies.specs.Vocabulary.{isIn}
 use Rattle.judging.specs.contracts.Judgement.{precedes}
 use Rattle.judging.specs.contracts.Promises.{firstPlace, lastPlace, Containing}
-use Rattle.judging.proofs.Booleans.{by-test, or-left, or-right}
+use Rattle.judging.proofs.Booleans.{by-test, or-then-left, or-then-right}
 
 -- The members of a word are below its width.
 pub member-small : (set k : ℕ) → set < 2 ^ 64 → member set k ≡ true → k < 64
@@ -92,7 +92,7 @@ module _ (w : List ℕ) (contents : ℕ) (order : List (List ℕ)) (count : ℕ)
   row-other k n = getD-set-other order c k (first ∷ count ∷ []) [] n
 
   in-before : (k : ℕ) → isIn k longer ≡ true → eqb k c ≡ false → isIn k w ≡ true
-  in-before k is e = or-left (isIn k w) (eqb k c) e (sym (is-in-more k c w) ∙ is)
+  in-before k is e = or-then-left (isIn k w) (eqb k c) e (sym (is-in-more k c w) ∙ is)
 
   count-new : isIn c w ≡ false → count′ ≡ count + 1
   count-new out = is-count ∙ rw out
@@ -123,7 +123,7 @@ module _ (w : List ℕ) (contents : ℕ) (order : List (List ℕ)) (count : ℕ)
   first-within k is = by-test (isIn k w)
       (λ i. omega (arith, first-more k i, C .before k i .0, count-grows))
       (λ i.
-      let e : eqb k c ≡ true = or-right (isIn k w) (eqb k c) i (sym (is-in-more k c w) ∙ is) in
+      let e : eqb k c ≡ true = or-then-right (isIn k w) (eqb k c) i (sym (is-in-more k c w) ∙ is) in
       let q : k ≡ c = eqb-true k c e in
       let out : isIn c w ≡ false = rw q at i in
       rw q (omega (arith, first-new out, count-new out)))
@@ -140,14 +140,14 @@ module _ (w : List ℕ) (contents : ℕ) (order : List (List ℕ)) (count : ℕ)
       rw (e, q, last-here) (by-test (isIn d w)
       (λ i. rw (i, first-more d i, lt-ltb _ _ (C .before d i .0)) (sym (or-true (precedes w d c))))
       (λ i.
-      let z : d ≡ c = eqb-true d c (or-right (isIn d w) (eqb d c) i (sym (is-in-more d c w) ∙ is′)) in
+      let z : d ≡ c = eqb-true d c (or-then-right (isIn d w) (eqb d c) i (sym (is-in-more d c w) ∙ is′)) in
       rw (i, precedes-none w d c i) (rw (z, first-new (rw z at i)) (le-ltb count count (omega arith))))))
       (λ e.
       let in-word : isIn k w ≡ true = in-before k is e in
       rw (e, last-other k e, or-false (precedes w d k)) (by-test (isIn d w)
       (λ i. rw (first-more d i) (C .ordered k d in-word i))
       (λ i.
-      let z : d ≡ c = eqb-true d c (or-right (isIn d w) (eqb d c) i (sym (is-in-more d c w) ∙ is′)) in
+      let z : d ≡ c = eqb-true d c (or-then-right (isIn d w) (eqb d c) i (sym (is-in-more d c w) ∙ is′)) in
       rw (precedes-none w d k i) (rw (z, first-new (rw z at i)) (le-ltb count (lastPlace order k) (C .before k in-word .1)))))))
 
   pub one-content : Containing longer r more count′

@@ -11,7 +11,8 @@ use Rattle.pages.specs.Items.{open-gap}
 use Rattle.summaries.specs.Proposal as Proposal
 use Rattle.summaries.specs.Summaries.{Summary}
 use Rattle.patterns.specs.contracts.Rounds.{valueTakes}
-use Rattle.patterns.proofs.Tests.{failed, any-below, below-any}
+use Rattle.patterns.proofs.Tests.{any-below, below-any}
+use Rattle.sets.proofs.Booleans.{refuted}
 use Rattle.graphs.specs.contracts.Graphs.{holds, Keeps}
 
 pub some-taken : (graph : List ℕ) (n h : ℕ) (values : Values) → ((t : ℕ) → holdsValue values t ≡ holds graph (Proposal.string n h t)) → n < 32
@@ -22,5 +23,5 @@ some-taken graph n h values is few b none G keeps low = go b none
     told t = keeps .same (Proposal.string n h t) (few, low) ∙ sym (is t)
 
     go : (b : Bool) → NoValues values b → not b ≡ valueTakes G n (open-gap h)
-    go true nothing = sym (failed _ (λ p. let (t, l, q) = below-any (suc strings) (λ t. G (Proposal.string n h t)) p in false≢true (sym (told t ∙ nothing t) ∙ q)))
+    go true nothing = sym (refuted _ (λ p. let (t, l, q) = below-any (suc strings) (λ t. G (Proposal.string n h t)) p in false≢true (sym (told t ∙ nothing t) ∙ q)))
     go false (t, l, e) = sym (any-below (suc strings) (λ t. G (Proposal.string n h t)) t (omega arith) (told t ∙ e))

@@ -17,7 +17,7 @@ use Rattle.pages.specs.Items.{Item, text, gap, Items, gapIn, gapInItem}
 use Rattle.pages.specs.ItemReading.{leafAt, items, item}
 use Rattle.pages.proofs.Whole.{never-unfinished, items-whole, item-whole}
 use Rattle.programs.specs.Program.{templateAt}
-use Rattle.patterns.proofs.Tests.{or-cases, and-left, and-right}
+use Rattle.sets.proofs.Booleans.{or-cases, and-left, and-right}
 use Rattle.pages.specs.contracts.Gaps.{StartsAt}
 
 gap-range : (s : List ℕ) (at : ℕ) → allInRange (operandsOf (byte s at)) s (at + 1) ≡ true → byte s at ≡ 0x22 → byte s (at + 1) < 8

@@ -18,7 +18,8 @@ use Rattle.summaries.specs.Summaries.{Summary}
 use Rattle.patterns.specs.contracts.Morphisms.{Morphism}
 use Rattle.patterns.specs.contracts.Given.{Bounded}
 use Rattle.patterns.specs.contracts.Rounds.{Sets, anyBelow}
-use Rattle.patterns.proofs.Tests.{or-left, or-right, or-cases, and-both, and-left, and-right, same-test, failed, any-below, below-any}
+use Rattle.patterns.proofs.Tests.{any-below, below-any}
+use Rattle.sets.proofs.Booleans.{or-left, or-right, or-cases, and-both, and-left, and-right, alike, refuted}
 use Rattle.pattern_sets.specs.contracts.PatternSets.{holds}
 use Rattle.graphs.specs.contracts.Graphs.{Keeps}
 use Rattle.graphs.specs.contracts.Graphs as Graphs
@@ -124,8 +125,8 @@ module _ (graph : List ℕ) (n : ℕ) (sets takes : List (List ℕ)) (few : n < 
 
   pub gap-sets-are : GapSetsAre φs G M X n takes
   gap-sets-are k l = record {
-    inside = λ x h. same-test (holds (getD takes k []) x) (anyBelow (suc (length φs)) (λ m. G (edge n k m) && X m x)) (into x h) (out x h);
-    outside = λ x h. failed (holds (getD takes k []) x) (λ e. let d = led k x l e in false≢true (sym (are (d .to) (d .there) .outside x h) ∙ d .has));
+    inside = λ x h. alike (holds (getD takes k []) x) (anyBelow (suc (length φs)) (λ m. G (edge n k m) && X m x)) (into x h) (out x h);
+    outside = λ x h. refuted (holds (getD takes k []) x) (λ e. let d = led k x l e in false≢true (sym (are (d .to) (d .there) .outside x h) ∙ d .has));
   }
     where
       into : (x : ℕ) → x < M .size → holds (getD takes k []) x ≡ true → anyBelow (suc (length φs)) (λ m. G (edge n k m) && X m x) ≡ true
@@ -133,7 +134,7 @@ module _ (graph : List ℕ) (n : ℕ) (sets takes : List (List ℕ)) (few : n < 
           let d = led k x l e in
           let there : d .to ≤ length φs = d .there in
           any-below (suc (length φs)) (λ m. G (edge n k m) && X m x) (d .to) (omega arith)
-          (and-both (d .leads) (sym (are (d .to) (d .there) .inside x h) ∙ d .has))
+          (and-both _ _ (d .leads) (sym (are (d .to) (d .there) .inside x h) ∙ d .has))
 
       out : (x : ℕ) → x < M .size → anyBelow (suc (length φs)) (λ m. G (edge n k m) && X m x) ≡ true → holds (getD takes k []) x ≡ true
       out x h e =

@@ -20,7 +20,8 @@ use Rattle.pages.proofs.Steps.{text-first, gap-first, element-first, end-first,
 use Rattle.summaries.specs.Summaries.{Summary}
 use Rattle.patterns.specs.contracts.Morphisms.{Morphism}
 use Rattle.patterns.specs.contracts.Rounds.{Set, Sets, only, anyBelow, valueTakes, attributesTake, allTake, itemTakes, product, patterns, itemPatterns}
-use Rattle.patterns.proofs.Tests.{and-left, and-right, failed, any-below, below-any}
+use Rattle.patterns.proofs.Tests.{any-below, below-any}
+use Rattle.sets.proofs.Booleans.{and-left, and-right, refuted}
 use Rattle.patterns.proofs.Exact.{in-product, factors}
 use Rattle.patterns.proofs.Products.{product-assoc, product-unit-left, product-unit-right, some-pattern}
 use Rattle.pattern_sets.specs.contracts.PatternSets.{holds, IsEmpty}
@@ -133,7 +134,7 @@ module _ (s : List ℕ) (at e : ℕ) (r : Scheme) (graph : List ℕ) (n : ℕ) (
         let H = has φs G M X lent sets ruled f depth inside end δ φ named done contents in
         let none = is-none t yes′ empty in
         has-none {M = M} _ end list none (λ y k. element-stuck φs G M X n e mark δ φ
-        (sym (some φs G M X lent sets ruled f depth inside end δ φ named done contents) ∙ failed _ (λ q.
+        (sym (some φs G M X lent sets ruled f depth inside end δ φ named done contents) ∙ refuted _ (λ q.
         let (x, l, p) = below-any (M .size) (patterns φs G M X n φ) q in
         false≢true (sym (none x) ∙ (H .is .inside x l ∙ p)))) y)
       where
@@ -234,7 +235,7 @@ module _ (s : List ℕ) (r : Scheme) (graph : List ℕ) (n : ℕ) (takes : List 
         let (lent, sets) = given φs G M X known in
         let q = gap-first f Template ruled s depth at φ end reads h is g next e in
         let L = W M (lent .reads) A _ l (sets g (q .small)) in
-        rw (q .leaf .is-more) (has-none {M = M} _ end p (λ x. rw same (empty x)) (λ x b. failed _ (λ held.
+        rw (q .leaf .is-more) (has-none {M = M} _ end p (λ x. rw same (empty x)) (λ x b. refuted _ (λ held.
         let f₁ = factors M A (product M (itemPatterns φs G M X n (gap g)) (patterns φs G M X n (q .leaf .rest))) x held in
         let f₂ = factors M (itemPatterns φs G M X n (gap g)) (patterns φs G M X n (q .leaf .rest)) (f₁ .second) (f₁ .in-second) in
         let z = monoid (lent .used) .closed (f₁ .first) (f₂ .first) (f₁ .first-below) (f₂ .first-below) in
@@ -270,7 +271,7 @@ module _ (s : List ℕ) (r : Scheme) (graph : List ℕ) (n : ℕ) (takes : List 
           let q = element-first f Template ruled s depth at φ end reads h is e inside stands in
           let H = E φs G M X lent sets ruled (q .fuel-inside) (depth + 1) (q .inside) (q .middle) at (q .named) (q .contents) (q .reads-attributes) (q .done) (q .reads-contents) in
           let none = is-none t yes′ empty in
-          rw (q .is-more) (has-none {M = M} _ end own none (λ x b. failed _ (λ held.
+          rw (q .is-more) (has-none {M = M} _ end own none (λ x b. refuted _ (λ held.
           let f₁ = factors M A (product M (itemPatterns φs G M X n (element e at (q .named) (q .contents))) (patterns φs G M X n (q .rest))) x held in
           let f₂ = factors M (itemPatterns φs G M X n (element e at (q .named) (q .contents))) (patterns φs G M X n (q .rest)) (f₁ .second) (f₁ .in-second) in
           false≢true (sym (none (f₂ .first)) ∙ (H .is .inside (f₂ .first) (f₂ .first-below) ∙ f₂ .in-first))))))
@@ -317,7 +318,7 @@ module _ (s : List ℕ) (r : Scheme) (graph : List ℕ) (n : ℕ) (takes : List 
                 is-more,
                 reads-rest,
                 new M takes _ (record {
-                  inside = λ x b. nothing x ∙ sym (failed _ (λ held.
+                  inside = λ x b. nothing x ∙ sym (refuted _ (λ held.
                       let f₁ = factors M A (itemPatterns φs G M X n i) x held in
                       false≢true (sym (element-barren φs G M X n e at δ within (sym takes-all ∙ no′) (f₁ .second)) ∙ f₁ .in-second)));
                   outside = λ x b. nothing x;

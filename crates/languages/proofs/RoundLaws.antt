@@ -19,7 +19,8 @@ use Rattle.summaries.specs.Summaries.{Summary}
 use Rattle.patterns.specs.contracts.Morphisms.{Morphism}
 use Rattle.patterns.specs.contracts.Given.{Bounded}
 use Rattle.patterns.specs.contracts.Rounds.{Set, Sets, only, anyBelow, attributesTake, allTake, patterns, itemPatterns, round}
-use Rattle.patterns.proofs.Tests.{or-left, or-right, and-both, and-left, and-right, same-test, failed, eqb-same, any-below, below-any}
+use Rattle.patterns.proofs.Tests.{eqb-same, any-below, below-any}
+use Rattle.sets.proofs.Booleans.{or-left, or-right, and-both, and-left, and-right, alike, refuted}
 use Rattle.patterns.proofs.Lawful.{Lawful}
 use Rattle.patterns.proofs.Products.{Monoid, some-pattern}
 use Rattle.pattern_sets.specs.contracts.PatternSets.{holds}
@@ -57,7 +58,7 @@ module _ (r : Scheme) (s graph starts : List ℕ) (φs : List Items) (G : Summar
 -- The patterns of items hang on what their gaps take alone, and so does whether their gaps have something to take.
 module _ (φs : List Items) (G : Summary) (M : Morphism) (lawful : Lawful M) (monoid : Monoid M) (bounded : Bounded φs G) (X Y : Sets) (n : ℕ) where
   any-same : (A B : Set) → ((x : ℕ) → x < M .size → A x ≡ B x) → anyBelow (M .size) A ≡ anyBelow (M .size) B
-  any-same A B e = same-test (anyBelow (M .size) A) (anyBelow (M .size) B)
+  any-same A B e = alike (anyBelow (M .size) A) (anyBelow (M .size) B)
       (λ h. let (x, l, p) = below-any (M .size) A h in any-below (M .size) B x l (sym (e x l) ∙ p))
       (λ h. let (x, l, p) = below-any (M .size) B h in any-below (M .size) A x l (e x l ∙ p))
 
@@ -102,10 +103,10 @@ module _ (r : Scheme) (s graph starts : List ℕ) (φs : List Items) (G : Summar
       taken-too g x A B e h =
           let (m, hm, p) = below-any (suc (length φs)) (λ k. G (edge n g k) && A k x) h in
           any-below (suc (length φs)) (λ k. G (edge n g k) && B k x) m hm
-          (and-both (and-left (G (edge n g m)) (A m x) p) (sym (e m (and-left (G (edge n g m)) (A m x) p)) ∙ and-right (G (edge n g m)) (A m x) p))
+          (and-both _ _ (and-left (G (edge n g m)) (A m x) p) (sym (e m (and-left (G (edge n g m)) (A m x) p)) ∙ and-right (G (edge n g m)) (A m x) p))
 
       gap-same : (g : ℕ) → g < 8 → (x : ℕ) → x < M .size → itemPatterns φs G M X n (gap g) x ≡ itemPatterns φs G M Y n (gap g) x
-      gap-same g lg x lx = same-test (anyBelow (suc (length φs)) (λ m. G (edge n g m) && X m x)) (anyBelow (suc (length φs)) (λ m. G (edge n g m) && Y m x))
+      gap-same g lg x lx = alike (anyBelow (suc (length φs)) (λ m. G (edge n g m) && X m x)) (anyBelow (suc (length φs)) (λ m. G (edge n g m) && Y m x))
           (taken-too g x X Y (λ m e. unchanged g m x lg lx e)) (taken-too g x Y X (λ m e. sym (unchanged g m x lg lx e)))
 
 -- ---- the targets of templates
@@ -138,7 +139,7 @@ module _ (graph : List ℕ) (n : ℕ) where
 -- ---- a round
 
 none-common : (targets changed common : ℕ) → ((k : ℕ) → member common k ≡ (member targets k && member changed k)) → common ≡ 0 → (k : ℕ) → member targets k ≡ true → member changed k ≡ false
-none-common targets changed common is z k t = failed (member changed k) (λ c. false≢true (sym (ap (λ (w : ℕ). member w k) z ∙ member-zero k) ∙ (is k ∙ and-both t c)))
+none-common targets changed common is z k t = refuted (member changed k) (λ c. false≢true (sym (ap (λ (w : ℕ). member w k) z ∙ member-zero k) ∙ (is k ∙ and-both _ _ t c)))
 
 module _ (r : Scheme) (s graph starts targets : List ℕ) (sets : List (List ℕ)) (count changed : ℕ) where
   -- What a row is to be in the round that is made.

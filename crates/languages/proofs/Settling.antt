@@ -16,7 +16,7 @@ use Rattle.summaries.specs.Summaries.{Summary}
 use Rattle.patterns.specs.contracts.Morphisms.{Morphism}
 use Rattle.patterns.specs.contracts.Rounds.{Sets, iterate, round, rounds, Settled}
 use Rattle.patterns.specs.contracts.Exactness.{Exact}
-use Rattle.patterns.proofs.Tests.{or-left, and-both, and-left, and-right, same-test}
+use Rattle.sets.proofs.Booleans.{or-left, and-both, and-left, and-right, alike}
 use Rattle.patterns.proofs.Members.{members, members-more, members-most}
 use Rattle.patterns.proofs.Growing.{round-more}
 use Rattle.patterns.proofs.Settling.{iterate-grows}
@@ -116,7 +116,7 @@ module _ (count : ℕ) (before after : List (List ℕ)) where
     low = so-far .high 63 (omega (arith, so-far .within));
     grown = inl (record {
       within = λ k x l h. so-far .grows k x (past k l h);
-      others = λ k x l h m. same-test (holds (getD after k []) x) (holds (getD before k []) x) (so-far .others k x (past k l h) m) (so-far .grows k x (past k l h));
+      others = λ k x l h m. alike (holds (getD after k []) x) (holds (getD before k []) x) (so-far .others k x (past k l h) m) (so-far .grows k x (past k l h));
       some = so-far .some;
     });
   }
@@ -163,7 +163,7 @@ less-left count before after changed more ne g = rw (ne-eqb changed 0 ne) (go (e
         grows : (n x : ℕ) → n < 32 → x < 256 → heldIn count before n x ≡ true → heldIn count after n x ≡ true
         grows n x hn hx p =
             let q = and-left (leb n count) (holds (getD before n []) x) p in
-            and-both q (w .within n x hn (leb-true n count q) (and-right (leb n count) (holds (getD before n []) x) p))
+            and-both _ _ q (w .within n x hn (leb-true n count q) (and-right (leb n count) (holds (getD before n []) x) p))
 
     go : (t : Bool) → eqb more 0 ≡ t → cond t 0 (8193 - members 32 256 (heldIn count after)) < 8193 - members 32 256 (heldIn count before)
     go true e = let m = most in omega arith
@@ -313,7 +313,7 @@ settled-exact {φs = φs} {G = G} {M = M} lent made sets at X ex n h =
     let t : ℕ = at .last in
     let own = exact φs G (lent .bounded) M (lawful (lent .used)) t (at .rests) in
     is-as (getD sets n []) (rounds φs G M t n) (X n) (at .are n h)
-    (λ x l. same-test (rounds φs G M t n x) (X n x) (λ e. ex n x h .1 (own n x h .0 e)) (λ e. own n x h .1 (ex n x h .0 e)))
+    (λ x l. alike (rounds φs G M t n x) (X n x) (λ e. ex n x h .1 (own n x h .0 e)) (λ e. own n x h .1 (ex n x h .0 e)))
 
 -- Rows of zeros are empty.
 holds-nothing : (x : ℕ) → holds [] x ≡ false

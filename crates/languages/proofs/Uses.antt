@@ -8,7 +8,7 @@ use lib.Dec.{eqb, ltb}
 use borrow.Author.Tests.{ne-eqb, ltb-true, ltb-false}
 use Rattle.patterns.specs.contracts.Morphisms as Morphisms
 use Rattle.patterns.specs.contracts.Rounds.{Set, only, product}
-use Rattle.patterns.proofs.Tests.{same-test}
+use Rattle.sets.proofs.Booleans.{alike}
 use Rattle.patterns.proofs.Exact.{in-product, factors}
 use Rattle.patterns.proofs.Lawful.{Lawful, clause-lawful, root-lawful}
 use Rattle.patterns.proofs.Products.{Monoid, clause-monoid, root-monoid}
@@ -41,7 +41,7 @@ module _ {M : Morphisms.Morphism} where
 -- The product reads no more of sets than their patterns below the size.
 pub product-as : (M : Morphisms.Morphism) (A A′ B B′ : Set) → ((x : ℕ) → x < M .size → A x ≡ A′ x) → ((x : ℕ) → x < M .size → B x ≡ B′ x)
     → (z : ℕ) → product M A B z ≡ product M A′ B′ z
-product-as M A A′ B B′ same-a same-b z = same-test (product M A B z) (product M A′ B′ z)
+product-as M A A′ B B′ same-a same-b z = alike (product M A B z) (product M A′ B′ z)
     (λ e.
     let f = factors M A B z e in
     in-product M A′ B′ (f .first) (f .second) z (f .first-below) (f .second-below)

@@ -9,7 +9,7 @@ use Rattle.summaries.specs.Covering.{WithinAt, startEnvironment}
 use Rattle.jobs.specs.Job.{Script}
 use Rattle.jobs.specs.JobVerdict.{AllCovered, StatementHolds}
 use Rattle.jobs.specs.LeastEntries.{Least}
-use Rattle.graphs.proofs.Tests.{and-both, and-left, and-right}
+use Rattle.sets.proofs.Booleans.{and-both, and-left, and-right}
 use Rattle.least_entries.specs.contracts.Order.{Below}
 use Rattle.least_entries.proofs.Monotone.{below-trans, transfer-grows}
 

@@ -14,7 +14,8 @@ use Rattle.summaries.specs.Proposal.{Claim, root, edge, string, gapFrom, attrib
 use Rattle.summaries.specs.ProposalReading.{variableOf}
 use Rattle.summaries.specs.Summaries.{Summary, Strings, Environment, saysClaim, saysString, held, sameVariable, under, entries}
 use Rattle.summaries.specs.ProposalOf.{each, where-held, unlisted, rootItems, edgeItems, stringItems, anyItems, gapItems, attributeGapItems, templateItems, variableStrings, itemsOf, headed, proposalOf}
-use Rattle.graphs.proofs.Tests.{or-left, or-right, or-cases, and-left, and-right, alike, refuted}
+use Rattle.sets.proofs.Booleans.{or-cases, and-left, and-right, alike, refuted}
+use Rattle.summaries.proofs.Held.{held-before, held-behind}
 use Rattle.graphs.proofs.Claims.{says-itself, says-alone, says-any}
 use Rattle.least_entries.specs.contracts.Order.{Alike}
 use Rattle.least_entries.specs.contracts.Holding.{PlainStrings, PlainSummary, Plain, claimFits, OnlyThere}
@@ -23,27 +24,14 @@ use Rattle.least_entries.proofs.Rising.{each-variable}
 
 -- What the items of a list say.
 module _ {A : Type 0} (says : Holding → A → Bool) (a : A) where
-  held-before : (xs ys : List Holding) → held says xs a ≡ true → held says (xs ++ ys) a ≡ true
-  unfolding held
-  held-before [] ys e = absurd (false≢true e)
-  held-before (x ∷ xs) ys e = ⊎-elim
-      (or-left (says x a) (held says (xs ++ ys) a))
-      (λ h. or-right (says x a) (held says (xs ++ ys) a) (held-before xs ys h))
-      (or-cases (says x a) (held says xs a) e)
-
-  held-behind : (xs ys : List Holding) → held says ys a ≡ true → held says (xs ++ ys) a ≡ true
-  unfolding held
-  held-behind [] ys e = e
-  held-behind (x ∷ xs) ys e = or-right (says x a) (held says (xs ++ ys) a) (held-behind xs ys e)
-
   held-each : (n : ℕ) (f : ℕ → List Holding) (k : ℕ) → k < n → held says (f k) a ≡ true → held says (each n f) a ≡ true
   unfolding each
   held-each zero f k l e = absurd (omega arith)
   held-each (suc n) f k l e = by-last (decLe n k) (held-each n f k)
     where
       by-last : Dec (n ≤ k) → (k < n → held says (f k) a ≡ true → held says (each n f) a ≡ true) → held says (each n f ++ f n) a ≡ true
-      by-last (yes h) r = let same : k ≡ n = omega arith in held-behind (each n f) (f n) (subst (λ (m : ℕ). held says (f m) a ≡ true) same e)
-      by-last (no h) r = held-before (each n f) (f n) (r (omega arith) e)
+      by-last (yes h) r = let same : k ≡ n = omega arith in held-behind says a (each n f) (f n) (subst (λ (m : ℕ). held says (f m) a ≡ true) same e)
+      by-last (no h) r = held-before says a (each n f) (f n) (r (omega arith) e)
 
   held-where : (b : Bool) (y : Holding) → b ≡ true → says y a ≡ true → held says (where-held b y) a ≡ true
   unfolding held

@@ -21,7 +21,7 @@ use Rattle.jobs.specs.Job.{Script}
 use Rattle.jobs.specs.LeastEntries.{Least}
 use Rattle.round_trip.specs.InRange.{ValueInRange, AttributesInRange, ItemsInRange, ItemInRange}
 use Rattle.round_trip.specs.JobInRange.{AllInRange, ActInRange, StatementInRange, StatementsInRange, ScriptInRange}
-use Rattle.graphs.proofs.Tests.{or-cases, and-both, and-left, and-right, refuted}
+use Rattle.sets.proofs.Booleans.{or-cases, and-both, and-left, and-right, refuted}
 use Rattle.least_entries.specs.contracts.Order.{Below}
 use Rattle.least_entries.specs.contracts.Holding.{claimFits, OnlyThere, HoldsNothing}
 use Rattle.least_entries.proofs.Transfers.{SetRelated, template-related}

@@ -13,7 +13,7 @@ use Rattle.summaries.specs.ProposalOf.{where-held, unlisted, rootItems, edgeIte
 use Rattle.summaries.specs.WrittenProposal.{written-proposal}
 use Rattle.jobs.specs.Job.{Script}
 use Rattle.jobs.specs.LeastEntries.{Least, proposalBytes}
-use Rattle.graphs.proofs.Tests.{alike}
+use Rattle.sets.proofs.Booleans.{alike}
 use Rattle.least_entries.specs.contracts.Order.{Below, Alike}
 use Rattle.least_entries.proofs.Each.{each-same}
 

@@ -1,12 +1,12 @@
--- Bytes laid into a buffer: writers in sequence, what a caller reads off, and the part of a buffer that was lent.
+-- Bytes laid into a buffer: writers in sequence, what a caller reads off, the part of a buffer that was lent, and bytes that are copied.
 use Prim.Native.Nat.{ℕ, suc, _+_, _-_, _≤_, _<_}
 use mathlib.Core.Path.{_≡_, refl, sym, ap, _∙_}
 use mathlib.Core.List.{List, [], _∷_, _++_, append-assoc, append-nil}
 use native.Mathlib.Numerals.{add-one}
 use native.Mathlib.Omega.{arith}
-use lib.ListN.{length, getD, set, take, drop, length-set, length-append, length-drop, take-append-drop, drop-of-length-le}
-use lib.Seq.{sets, sets-eq, drop-drop, take-all, take-suc, length-take-le, drop-at, take-append-seam, drop-set-lt, drop-set-add, take-set-le}
-use Rattle.memory.specs.contracts.Laid.{laid, Writes, Adds}
+use lib.ListN.{length, getD, set, take, drop, length-set, length-append, length-drop, drop-of-length-le}
+use lib.Seq.{sets, sets-eq, drop-drop, take-all, take-suc, length-take-le, drop-at, take-append-seam, drop-set-lt, drop-set-add, take-set-le, getD-take, getD-drop}
+use Rattle.memory.specs.contracts.Laid.{laid, Writes}
 
 pub laid-nil : (out : List ℕ) (at : ℕ) → laid out at [] ≡ out
 unfolding laid
@@ -55,16 +55,6 @@ part-laid xs ys p bs h e =
     (ap (λ (l : List ℕ). take p xs ++ l) (laid-is (drop p xs) 0 bs (omega arith) ∙ ap (λ (k : ℕ). bs ++ drop k (drop p xs)) n ∙ ap (λ (l : List ℕ). bs ++ l) (drop-drop (length bs) p xs))
     ∙ sym (append-assoc (take p xs) bs (drop (p + length bs) xs)))
 
--- One more after what was laid.
-pub laid-snoc : (out : List ℕ) (at : ℕ) (bs : List ℕ) (i : ℕ) → i < length bs → set (laid out at (take i bs)) (at + i) (getD bs i 0) ≡ laid out at (take (i + 1) bs)
-laid-snoc out at bs i h =
-    let n : length (take i bs) ≡ i = length-take-le i bs (omega arith) in
-    let s : take (i + 1) bs ≡ take i bs ++ (getD bs i 0 ∷ []) = rw (add-one i) (take-suc bs i 0 h) in
-    laid-one (laid out at (take i bs)) (at + i) (getD bs i 0)
-    ∙ ap (λ (k : ℕ). laid (laid out at (take i bs)) (at + k) (getD bs i 0 ∷ [])) (sym n)
-    ∙ laid-append out at (take i bs) (getD bs i 0 ∷ [])
-    ∙ ap (laid out at) (sym s)
-
 -- ---- writers
 
 pub writes-none : (out : List ℕ) (at : ℕ) → Writes out at [] at out
@@ -109,15 +99,42 @@ laid-before out at (b ∷ bs) k n h =
     ∙ ap (take n) (drop-set-add k out (at - k) b)
     ∙ take-set-le n (drop k out) (at - k) b (omega arith)
 
--- Of a measure that adds up, what was there goes and what was laid comes.
-pub laid-adds : (f : List ℕ → ℕ) → Adds f → (out : List ℕ) (at : ℕ) (bs : List ℕ) → at + length bs ≤ length out
-    → f (laid out at bs) + f (take (length bs) (drop at out)) ≡ f out + f bs
-laid-adds f adds out at bs h =
-    let rest : List ℕ = drop (at + length bs) out in
-    let old : List ℕ = take (length bs) (drop at out) in
-    let split : out ≡ take at out ++ (old ++ rest) =
-    sym (take-append-drop at out)
-    ∙ ap (λ (l : List ℕ). take at out ++ l) (sym (take-append-drop (length bs) (drop at out)) ∙ ap (λ (l : List ℕ). old ++ l) (drop-drop (length bs) at out)) in
-    let a : f out ≡ f (take at out) + (f old + f rest) = ap f split ∙ adds (take at out) (old ++ rest) ∙ ap (λ (k : ℕ). f (take at out) + k) (adds old rest) in
-    let b : f (laid out at bs) ≡ f (take at out) + (f bs + f rest) = ap f (laid-is out at bs h) ∙ adds (take at out) (bs ++ rest) ∙ ap (λ (k : ℕ). f (take at out) + k) (adds bs rest) in
-    omega (arith, a, b)
+-- ---- bytes that are copied further up
+
+laid-byte : (out : List ℕ) (at : ℕ) (bs : List ℕ) (k : ℕ) → k < at → getD (laid out at bs) k 0 ≡ getD out k 0
+laid-byte out at bs k l = sym (alone (laid out at bs)) ∙ ap (λ (xs : List ℕ). getD xs 0 0) (laid-before out at bs k 1 (omega arith)) ∙ alone out
+  where
+    alone : (xs : List ℕ) → getD (take 1 (drop k xs)) 0 0 ≡ getD xs k 0
+    alone xs = let e : k + 0 ≡ k = omega arith in getD-take 1 (drop k xs) 0 0 (omega arith) ∙ getD-drop k xs 0 0 ∙ ap (λ (i : ℕ). getD xs i 0) e
+
+-- One more after what was laid.
+laid-snoc : (out : List ℕ) (at : ℕ) (bs : List ℕ) (i : ℕ) → i < length bs → set (laid out at (take i bs)) (at + i) (getD bs i 0) ≡ laid out at (take (i + 1) bs)
+laid-snoc out at bs i h =
+    let n : length (take i bs) ≡ i = length-take-le i bs (omega arith) in
+    let s : take (i + 1) bs ≡ take i bs ++ (getD bs i 0 ∷ []) = rw (add-one i) (take-suc bs i 0 h) in
+    laid-one (laid out at (take i bs)) (at + i) (getD bs i 0)
+    ∙ ap (λ (k : ℕ). laid (laid out at (take i bs)) (at + k) (getD bs i 0 ∷ [])) (sym n)
+    ∙ laid-append out at (take i bs) (getD bs i 0 ∷ [])
+    ∙ ap (laid out at) (sym s)
+
+module _ (out : List ℕ) (from at count : ℕ) where
+  -- The first bytes are copied.
+  abbrev pub Copied : ℕ → List ℕ → Type 0
+  Copied i half = (i ≤ count) × (half ≡ laid out at (take i (drop from out)))
+
+  pub copied-none : Copied 0 out
+  copied-none = (omega arith, sym (laid-nil out at))
+
+  pub copied-length : (i : ℕ) (half : List ℕ) → Copied i half → length half ≡ length out
+  copied-length i half (few, e) = ap length e ∙ laid-length out at (take i (drop from out))
+
+  module _ (below : from + count ≤ at) (fits : at + count ≤ length out) where
+    pub copied-more : (i : ℕ) (half : List ℕ) → i < count → Copied i half → Copied (i + 1) (set half (at + i) (getD half (from + i) 0))
+    copied-more i half l (few, e) =
+        let byte : getD half (from + i) 0 ≡ getD (drop from out) i 0 = ap (λ (xs : List ℕ). getD xs (from + i) 0) e ∙ laid-byte out at (take i (drop from out)) (from + i) (omega arith) ∙ sym (getD-drop from out i 0) in
+        (omega arith, rw (byte, e) (laid-snoc out at (drop from out) i (omega (arith, length-drop from out))))
+
+    pub copied-all : (i : ℕ) (half : List ℕ) → count ≤ i → Copied i half → Writes out at (take count (drop from out)) (at + count) half
+    copied-all i half l (few, e) =
+        let s : i ≡ count = omega arith in
+        (omega (arith, length-take-le count (drop from out) (omega (arith, length-drop from out))), e ∙ ap (λ (k : ℕ). laid out at (take k (drop from out))) s)

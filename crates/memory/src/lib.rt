@@ -2,7 +2,7 @@
 ghost use mathlib.Core.Path.{_≡_};
 ghost use mathlib.Core.List.{[], _∷_};
 ghost use Prim.Native.Nat.{_+_, _<_, _≤_};
-ghost use lib.ListN.{length, replicate};
+ghost use lib.ListN.{length, replicate, take, drop};
 ghost use Rattle.memory.specs.contracts.Laid.{Writes};
 
 // A byte is stored at an offset; the next offset.
@@ -33,6 +33,19 @@ pub fn put_three(out: &mut [u8], at: usize, a: u8, b: u8, c: u8) -> usize
     out[at + 1] = b;
     out[at + 2] = c;
     at + 3
+}
+
+// Bytes that stand before an offset are stored again from it on; the next offset.
+pub fn copy(out: &mut [u8], from: usize, at: usize, count: usize) -> usize
+    requires { ⌜ (from + count ≤ at) × (at + count ≤ length (now out)) ⌝ }
+    ensures { λ r. ⌜ Writes (now (out .entry)) at (take count (drop from (now (out .entry)))) r (now (out .exit)) ⌝ }
+{
+    let mut i: usize = 0;
+    while i < count {
+        out[at + i] = out[from + i];
+        i += 1;
+    }
+    at + count
 }
 
 // Every word becomes 0.

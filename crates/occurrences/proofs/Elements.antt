@@ -12,7 +12,7 @@ use borrow.Author.Tests.{eq-eqb, eqb-true, eqb-false}
 use Rattle.sets.specs.Sets.{member}
 use Rattle.pages.specs.Items.{Attribute, Item, text, gap, element, Items, none, more}
 use Rattle.pages.specs.RightPages.{SomeElement, SomeElementOf}
-use Rattle.patterns.proofs.Tests.{or-left, or-right}
+use Rattle.sets.proofs.Booleans.{or-left, or-right}
 use Rattle.patterns.proofs.Standing.{Saying}
 use Rattle.occurrences.specs.contracts.Occurrences.{AllElements, AllElementsOf, Stands, AllTold, Keeps}
 

@@ -4,11 +4,12 @@ use Prim.Native.Nat.{ℕ, zero, suc, _+_, _≤_, _<_}
 use mathlib.Core.Path.{_≡_, refl, sym, ap, _∙_, fun-ext}
 use mathlib.Core.Logic.{_⊎_, inl, inr}
 use mathlib.Core.List.{List, [], _∷_}
-use mathlib.Core.Bool.{Bool, true, false, cond, _&&_, _||_, false≢true}
+use mathlib.Core.Bool.{Bool, true, false, cond, _&&_, _||_}
 use native.Mathlib.Omega.{arith}
 use lib.ListN.{length}
 use lib.Dec.{eqb, leb, ltb}
 use borrow.Author.Tests.{leb-true, ltb-true, ltb-false, eqb-true}
+use Rattle.sets.proofs.Booleans.{or-cases, and-left, and-right}
 use Rattle.verdicts.specs.declared.Form.{Form}
 use Rattle.verdicts.specs.declared.Form.the-variants.{NotRising, TooMany, Missing}
 use Rattle.commands.specs.declared.Context.{Context}
@@ -27,18 +28,6 @@ use Rattle.pages.specs.Items.{Attribute, Item, Items}
 use Rattle.pages.specs.ItemReading.{itemContext, attributeContext, nesting, endOf, attributes, items, item, mostTemplates, templates}
 use Rattle.pages.specs.contracts.Promises.{EnoughForItem}
 use Rattle.pages.proofs.Whole.{never-unfinished, attributes-whole, items-whole, item-whole, templates-whole}
-
-pub and-left : (a b : Bool) → (a && b) ≡ true → a ≡ true
-and-left true b e = refl
-and-left false b e = e
-
-pub and-right : (a b : Bool) → (a && b) ≡ true → b ≡ true
-and-right true b e = e
-and-right false b e = absurd (false≢true e)
-
-pub or-cases : (a b : Bool) → (a || b) ≡ true → (a ≡ true) ⊎ (b ≡ true)
-or-cases true b e = inl refl
-or-cases false b e = inr e
 
 -- The ranges of names.
 pub attribute-range : (k : Kind) (s : List ℕ) (at code : ℕ) (next : Position) → command (attributeContext k) s at ≡ Moved code next

@@ -25,7 +25,8 @@ use Rattle.pages.specs.Items.{string, open-gap, Attribute, Item, text, g
 use Rattle.pages.specs.ItemReading.{itemContext, attributeContext, nesting, valueAt, attributes, items, item}
 use Rattle.pages.specs.contracts.Steps.{itemHere, Steps, ItemMoves, attributeHere, AttributeMoves}
 use Rattle.pages.proofs.Whole.{never-unfinished, LeafRead, ElementRead, AttributeMore, ItemsEnd, ItemsMore, attributes-whole, items-whole, item-whole}
-use Rattle.pages.proofs.Laws.{and-left, and-right, or-cases, ended-inside, attribute-range, element-range}
+use Rattle.pages.proofs.Laws.{ended-inside, attribute-range, element-range}
+use Rattle.sets.proofs.Booleans.{or-cases, and-left, and-right}
 
 -- ---- what stands at an offset
 

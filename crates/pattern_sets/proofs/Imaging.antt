@@ -1,5 +1,5 @@
 -- Images: the pieces of which the joining of sets is made.
-use Prim.Native.Nat.{ℕ, zero, _+_, _-_, _%_, _^_, _≤_, _<_}
+use Prim.Native.Nat.{ℕ, _+_, _-_, _%_, _^_, _≤_, _<_}
 use mathlib.Core.Path.{_≡_, refl, sym, ap, ap₂, subst, _∙_}
 use mathlib.Core.List.{List}
 use mathlib.Core.Bool.{Bool, true, false, not, _&&_, _||_, or-false, or-true, and-false, and-true, or-comm}
@@ -12,7 +12,7 @@ use Rattle.sets.specs.Sets.{member}
 use Rattle.sets.proofs.Laws.{member-high, member-zero}
 use Rattle.pattern_sets.specs.contracts.PatternSets.{holds}
 use Rattle.pattern_sets.specs.contracts.Images.{pattern, raisedAt, crossedAt, flagAt, raisedBy, crossedBy, joinedBy, AllFlagged, Shifted, Image, Apart}
-use Rattle.pattern_sets.proofs.Booleans.{or-left, or-right, or-cases, and-both, and-left, and-right}
+use Rattle.sets.proofs.Booleans.{or-left, or-right, or-cases, and-both, and-left, and-right}
 use Rattle.pattern_sets.proofs.Laws.{held-small}
 use Rattle.pattern_sets.proofs.Flags.{pattern-bit, pattern-high, pattern-is, pattern-same, member-large, added, added-below, lacks, raised-same, raised-more}
 
@@ -102,10 +102,10 @@ module _ (c i : ℕ) (set m rest part up r : List ℕ) (ls : length set ≡ 4) (
       go : (t : Bool) → member y c ≡ t → holds r (crossedAt c i y) ≡ true
       go true e =
           subst (λ (z : ℕ). holds r z ≡ true) (sym (cross-there c i y e))
-          (er (raisedAt i y) ∙ or-right (holds rest (raisedAt i y)) (holds up (raisedAt i y)) (eu .complete y (ep y ∙ and-both h (em y b ∙ e))))
+          (er (raisedAt i y) ∙ or-right (holds rest (raisedAt i y)) (holds up (raisedAt i y)) (eu .complete y (ep y ∙ and-both _ _ h (em y b ∙ e))))
       go false e =
           subst (λ (z : ℕ). holds r z ≡ true) (sym (cross-absent c i y b e))
-          (er y ∙ or-left (holds rest y) (holds up y) (et y ∙ and-both h (ap not (em y b ∙ e))))
+          (er y ∙ or-left (holds rest y) (holds up y) (et y ∙ and-both _ _ h (ap not (em y b ∙ e))))
 
   cross-sound : (z : ℕ) → holds r z ≡ true → (y : ℕ) × (holds set y ≡ true) × (crossedAt c i y ≡ z)
   cross-sound z h = ⊎-elim

@@ -13,7 +13,7 @@ use Rattle.sets.specs.Sets.{member}
 use Rattle.sets.specs.contracts.Promises.{FirstMember}
 use Rattle.sets.proofs.Laws.{member-zero}
 use Rattle.pattern_sets.specs.contracts.PatternSets.{holds, First, IsEmpty, SameMembers, Same}
-use Rattle.pattern_sets.proofs.Booleans.{or-absent}
+use Rattle.sets.proofs.Booleans.{or-absent}
 
 -- A number is told by its quotient and its remainder.
 same-rest : (x y : ℕ) → y / 64 ≡ x / 64 → eqb (y % 64) (x % 64) ≡ eqb y x

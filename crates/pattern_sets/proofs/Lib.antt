@@ -1,4 +1,3 @@
-pub mod Booleans
 pub mod Members
 pub mod Laws
 pub mod Flags

@@ -11,7 +11,7 @@ use borrow.Author.Tests.{ltb-true, ltb-false}
 use Rattle.pattern_sets.specs.contracts.PatternSets.{holds, First}
 use Rattle.pattern_sets.specs.contracts.Images.{Image, Joined}
 use Rattle.pattern_sets.proofs.Laws.{held-small}
-use Rattle.pattern_sets.proofs.Booleans.{or-left, or-right, or-cases}
+use Rattle.sets.proofs.Booleans.{or-left, or-right, or-cases}
 
 -- A place at which a member stands, or 256.
 pub record Standing (s : List ℕ) (at : ℕ) : Type 0 where

@@ -14,7 +14,8 @@ use Rattle.summaries.specs.Summaries.{Summary}
 use Rattle.summaries.specs.Languages.{AttributesDerive, no-attribute, fixed, filled}
 use Rattle.patterns.specs.contracts.Given.{Bounded}
 use Rattle.patterns.specs.contracts.Rounds.{anyNamed, valueTakes, attributesTake}
-use Rattle.patterns.proofs.Tests.{and-both, and-left, and-right, either, any-below, below-any}
+use Rattle.patterns.proofs.Tests.{any-below, below-any}
+use Rattle.sets.proofs.Booleans.{and-both, and-left, and-right, either}
 
 -- Where the strings outside the named ones are alike, the least of them stands for all.
 pub any-named : (p : ℕ → Bool) → ((s : ℕ) → strings ≤ s → p s ≡ p strings) → (s : ℕ) → p s ≡ true → anyNamed p ≡ true
@@ -30,7 +31,7 @@ module _ (φs : List Items) (G : Summary) (bounded : Bounded φs G) where
   filled-take no-attribute = refl
   filled-take (fixed d) = filled-take d
   filled-take {n} (filled {h = h} s e d) =
-      and-both (any-named (λ t. G (Proposal.string n h t)) (bounded .others-alike n h) s e) (filled-take d)
+      and-both _ _ (any-named (λ t. G (Proposal.string n h t)) (bounded .others-alike n h) s e) (filled-take d)
 
   value-filled : (n a : ℕ) (v : Value) (δ : List Attribute) → valueTakes G n v ≡ true → (δ′ : List Attribute) × AttributesDerive φs G n δ δ′
       → (ε : List Attribute) × AttributesDerive φs G n (record { name = a; value = v } ∷ δ) ε

@@ -16,7 +16,7 @@ use Rattle.vocabularies.specs.Vocabulary.{Formula, conj, disj, neg, truth, attr
 use Rattle.vocabularies.specs.Facts.{Fact, present, ordered, valued, sameFact, isAmong, add, withFacts, factsOf}
 use Rattle.judging.specs.contracts.Judgement.{precedes, holdsValue}
 use Rattle.patterns.specs.contracts.Patterns.{flagged, numbered, patternOf, flagIn}
-use Rattle.patterns.proofs.Tests.{or-left, or-right, either, failed}
+use Rattle.sets.proofs.Booleans.{or-left, or-right, refuted, either}
 use Rattle.patterns.proofs.Facts.{fact-same}
 use Rattle.patterns.proofs.Clauses.{lowest, higher, numbered-same}
 
@@ -87,9 +87,9 @@ numbered-flags fs distinct x h = sym (numbered-unique fs (flagIn fs x) x h (λ i
 not-among : (f : Fact) (fs : List Fact) → isAmong f fs ≡ false → (i : ℕ) → i < length fs → sameFact f (factAt fs i) ≡ false
 unfolding isAmong
 not-among f [] e i h = absurd (omega arith)
-not-among f (g ∷ fs) e zero h = failed (sameFact f g) (λ t. true≢false (sym (or-left (sameFact f g) (isAmong f fs) t) ∙ e))
+not-among f (g ∷ fs) e zero h = refuted (sameFact f g) (λ t. true≢false (sym (or-left (sameFact f g) (isAmong f fs) t) ∙ e))
 not-among f (g ∷ fs) e (suc i) h =
-    not-among f fs (failed (isAmong f fs) (λ t. true≢false (sym (or-right (sameFact f g) (isAmong f fs) t) ∙ e))) i (omega arith)
+    not-among f fs (refuted (isAmong f fs) (λ t. true≢false (sym (or-right (sameFact f g) (isAmong f fs) t) ∙ e))) i (omega arith)
 
 distinct-end : (f : Fact) (fs : List Fact) → isAmong f fs ≡ false → Distinct fs → Distinct (fs ++ (f ∷ []))
 distinct-end f fs e d i j h k = ⊎-elim

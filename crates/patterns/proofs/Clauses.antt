@@ -14,7 +14,7 @@ use Rattle.pages.specs.Items.{Attribute}
 use Rattle.pages.specs.RightPages.{names}
 use Rattle.judging.specs.contracts.Judgement.{truthOf, atomsOf}
 use Rattle.patterns.specs.contracts.Patterns.{flagged, numbered, patternOf, flagIn, joinedFlag, join, atomsBy}
-use Rattle.patterns.proofs.Tests.{or-left, or-right}
+use Rattle.sets.proofs.Booleans.{or-left, or-right}
 use Rattle.patterns.proofs.Facts.{same-fact, fact-same, Closed, Covers, facts-cover}
 use Rattle.patterns.proofs.Words.{in-append, precedes-append, holds-append}
 

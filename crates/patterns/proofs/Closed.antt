@@ -2,7 +2,8 @@
 use Prim.Native.Nat.{ℕ}
 use mathlib.Core.Path.{_≡_, refl, sym, ap, _∙_}
 use mathlib.Core.List.{List}
-use mathlib.Core.Bool.{Bool, false, _||_, or-assoc}
+use mathlib.Core.Bool.{false, _||_, or-assoc}
+use Rattle.sets.proofs.Booleans.{neither}
 use Rattle.pages.specs.Items.{Attribute, Item, element, Items, none, more, one, _⋈_, gapIn, gapInItem, openIn, attributeGapIn, attributeGapInItem}
 use Rattle.pages.specs.RightPages.{Gapless}
 use Rattle.summaries.specs.Summaries.{Summary}
@@ -40,9 +41,6 @@ open-append (more i u) v h = rw (open-append u v h) (sym (or-assoc (attributeGap
 none-open : (i : Item) (h : ℕ) → attributeGapInItem i h ≡ false → attributeGapIn (one i) h ≡ false
 unfolding attributeGapIn
 none-open i h e = rw e
-
-neither : (a b : Bool) → a ≡ false → b ≡ false → (a || b) ≡ false
-neither a b e f = rw (e, f)
 
 module _ (φs : List Items) (G : Summary) where
   attributes-filled : {n : ℕ} {δ δ′ : List Attribute} → AttributesDerive φs G n δ δ′ → (h : ℕ) → openIn δ′ h ≡ false

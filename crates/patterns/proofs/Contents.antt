@@ -19,7 +19,8 @@ use Rattle.patterns.specs.contracts.Given.{Bounded, contents, NamesInRan
 use Rattle.patterns.specs.contracts.Rounds.{Set, Sets, iterate}
 use Rattle.patterns.specs.contracts.Reached.{Yields, contentsOf, itemContents, contentRound, contentRounds}
 use Rattle.patterns.specs.contracts.Exactness.{Occurs, ContentsExact, YieldsExact}
-use Rattle.patterns.proofs.Tests.{or-left, or-right, or-cases, and-both, and-left, and-right, any-below, below-any}
+use Rattle.patterns.proofs.Tests.{any-below, below-any}
+use Rattle.sets.proofs.Booleans.{or-left, or-right, or-cases, and-both, and-left, and-right}
 use Rattle.patterns.proofs.Words.{in-append, word-⋈}
 
 module _ (φs : List Items) (G : Summary) where
@@ -84,7 +85,7 @@ module _ (φs : List Items) (G : Summary) (bounded : Bounded φs G) where
       item-occurs-found (gap-takes {n = n} {g = g} {φ′ = φ′} m e d) c h =
           any-below (suc (length φs)) (λ m′. G (edge n g m′) && C m′ c) m
           (let le : m ≤ length φs = bounded .edges n g m e in omega arith)
-          (and-both e (complete m c (bounded .edges n g m e) (φ′, d) (occurs-found d c h)))
+          (and-both _ _ e (complete m c (bounded .edges n g m e) (φ′, d) (occurs-found d c h)))
       item-occurs-found (element-keeps {e = e} a d) c h = one-in (eqb c e) h
 
   module _ (C : Sets) (sound : ContentsSound φs G C) where
@@ -123,7 +124,7 @@ module _ (φs : List Items) (G : Summary) (bounded : Bounded φs G) where
     contents-exact named C sound kept n c h = (sound n c h, λ (page, d, i). complete n c h (page, d) (occurs-found C complete d c i))
       where
         complete : (m b : ℕ) → m ≤ length φs → Yields φs G m → contentsOf φs G C m (templateAt φs m) b ≡ true → C m b ≡ true
-        complete m b k y e = kept m b k (occurs-in-range φs G named m b (occurs-made C sound (y .1) b e)) (and-both (yields m k .1 y) e)
+        complete m b k y e = kept m b k (occurs-in-range φs G named m b (occurs-made C sound (y .1) b e)) (and-both _ _ (yields m k .1 y) e)
 
     pub content-rounds-sound : (t : ℕ) → ContentsSound φs G (contentRounds φs G Y t)
     unfolding contentRounds iterate

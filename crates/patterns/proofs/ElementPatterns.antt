@@ -26,7 +26,8 @@ use Rattle.patterns.specs.contracts.Rounds.{Sets, only, anyBelow, patter
 use Rattle.patterns.specs.contracts.Reached.{CanBe}
 use Rattle.patterns.specs.contracts.Elements.{attributePattern, valuePatterns, attributePatterns, elementPatterns, clauseFails}
 use Rattle.patterns.specs.contracts.Exactness.{Exact}
-use Rattle.patterns.proofs.Tests.{and-both, and-left, and-right, eqb-same, any-below, below-any}
+use Rattle.patterns.proofs.Tests.{eqb-same, any-below, below-any}
+use Rattle.sets.proofs.Booleans.{and-both, and-left, and-right}
 use Rattle.patterns.proofs.Facts.{Closed, facts-closed, among-add-cases}
 use Rattle.patterns.proofs.Clauses.{numbered-same, pattern-append, pattern-element, pattern-below, truth-of-pattern}
 use Rattle.patterns.proofs.Lawful.{clause-lawful}
@@ -86,7 +87,7 @@ module _ (φs : List Items) (G : Summary) (bounded : Bounded φs G) (fs : List F
   string-found n a h s e =
       any-named (λ t. G (Proposal.string n h t) && only (attributePattern fs a t) (attributePattern fs a s))
       (λ t k. ap₂ (λ (p : Bool) (x : ℕ). p && eqb (attributePattern fs a s) x) (bounded .others-alike n h t k) (others-share fs named a t k))
-      s (and-both e (eqb-same (attributePattern fs a s)))
+      s (and-both _ _ e (eqb-same (attributePattern fs a s)))
 
   attributes-found : {n : ℕ} {δ δ′ : List Attribute} → AttributesDerive φs G n δ δ′ → attributePatterns G fs n δ (patternOf fs δ′ []) ≡ true
   unfolding attributePatterns
@@ -202,4 +203,4 @@ module _ (φs : List Items) (G : Summary) (bounded : Bounded φs G) (ψ : Formul
           let x : ℕ = patternOf (factsOf ψ) δ′ (word φ′) in
           any-below (2 ^ length (factsOf ψ)) (λ x′. elementPatterns φs G (factsOf ψ) X n δ φ x′ && fails x′) x
           (pattern-below (factsOf ψ) δ′ (word φ′))
-          (and-both (pattern-found n δ φ x (δ′, φ′, a, d, refl)) (ap not (sym (truth-at a (word φ′) x refl) ∙ q)))
+          (and-both _ _ (pattern-found n δ φ x (δ′, φ′, a, d, refl)) (ap not (sym (truth-at a (word φ′) x refl) ∙ q)))

@@ -20,7 +20,8 @@ use Rattle.patterns.specs.contracts.Morphisms.{Morphism}
 use Rattle.patterns.specs.contracts.Given.{Bounded}
 use Rattle.patterns.specs.contracts.Rounds.{Set, Sets, only, anyBelow, iterate, attributesTake, allTake, itemTakes, product, patterns, itemPatterns, round, rounds, Settled}
 use Rattle.patterns.specs.contracts.Exactness.{Derivable, Exact}
-use Rattle.patterns.proofs.Tests.{and-both, and-left, and-right, eqb-same, any-below, below-any}
+use Rattle.patterns.proofs.Tests.{eqb-same, any-below, below-any}
+use Rattle.sets.proofs.Booleans.{and-both, and-left, and-right}
 use Rattle.patterns.proofs.Words.{word-⋈}
 use Rattle.patterns.proofs.Lawful.{Lawful}
 use Rattle.patterns.proofs.Attributes.{filled-take, take-filled}
@@ -37,7 +38,7 @@ module _ (φs : List Items) (G : Summary) (R : Morphism) where
 pub in-product : (R : Morphism) (A B : Set) (x y z : ℕ) → x < R .size → y < R .size → A x ≡ true → B y ≡ true → z ≡ R .op x y
     → product R A B z ≡ true
 in-product R A B x y z hx hy a b e = any-below (R .size) (λ x′. A x′ && anyBelow (R .size) (λ y′. B y′ && only (R .op x′ y′) z)) x hx
-    (and-both a (any-below (R .size) (λ y′. B y′ && only (R .op x y′) z) y hy (and-both b (eq-eqb z (R .op x y) e))))
+    (and-both _ _ a (any-below (R .size) (λ y′. B y′ && only (R .op x y′) z) y hy (and-both _ _ b (eq-eqb z (R .op x y) e))))
 
 pub record Factors (R : Morphism) (A B : Set) (z : ℕ) : Type 0 where
   pub first : ℕ
@@ -72,14 +73,14 @@ module _ (φs : List Items) (G : Summary) (bounded : Bounded φs G) (R : Morphis
     pattern-takes none X n x e = refl
     pattern-takes (more i φ) X n x e =
         let f = factors R (itemPatterns φs G R X n i) (patterns φs G R X n φ) x e in
-        and-both (item-pattern-takes i X n (f .first) (f .first-below) (f .in-first)) (pattern-takes φ X n (f .second) (f .in-second))
+        and-both _ _ (item-pattern-takes i X n (f .first) (f .first-below) (f .in-first)) (pattern-takes φ X n (f .second) (f .in-second))
 
     item-pattern-takes : (i : Item) (X : Sets) (n x : ℕ) → x < R .size → itemPatterns φs G R X n i x ≡ true → itemTakes φs G R X n i ≡ true
     item-pattern-takes text X n x h e = refl
     item-pattern-takes (gap g) X n x h e =
         let (m, hm, p) = below-any (suc (length φs)) (λ m. G (edge n g m) && X m x) e in
         any-below (suc (length φs)) (λ m′. G (edge n g m′) && anyBelow (R .size) (X m′)) m hm
-        (and-both (and-left (G (edge n g m)) (X m x) p) (any-below (R .size) (X m) x h (and-right (G (edge n g m)) (X m x) p)))
+        (and-both _ _ (and-left (G (edge n g m)) (X m x) p) (any-below (R .size) (X m) x h (and-right (G (edge n g m)) (X m x) p)))
     item-pattern-takes (element e′ mark δ φ) X n x h e =
         and-left (attributesTake G n δ && allTake φs G R X n φ) (only (R .of (e′ ∷ [])) x) e
 
@@ -99,9 +100,9 @@ module _ (φs : List Items) (G : Summary) (bounded : Bounded φs G) (R : Morphis
       found-item (gap-takes {n = n} {g = g} {φ′ = φ′} m e d) =
           any-below (suc (length φs)) (λ m′. G (edge n g m′) && X m′ (R .of (word φ′))) m
           (let h : m ≤ length φs = bounded .edges n g m e in omega arith)
-          (and-both e (kept m (R .of (word φ′)) (bounded .edges n g m e) (found d)))
+          (and-both _ _ e (kept m (R .of (word φ′)) (bounded .edges n g m e) (found d)))
       found-item (element-keeps {n = n} {e = e} {φ = φ} {φ′ = φ′} a d) =
-          and-both (and-both (filled-take φs G bounded a) (pattern-takes φ X n (R .of (word φ′)) (found d))) (eqb-same (R .of (e ∷ [])))
+          and-both _ _ (and-both _ _ (filled-take φs G bounded a) (pattern-takes φ X n (R .of (word φ′)) (found d))) (eqb-same (R .of (e ∷ [])))
 
   module _ (X : Sets) (sound : Sound φs G R X) where
     -- Items whose gaps all have something to take yield a page.

@@ -8,7 +8,8 @@ use lib.Dec.{eqb}
 use borrow.Author.Tests.{eqb-true}
 use Rattle.vocabularies.specs.Vocabulary.{Formula, conj, disj, neg, truth, attr, content, order, value}
 use Rattle.vocabularies.specs.Facts.{Fact, present, ordered, valued, sameFact, isAmong, add, withFacts, factsOf}
-use Rattle.patterns.proofs.Tests.{or-left, or-right, or-cases, and-both, and-left, and-right, eqb-same}
+use Rattle.patterns.proofs.Tests.{eqb-same}
+use Rattle.sets.proofs.Booleans.{or-left, or-right, or-cases, and-both, and-left, and-right}
 
 pub same-fact : (f g : Fact) → sameFact f g ≡ true → f ≡ g
 same-fact (present c) (present d) e = ap present (eqb-true c d e)
@@ -25,8 +26,8 @@ same-fact (valued a m) (valued b m′) e =
 
 pub fact-same : (f : Fact) → sameFact f f ≡ true
 fact-same (present c) = eqb-same c
-fact-same (ordered c d) = and-both (eqb-same c) (eqb-same d)
-fact-same (valued a m) = and-both (eqb-same a) (eqb-same m)
+fact-same (ordered c d) = and-both _ _ (eqb-same c) (eqb-same d)
+fact-same (valued a m) = and-both _ _ (eqb-same a) (eqb-same m)
 
 among-end : (f g : Fact) (fs : List Fact) → isAmong f fs ≡ true → isAmong f (fs ++ (g ∷ [])) ≡ true
 unfolding isAmong

@@ -3,7 +3,7 @@ use Prim.Native.Nat.{ℕ, zero, suc, _≤_, _<_}
 use native.Mathlib.Omega.{arith}
 use mathlib.Core.Path.{_≡_, refl, ap, subst}
 use mathlib.Core.List.{List}
-use mathlib.Core.Bool.{Bool, true, false, cond, _||_, false≢true}
+use mathlib.Core.Bool.{Bool, true, false, cond, false≢true}
 use mathlib.Core.Option.{Option, some, none}
 use mathlib.Core.Logic.{_↔_, _⊎_, inl, inr, ⊎-elim}
 use lib.Dec.{leb, eqb}
@@ -12,8 +12,7 @@ use Rattle.pages.specs.Items.{Attribute, Item, text, gap, element, Items, more}
 use Rattle.pages.specs.Items as Items
 use Rattle.pages.specs.RightPages.{SomeElement, SomeElementOf}
 use Rattle.patterns.specs.contracts.Shows.{Least, nowhere, least, lower, onlyIf, lowestOver, lowestMark, lowestMarkIn}
-use Rattle.patterns.proofs.Tests.{or-left, or-right, or-cases, either}
-use Rattle.patterns.proofs.Standing.{some-into, some-either}
+use Rattle.sets.proofs.Booleans.{either}
 
 pub least-iff : {P Q : ℕ → Type 0} {o : Option ℕ} → ((n : ℕ) → P n ↔ Q n) → Least P o → Least Q o
 least-iff h (nowhere k) = nowhere (λ n q. k n (h n .1 q))

@@ -1,7 +1,7 @@
 -- The lowest of wrong elements as code gives them: of two, and of what two searches tell.
-use Prim.Native.Nat.{ℕ, zero, suc, _+_, _≤_, _<_}
+use Prim.Native.Nat.{ℕ, _+_, _≤_, _<_}
 use native.Mathlib.Omega.{arith}
-use mathlib.Core.Path.{_≡_, refl, sym, ap, subst, _∙_}
+use mathlib.Core.Path.{_≡_, refl, sym, subst, _∙_}
 use mathlib.Core.List.{List, [], _∷_}
 use mathlib.Core.Bool.{Bool, true, false, cond, _||_, false≢true}
 use mathlib.Core.Option.{Option, some, none}
@@ -20,7 +20,7 @@ use Rattle.patterns.specs.declared.Wrong.the-variants.{Nowhere, At}
 use Rattle.patterns.specs.contracts.Shows.{Least, nowhere, least, lower, lowestMark}
 use Rattle.patterns.specs.contracts.LowestWrong.{lowerWrong, wrongIn, LowestWrong, lowest, Test, Passing}
 use Rattle.patterns.specs.contracts.LowestWrong as LowestWrong
-use Rattle.patterns.proofs.Tests.{or-left, or-right, or-cases, either}
+use Rattle.sets.proofs.Booleans.{or-left, or-right, or-cases}
 use Rattle.patterns.proofs.Standing.{some-into, some-either}
 use Rattle.patterns.proofs.Lowest.{least-mark}
 

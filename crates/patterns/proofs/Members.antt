@@ -10,7 +10,8 @@ use borrow.Author.Tests.{eqb-true, eqb-false, not-true}
 use Rattle.sets.specs.contracts.Promises.{countBelow}
 use Rattle.sets.proofs.Counts.{count-grows, count-more, count-most}
 use Rattle.patterns.specs.contracts.Rounds.{Set, Sets, anyBelow}
-use Rattle.patterns.proofs.Tests.{and-both, and-left, and-right, either, same-test, any-below, below-any}
+use Rattle.patterns.proofs.Tests.{any-below, below-any}
+use Rattle.sets.proofs.Booleans.{and-both, and-left, and-right, alike, either}
 
 -- Y holds what X holds, of the first N templates and the numbers below M.
 abbrev pub Within : ℕ → ℕ → Sets → Sets → Type 0
@@ -72,8 +73,8 @@ same-or-more N M X Y within = go (anyBelow N (λ n. anyBelow M (added n))) refl
         let (n, hn, p) = below-any N (λ k. anyBelow M (added k)) e in
         let (x, hx, q) = below-any M (added n) p in
         inr (members-more N M X Y within n x hn hx (not-true (X n x) (and-right (Y n x) (not (X n x)) q)) (and-left (Y n x) (not (X n x)) q))
-    go false e = inl (λ n x hn hx. same-test (X n x) (Y n x) (within n x hn hx)
+    go false e = inl (λ n x hn hx. alike (X n x) (Y n x) (within n x hn hx)
         (λ y. ⊎-elim
         (λ k. k)
-        (λ k. absurd (true≢false (sym (any-below N (λ i. anyBelow M (added i)) n hn (any-below M (added n) x hx (and-both y (ap not k)))) ∙ e)))
+        (λ k. absurd (true≢false (sym (any-below N (λ i. anyBelow M (added i)) n hn (any-below M (added n) x hx (and-both _ _ y (ap not k)))) ∙ e)))
         (either (X n x))))

@@ -23,7 +23,8 @@ use Rattle.patterns.specs.contracts.Given.{Bounded}
 use Rattle.patterns.specs.contracts.Rounds.{Sets}
 use Rattle.patterns.specs.contracts.Exactness.{Exact}
 use Rattle.patterns.specs.contracts.Shows.{notRoot}
-use Rattle.patterns.proofs.Tests.{or-left, or-right, or-cases, and-both, and-left, and-right, eqb-same}
+use Rattle.patterns.proofs.Tests.{eqb-same}
+use Rattle.sets.proofs.Booleans.{or-left, or-right, or-cases, or-neither, and-both, and-left, and-right}
 use Rattle.patterns.proofs.Lawful.{root-lawful}
 use Rattle.patterns.proofs.Closed.{derived-no-gap}
 
@@ -34,11 +35,7 @@ gap-found g φ = or-left (eqb g g) (gapIn φ g) (eqb-same g)
 
 rest-no-gap : (i : Item) (φ : Items) → NoGap (more i φ) → NoGap φ
 unfolding gapIn
-rest-no-gap i φ h g = second (gapInItem i g) (gapIn φ g) (h g)
-  where
-    second : (a b : Bool) → (a || b) ≡ false → b ≡ false
-    second true b e = absurd (true≢false e)
-    second false b e = e
+rest-no-gap i φ h g = or-neither (gapInItem i g) (gapIn φ g) (h g) .1
 
 -- Two items that are no gaps are two contents, which is another class.
 two-contents : (top c : ℕ) (j : Item) (φ : Items) → NoGap (more j φ) → classOf top (c ∷ word (more j φ)) ≡ other
@@ -101,7 +98,7 @@ module _ (φs : List Items) (G : Summary) (bounded : Bounded φs G) (D : Vocabul
       back (page, (g, d), n) =
           let class : ℕ = classOf (D .root) (word page) in
           let held : K r class ≡ true = exact r class (bounded .roots r g) .1 (page, d, refl) in
-          and-both g (⊎-elim
+          and-both _ _ g (⊎-elim
           (λ (q : class ≡ empty). or-left (K r empty) (K r other) (subst (λ (k : ℕ). K r k ≡ true) q held))
           (λ (q : class ≡ other). or-right (K r empty) (K r other) (subst (λ (k : ℕ). K r k ≡ true) q held))
           (not-alone class (root-lawful (D .root) .below (word page))

@@ -18,7 +18,8 @@ use Rattle.patterns.specs.contracts.Patterns.{flagged, patternOf, flagIn
 use Rattle.patterns.specs.contracts.Morphisms.{Morphism, factMorphism, rootMorphism, classOf, joinClasses, empty, other}
 use Rattle.patterns.specs.contracts.Given.{Bounded}
 use Rattle.patterns.specs.contracts.Rounds.{Set, Sets, only, product, anyBelow, allTake, itemTakes, patterns, itemPatterns}
-use Rattle.patterns.proofs.Tests.{and-both, and-left, and-right, same-test, eqb-same, any-below, below-any}
+use Rattle.patterns.proofs.Tests.{eqb-same, any-below, below-any}
+use Rattle.sets.proofs.Booleans.{and-both, and-left, and-right, alike}
 use Rattle.patterns.proofs.Facts.{Closed, facts-closed}
 use Rattle.patterns.proofs.Clauses.{numbered-below, numbered-same, flag-numbered, flag-of}
 use Rattle.patterns.proofs.Lawful.{Lawful}
@@ -54,11 +55,11 @@ module _ (R : Morphism) (monoid : Monoid R) where
 
   pub product-assoc : (A B C : Set) (w : ℕ) → product R (product R A B) C w ≡ product R A (product R B C) w
   product-assoc A B C w =
-      same-test (product R (product R A B) C w) (product R A (product R B C) w) (product-left A B C w) (product-right A B C w)
+      alike (product R (product R A B) C w) (product R A (product R B C) w) (product-left A B C w) (product-right A B C w)
 
   -- The empty word's pattern changes nothing, on either side.
   pub product-unit-left : (A : Set) (x : ℕ) → x < R .size → product R (only (R .of [])) A x ≡ A x
-  product-unit-left A x h = same-test (product R (only (R .of [])) A x) (A x)
+  product-unit-left A x h = alike (product R (only (R .of [])) A x) (A x)
       (λ e.
       let f = factors R (only (R .of [])) A x e in
       let unit : f .first ≡ R .of [] = eqb-true (f .first) (R .of []) (f .in-first) in
@@ -67,7 +68,7 @@ module _ (R : Morphism) (monoid : Monoid R) where
       (λ a. in-product R (only (R .of [])) A (R .of []) x x (monoid .unit-below) h (eqb-same (R .of [])) a (sym (monoid .unit-left x h)))
 
   pub product-unit-right : (A : Set) (x : ℕ) → x < R .size → product R A (only (R .of [])) x ≡ A x
-  product-unit-right A x h = same-test (product R A (only (R .of [])) x) (A x)
+  product-unit-right A x h = alike (product R A (only (R .of [])) x) (A x)
       (λ e.
       let f = factors R A (only (R .of [])) x e in
       let unit : f .second ≡ R .of [] = eqb-true (f .second) (R .of []) (f .in-second) in
@@ -206,11 +207,11 @@ module _ (φs : List Items) (G : Summary) (bounded : Bounded φs G) (R : Morphis
     item-takes-pattern (gap g) X n e =
         let (m, hm, p) = below-any (suc (length φs)) (λ k. G (edge n g k) && anyBelow (R .size) (X k)) e in
         let (x, hx, q) = below-any (R .size) (X m) (and-right (G (edge n g m)) (anyBelow (R .size) (X m)) p) in
-        (x, hx, any-below (suc (length φs)) (λ k. G (edge n g k) && X k x) m hm (and-both (and-left (G (edge n g m)) (anyBelow (R .size) (X m)) p) q))
+        (x, hx, any-below (suc (length φs)) (λ k. G (edge n g k) && X k x) m hm (and-both _ _ (and-left (G (edge n g m)) (anyBelow (R .size) (X m)) p) q))
     item-takes-pattern (element e′ flag δ φ) X n e =
-        (R .of (e′ ∷ []), lawful .below (e′ ∷ []), and-both e (eqb-same (R .of (e′ ∷ []))))
+        (R .of (e′ ∷ []), lawful .below (e′ ∷ []), and-both _ _ e (eqb-same (R .of (e′ ∷ []))))
 
   pub some-pattern : (X : Sets) (n : ℕ) (φ : Items) → anyBelow (R .size) (patterns φs G R X n φ) ≡ allTake φs G R X n φ
-  some-pattern X n φ = same-test (anyBelow (R .size) (patterns φs G R X n φ)) (allTake φs G R X n φ)
+  some-pattern X n φ = alike (anyBelow (R .size) (patterns φs G R X n φ)) (allTake φs G R X n φ)
       (λ e. let (x, hx, p) = below-any (R .size) (patterns φs G R X n φ) e in pattern-takes φs G bounded R lawful φ X n x p)
       (λ e. let (x, hx, p) = takes-pattern φ X n e in any-below (R .size) (patterns φs G R X n φ) x hx p)

@@ -17,7 +17,8 @@ use Rattle.patterns.specs.contracts.Given.{Bounded}
 use Rattle.patterns.specs.contracts.Rounds.{Set, Sets, anyBelow, anyTemplate, iterate}
 use Rattle.patterns.specs.contracts.Reached.{Yields, Reached, from-root, through-gap, leadsTo, itemLeadsTo, reachRound, reachRounds}
 use Rattle.patterns.specs.contracts.Exactness.{Exact, YieldsExact, ReachedExact}
-use Rattle.patterns.proofs.Tests.{or-left, or-right, or-cases, and-both, and-left, and-right, eqb-same, any-below, below-any}
+use Rattle.patterns.proofs.Tests.{eqb-same, any-below, below-any}
+use Rattle.sets.proofs.Booleans.{or-left, or-right, or-cases, and-both, and-left, and-right}
 use Rattle.patterns.proofs.Lawful.{Lawful}
 
 module _ (φs : List Items) (G : Summary) where
@@ -84,14 +85,14 @@ module _ (φs : List Items) (G : Summary) (bounded : Bounded φs G) where
     pub reached-found : (S : Set) → ReachedKept φs G Y S → {n : ℕ} → Reached φs G n → S n ≡ true
     unfolding reachRound
     reached-found S kept (from-root {r = r} g y) = kept r (bounded .roots r g)
-        (and-both (yields r (bounded .roots r g) .1 y)
+        (and-both _ _ (yields r (bounded .roots r g) .1 y)
         (or-left (G (root r)) (anyTemplate φs (λ m. S m && leadsTo G m r (templateAt φs m))) g))
     reached-found S kept (through-gap {n = n} {g = g} {m = m} r h e y) = kept m (bounded .edges n g m e)
-        (and-both (yields m (bounded .edges n g m e) .1 y)
+        (and-both _ _ (yields m (bounded .edges n g m e) .1 y)
         (or-right (G (root m)) (anyTemplate φs (λ k. S k && leadsTo G k m (templateAt φs k)))
         (any-below (suc (length φs)) (λ k. S k && leadsTo G k m (templateAt φs k)) n
         (let le : n ≤ length φs = reached-there r in omega arith)
-        (and-both (reached-found S kept r) (gap-leads G n m (templateAt φs n) g h e)))))
+        (and-both _ _ (reached-found S kept r) (gap-leads G n m (templateAt φs n) g h e)))))
 
     -- From templates that are reached a round finds such.
     pub reach-round-sound : (S : Set) → ReachedSound φs G S → ReachedSound φs G (reachRound φs G Y S)

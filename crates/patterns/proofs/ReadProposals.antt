@@ -5,7 +5,7 @@ use native.Mathlib.Omega.{arith}
 use mathlib.Core.Path.{_≡_, refl, sym, ap₂, subst}
 use mathlib.Core.List.{List, [], _∷_, List·Memᴰ·head, List·Memᴰ·tail, List·Memᴰ·cases-cons, List·Memᴰ·not-nil}
 use mathlib.Core.Bool.{Bool, true, false, cond, _&&_, _||_, false≢true}
-use mathlib.Core.Option.{Option, some, none}
+use mathlib.Core.Option.{some, none}
 use mathlib.Core.Logic.{⊎-elim}
 use lib.ListN.{length}
 use lib.Dec.{eqb, leb, ltb}
@@ -24,7 +24,7 @@ use Rattle.summaries.specs.Summaries.{Summary, Environment, sameCode, saysClaim
 use Rattle.summaries.specs.Languages.{closedSummary, summaryShown, closedIfShown, statementGraph, graphShown}
 use Rattle.agreement.proofs.Readings.{Gives, gives, refuses, runs-out, gives-when, gives-then}
 use Rattle.patterns.specs.contracts.Given.{Bounded}
-use Rattle.patterns.proofs.Tests.{or-cases, and-left, and-right}
+use Rattle.sets.proofs.Booleans.{or-cases, and-left, and-right}
 use Rattle.patterns.proofs.Ranges.{Ranged, ranges-of, gives-ranged}
 
 -- An item names templates that are there, and no string outside the named ones.

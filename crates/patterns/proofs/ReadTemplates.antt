@@ -19,7 +19,7 @@ use Rattle.pages.specs.ItemReading.{itemContext, nesting, attributes, endOf, le
 use Rattle.programs.specs.Program.{templateAt}
 use Rattle.agreement.proofs.Readings.{Gives, gives, refuses, runs-out, gives-any, gives-when, gives-then}
 use Rattle.patterns.specs.contracts.Given.{contents, NamesInRange}
-use Rattle.patterns.proofs.Tests.{and-left, and-right}
+use Rattle.sets.proofs.Booleans.{and-left, and-right}
 use Rattle.patterns.proofs.Ranges.{Ranged, ranges-of, gives-ranged}
 
 -- Every element of the items is in range.

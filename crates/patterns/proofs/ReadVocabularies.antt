@@ -20,7 +20,7 @@ use Rattle.vocabularies.specs.VocabularyReading.{Shape, binary, unary, leaf, sh
 use Rattle.pages.specs.RightPages.{_∈_}
 use Rattle.agreement.proofs.Readings.{Gives, gives, refuses, runs-out, gives-any, gives-map, gives-when, gives-then}
 use Rattle.patterns.specs.contracts.Given.{NamedOnly, SoundVocabulary}
-use Rattle.patterns.proofs.Tests.{and-left}
+use Rattle.sets.proofs.Booleans.{and-left}
 use Rattle.patterns.proofs.Ranges.{Ranged, ranges-of, gives-ranged}
 
 -- Bytes are below 256.

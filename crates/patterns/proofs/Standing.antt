@@ -14,7 +14,8 @@ use Rattle.summaries.specs.Proposal.{edge}
 use Rattle.summaries.specs.Summaries.{Summary}
 use Rattle.summaries.specs.Languages.{Derives, ItemDerives, Language, nothing, item-then, text-stays, gap-takes, element-keeps}
 use Rattle.patterns.specs.contracts.Reached.{Yields, Reached, from-root, through-gap, CanBe}
-use Rattle.patterns.proofs.Tests.{or-left, or-right, or-cases, eqb-same}
+use Rattle.patterns.proofs.Tests.{eqb-same}
+use Rattle.sets.proofs.Booleans.{or-left, or-right, or-cases}
 
 -- What is said of an element: its name, mark, attributes and contents.
 abbrev pub Saying : Type 1

@@ -4,7 +4,7 @@ use mathlib.Core.Path.{_≡_, refl, sym, ap, subst, _∙_}
 use mathlib.Core.List.{List, [], _∷_, List·Memᴰ·head, List·Memᴰ·tail}
 use mathlib.Core.Bool.{Bool, true, false, not, _&&_, _||_, true≢false, false≢true}
 use mathlib.Core.Option.{Option, some, none}
-use mathlib.Core.Logic.{_↔_, _⊎_, inl, inr, ⊎-elim}
+use mathlib.Core.Logic.{_↔_, _⊎_, ⊎-elim}
 use lib.Dec.{eqb}
 use borrow.Author.Tests.{eqb-true, not-true}
 use Rattle.vocabularies.specs.Vocabulary.{Formula, Rule, Vocabulary, ruleOf, isIn}
@@ -22,22 +22,10 @@ use Rattle.patterns.specs.contracts.Rounds.{Sets}
 use Rattle.patterns.specs.contracts.Reached.{CanBe, contentsOf}
 use Rattle.patterns.specs.contracts.Elements.{clauseFails, someClauseFails, contentOutside, wrongUnder, wrongBy, wrongElement}
 use Rattle.patterns.specs.contracts.Exactness.{Exact, ContentsExact}
-use Rattle.patterns.proofs.Tests.{or-left, or-right, or-cases, and-both, and-left, and-right, eqb-same, any-below, below-any}
+use Rattle.patterns.proofs.Tests.{eqb-same, any-below, below-any}
+use Rattle.sets.proofs.Booleans.{or-left, or-right, or-cases, and-both, and-left, and-right, fails-left, fails-right, fails-cases}
 use Rattle.patterns.proofs.Contents.{occurs-small, items-contents-exact}
 use Rattle.patterns.proofs.ElementPatterns.{names-kept, clause-exact}
-
--- A conjunction fails if one of the two does.
-fails-left : (a b : Bool) → a ≡ false → (a && b) ≡ false
-fails-left true b e = absurd (true≢false e)
-fails-left false b e = refl
-
-fails-right : (a b : Bool) → b ≡ false → (a && b) ≡ false
-fails-right true b e = e
-fails-right false b e = refl
-
-fails-cases : (a b : Bool) → (a && b) ≡ false → (a ≡ false) ⊎ (b ≡ false)
-fails-cases true b e = inr e
-fails-cases false b e = inl refl
 
 -- A number of the list that is not allowed.
 outside : (ns allowed : List ℕ) → allIn ns allowed ≡ false → (c : ℕ) × (isIn c ns ≡ true) × (isIn c allowed ≡ false)
@@ -110,7 +98,7 @@ module _ (φs : List Items) (G : Summary) (bounded : Bounded φs G) (named : Nam
     fail-content allowed (δ′, φ′, a, d, e) =
         let (c, i, p) = outside (word φ′) allowed e in
         any-below contents (λ c′. contentsOf φs G C n φ c′ && not (isIn c′ allowed)) c (occurs-small φs G named d small c i)
-        (and-both (items-contents-exact φs G bounded C exact n φ φ₀ d₀ c .1 (φ′, d, i)) (ap not p))
+        (and-both _ _ (items-contents-exact φs G bounded C exact n φ φ₀ d₀ c .1 (φ′, d, i)) (ap not p))
 
     module _ (r : Rule) (worked : (ψ : Formula) → ψ ∈ r .clauses → Worked X ψ) where
       names-right : List Attribute → Bool

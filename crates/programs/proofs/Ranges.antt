@@ -2,21 +2,14 @@
 use Prim.Native.Nat.{ℕ, zero, suc, _+_, _≤_, _<_}
 use mathlib.Core.Path.{_≡_, refl}
 use mathlib.Core.List.{List, [], _∷_}
-use mathlib.Core.Bool.{Bool, true, false, cond, _&&_}
+use mathlib.Core.Bool.{Bool, true, false, cond}
 use mathlib.Core.Option.{Option, some, none}
 use native.Mathlib.Omega.{arith}
 use native.Mathlib.Nat.{add-zero}
 use lib.Dec.{eqb}
 use borrow.Author.Tests.{eqb-true, leb-true, ltb-true}
+use Rattle.sets.proofs.Booleans.{and-left, and-right}
 use Rattle.commands.specs.Commands.{Operand, gap, string, variable, entry, width, byte, operandsOf, inRange, allInRange}
-
-and-first : (a b : Bool) → (a && b) ≡ true → a ≡ true
-and-first true b e = refl
-and-first false b e = e
-
-and-second : (a b : Bool) → (a && b) ≡ true → b ≡ true
-and-second true b e = e
-and-second false b e = absurd (let z : _≡_ {A = ℕ} 0 1 = cc in omega arith)
 
 -- The operand at a place, where all before it are one byte.
 unfoldable pub nth : List Operand → ℕ → Option Operand
@@ -33,12 +26,12 @@ unfolding nth allInRange
 ranged [] j o s i e h = absurd (let z : _≡_ {A = ℕ} 0 1 = cc in omega arith)
 ranged (o′ ∷ os) zero o s i e h =
     let q : o′ ≡ o = cc in
-    rw (add-zero i, ← q) (and-first (inRange o′ s i) (allInRange os s (i + width o′)) h)
+    rw (add-zero i, ← q) (and-left (inRange o′ s i) (allInRange os s (i + width o′)) h)
 ranged (o′ ∷ os) (suc j) o s i e h =
     let w = one-byte (eqb (width o′) 1) (nth os j) o e in
     let l : width o′ ≡ 1 = eqb-true (width o′) 1 (w .0) in
     let k : i + suc j ≡ i + width o′ + j = omega arith in
-    rw k (ranged os j o s (i + width o′) (w .1) (and-second (inRange o′ s i) (allInRange os s (i + width o′)) h))
+    rw k (ranged os j o s (i + width o′) (w .1) (and-right (inRange o′ s i) (allInRange os s (i + width o′)) h))
 
 -- The n-th operand of a command, counted from 1.
 module _ (s : List ℕ) (at code k j n a : ℕ) (ranges : allInRange (operandsOf code) s (at + 1) ≡ true) (key : code ≡ k) (counts : n ≡ j + 1) (is : a ≡ byte s (at + n)) where

@@ -1,7 +1,7 @@
 -- The lists of the numbers below n, one after another: as a loop counts and writes them.
-use Prim.Native.Nat.{ℕ, zero, suc, _+_, _-_, _*_, _≤_, _<_}
-use mathlib.Core.Path.{_≡_, refl, ap, ap₂, _∙_}
-use mathlib.Core.List.{List, [], _++_, append-nil}
+use Prim.Native.Nat.{ℕ, zero, suc, _+_, _-_, _*_, _/_, _%_, _≤_, _<_}
+use mathlib.Core.Path.{_≡_, refl, sym, ap, ap₂, _∙_}
+use mathlib.Core.List.{List, [], _++_, append-nil, append-assoc}
 use native.Mathlib.Nat.{suc-mul, mul-le-mul-right, le-trans}
 use native.Mathlib.Numerals.{add-one}
 use native.Mathlib.Omega.{arith}
@@ -18,6 +18,27 @@ each-same (suc n) f g h = ap₂ (λ xs ys. xs ++ ys) (each-same n f g (λ q l. h
 pub each-one : {A : Type 0} (f : ℕ → List A) → each 1 f ≡ f 0
 unfolding each
 each-one f = refl
+
+-- Rows of eight, one after another.
+module _ (f : ℕ → ℕ → List ℕ) where
+  abbrev pub rowsAt : ℕ → List ℕ
+  rowsAt i = f (i / 8) (i % 8)
+
+  row-after : (p k : ℕ) → k ≤ 8 → each (p * 8) rowsAt ++ each k (f p) ≡ each (p * 8 + k) rowsAt
+  unfolding each
+  row-after p zero l = let none : p * 8 ≡ p * 8 + 0 = omega arith in append-nil (each (p * 8) rowsAt) ∙ ap (λ (n : ℕ). each n rowsAt) none
+  row-after p (suc k) l =
+      let next : p * 8 + suc k ≡ suc (p * 8 + k) = omega arith in
+      let row : (p * 8 + k) / 8 ≡ p = omega arith in
+      let place : (p * 8 + k) % 8 ≡ k = omega arith in
+      sym (append-assoc (each (p * 8) rowsAt) (each k (f p)) (f p k)) ∙ ap (λ (bs : List ℕ). bs ++ f p k) (row-after p k (omega arith)) ∙ rw (next, row, place) refl
+
+  pub each-rows : (n : ℕ) → each n (λ p. each 8 (f p)) ≡ each (n * 8) rowsAt
+  unfolding each
+  each-rows zero = refl
+  each-rows (suc n) =
+      let next : suc n * 8 ≡ n * 8 + 8 = omega arith in
+      ap (λ (bs : List ℕ). bs ++ each 8 (f n)) (each-rows n) ∙ row-after n 8 (omega arith) ∙ ap (λ (k : ℕ). each k rowsAt) (sym next)
 
 module _ (f : ℕ → List ℕ) where
   pub each-next : (q : ℕ) → each (q + 1) f ≡ each q f ++ f q

@@ -1,5 +1,5 @@
 -- The bytes of the variables at a point: by the words of the work area, under heads, and how many they are at most.
-use Prim.Native.Nat.{ℕ, zero, suc, _+_, _-_, _≤_, _<_}
+use Prim.Native.Nat.{ℕ, zero, suc, _+_, _-_, _/_, _%_, _≤_, _<_}
 use mathlib.Core.Path.{_≡_, refl, sym, ap, ap₂, _∙_}
 use mathlib.Core.Bool.{Bool, true, false, cond, not, _&&_}
 use mathlib.Core.List.{List, [], _∷_, _++_}
@@ -17,7 +17,7 @@ use Rattle.strings.specs.contracts.Promises.{holdsValue}
 use Rattle.states.specs.contracts.Promises.{GraphTaken, ValuesTaken}
 use Rattle.proposals.specs.declared.Sort.{Sort}
 use Rattle.proposals.specs.declared.Sort.the-variants.{Roots, Edges, Listed, Any, Origins, AttributeOrigins}
-use Rattle.proposals.specs.contracts.Bytes.{prefixBytes, memberItems, members, sortOf, firsts, seconds, limit, prefixOf, listedOf, isHeld, MayStand, MayBe, placeBytes, rowBytes, sortBytes, sortBytesAt, templateBytes, stringBytes, entryBytes, headBytes, entryAt, variableBytes, pointBytes, pointsBytes}
+use Rattle.proposals.specs.contracts.Bytes.{prefixBytes, memberItems, members, firsts, seconds, limit, prefixOf, listedOf, isHeld, MayStand, MayBe, placeBytes, rowBytes, sortBytes, templateBytes, stringBytes, entryBytes, headBytes, entryAt, itemsAt, headedAt, entriesBytes, Counted, FewBytes}
 use Rattle.proposals.proofs.Each.{each-same, each-most}
 use Rattle.proposals.proofs.Members.{members-most, members-same}
 use Rattle.proposals.proofs.Sorts.{may-stand, may-be, template-most}
@@ -32,14 +32,17 @@ held-same graph R keeps Any a b k f m = sym (keeps .same _ (f, m))
 held-same graph R keeps Origins a b k f m = sym (keeps .same _ f)
 held-same graph R keeps AttributeOrigins a b k f m = sym (keeps .same _ f)
 
+sort-same : (templates : ℕ) → templates < 32 → (graph : List ℕ) (R : Summary) → Keeps graph R → (sort : Sort) → sortBytes templates (holds graph) sort ≡ sortBytes templates R sort
+unfolding sortBytes rowBytes
+sort-same templates few graph R keeps sort =
+    each-same (firsts templates sort) (rowBytes templates (holds graph) sort) (rowBytes templates R sort) λ a la.
+    each-same (seconds sort) (placeBytes templates (holds graph) sort a) (placeBytes templates R sort a) λ b lb.
+    members-same (prefixBytes (prefixOf sort a b)) (limit templates sort) (isHeld (holds graph) sort a b) (isHeld R sort a b) λ k lk.
+    held-same graph R keeps sort a b k (may-stand templates few sort a b la lb) (may-be templates few sort k lk)
+
 template-same : (templates : ℕ) → templates < 32 → (graph : List ℕ) (R : Summary) → Keeps graph R → templateBytes templates (holds graph) ≡ templateBytes templates R
-unfolding templateBytes sortBytes rowBytes
-template-same templates few graph R keeps =
-    each-same 6 (sortBytesAt templates (holds graph)) (sortBytesAt templates R) λ i li.
-    each-same (firsts templates (sortOf i)) (rowBytes templates (holds graph) (sortOf i)) (rowBytes templates R (sortOf i)) λ a la.
-    each-same (seconds (sortOf i)) (placeBytes templates (holds graph) (sortOf i) a) (placeBytes templates R (sortOf i) a) λ b lb.
-    members-same (prefixBytes (prefixOf (sortOf i) a b)) (limit templates (sortOf i)) (isHeld (holds graph) (sortOf i) a b) (isHeld R (sortOf i) a b) λ k lk.
-    held-same graph R keeps (sortOf i) a b k (may-stand templates few (sortOf i) a b la lb) (may-be templates few (sortOf i) k lk)
+unfolding templateBytes
+template-same templates few graph R keeps = let same = sort-same templates few graph R keeps in rw (same Roots, same Edges, same Listed, same Any, same Origins, same AttributeOrigins) refl
 
 strings-same : (Y Z : Strings) → ((s : ℕ) → Y s ≡ Z s) → stringBytes Y ≡ stringBytes Z
 unfolding stringBytes
@@ -50,11 +53,11 @@ strings-same Y Z same =
 
 -- ---- the entry of a variable
 
-entry-template : (templates : ℕ) (E : Environment) (v : ℕ) → v < 4 → entryBytes templates E v ≡ templateBytes templates (E .template v)
+pub entry-template : (templates : ℕ) (E : Environment) (v : ℕ) → v < 4 → entryBytes templates E v ≡ templateBytes templates (E .template v)
 unfolding entryBytes
 entry-template templates E v l = rw (lt-ltb v 4 l)
 
-entry-string : (templates : ℕ) (E : Environment) (v : ℕ) → 4 ≤ v → entryBytes templates E v ≡ stringBytes (E .string (v - 4))
+pub entry-string : (templates : ℕ) (E : Environment) (v : ℕ) → 4 ≤ v → entryBytes templates E v ≡ stringBytes (E .string (v - 4))
 unfolding entryBytes
 entry-string templates E v l = rw (le-ltb v 4 l)
 
@@ -102,13 +105,12 @@ module _ (templates : ℕ) (few : templates < 32) where
       go false = omega (arith, string-most (E .string (v - 4)))
 
   module _ (work : List ℕ) where
-    pub point-most : (p : ℕ) → length (pointBytes templates work p) ≤ 3145752
-    unfolding pointBytes
-    point-most p = each-most (variableBytes templates work p) 8 8 393219 (omega arith) (λ v l. head-most p v 393216 (entryBytes templates (entryAt work p) v) (entry-most (entryAt work p) v))
+    pub entries-most : (n : ℕ) → n ≤ 256 → length (entriesBytes templates work n) ≤ 100664064
+    unfolding entriesBytes
+    entries-most n l = each-most (headedAt templates work) n 256 393219 l (λ i m. head-most (i / 8) (i % 8) 393216 (itemsAt templates work i) (entry-most (entryAt work (i / 8)) (i % 8)))
 
-    pub points-most : (points : ℕ) → points ≤ 32 → length (pointsBytes templates work points) ≤ 100664064
-    unfolding pointsBytes
-    points-most points l = each-most (pointBytes templates work) points 32 3145752 l (λ p m. point-most p)
+    pub few-bytes : (n : ℕ) (lengths : List ℕ) → Counted templates work n lengths → FewBytes n lengths
+    few-bytes n lengths counted i l = rw (counted i l) (entry-most (entryAt work (i / 8)) (i % 8))
 
 -- Where nothing is held there is no item.
 none-each : (n : ℕ) (f : ℕ → List ℕ) → ((q : ℕ) → f q ≡ []) → each n f ≡ []
@@ -139,7 +141,7 @@ module _ (S : Summary) (none : (c : Claim) → S c ≡ false) where
 
   no-items : (templates : ℕ) → templateBytes templates S ≡ []
   unfolding templateBytes
-  no-items templates = none-each 6 (sortBytesAt templates S) (λ i. no-sort templates (sortOf i))
+  no-items templates = let no = no-sort templates in rw (no Roots, no Edges, no Listed, no Any, no Origins, no AttributeOrigins) refl
 
 pub blank-entry : (templates : ℕ) (E : Environment) (v : ℕ) → v < 4 → ((c : Claim) → E .template v c ≡ false) → 0 ≡ length (entryBytes templates E v)
 unfolding entryBytes

@@ -5,3 +5,5 @@ pub mod Values
 pub mod Sorts
 pub mod Heads
 pub mod Written
+pub mod Tables
+pub mod Repeats

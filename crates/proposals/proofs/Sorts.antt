@@ -1,8 +1,8 @@
 -- The sorts of items of a template variable: what a graph has of each, and how many bytes they are at most.
-use Prim.Native.Nat.{ℕ, _≤_, _<_}
-use mathlib.Core.Path.{_≡_, sym, ap, subst, _∙_}
+use Prim.Native.Nat.{ℕ, _+_, _≤_, _<_}
+use mathlib.Core.Path.{_≡_, refl, sym, ap, subst, _∙_}
 use native.Mathlib.Omega.{arith}
-use lib.ListN.{length}
+use lib.ListN.{length, length-append}
 use Rattle.sets.specs.Sets.{member}
 use Rattle.strings.specs.declared.Values.{Values}
 use Rattle.strings.specs.contracts.Promises.{holdsValue}
@@ -12,7 +12,7 @@ use Rattle.summaries.specs.ProposalOf.{unlisted}
 use Rattle.proposals.specs.declared.Prefix.{Prefix}
 use Rattle.proposals.specs.declared.Sort.{Sort}
 use Rattle.proposals.specs.declared.Sort.the-variants.{Roots, Edges, Listed, Any, Origins, AttributeOrigins}
-use Rattle.proposals.specs.contracts.Bytes.{prefixBytes, members, sortOf, firsts, seconds, limit, prefixOf, listedOf, isHeld, MayStand, MayBe, placeBytes, rowBytes, sortBytes, sortBytesAt, templateBytes}
+use Rattle.proposals.specs.contracts.Bytes.{prefixBytes, members, firsts, seconds, limit, prefixOf, listedOf, isHeld, MayStand, MayBe, placeBytes, rowBytes, sortBytes, templateBytes}
 use Rattle.proposals.proofs.Each.{each-most}
 use Rattle.proposals.proofs.Members.{members-most, members-same}
 
@@ -54,6 +54,19 @@ module _ (S : Summary) (sort : Sort) (a b r : ℕ) (stands : MayStand sort a b) 
 
 pub any-stands : (sort : Sort) (a b : ℕ) → sort ≡ Any → MayStand sort a b → a < 32
 any-stands sort a b e f = subst (λ (s : Sort). MayStand s a b) e f
+
+-- ---- the sorts one after another
+
+module _ (templates : ℕ) (S : Summary) where
+  abbrev sortLength : Sort → ℕ
+  sortLength sort = length (sortBytes templates S sort)
+
+  abbrev sortLengths : ℕ
+  sortLengths = sortLength Roots + sortLength Edges + sortLength Listed + sortLength Any + sortLength Origins + sortLength AttributeOrigins
+
+  pub template-length : length (templateBytes templates S) ≡ sortLengths
+  unfolding templateBytes
+  template-length = rw (length-append, length-append, length-append, length-append, length-append) refl
 
 -- ---- what a program with at most 31 templates has
 
@@ -126,6 +139,8 @@ module _ (templates : ℕ) (few : templates < 32) where
     unfolding sortBytes
     sort-most sort = each-most (rowBytes templates S sort) (firsts templates sort) 32 2048 (firsts-few sort) (λ a l. row-most sort a)
 
+    pub sorts-most : sortLengths templates S ≤ 393216
+    sorts-most = omega (arith, sort-most Roots, sort-most Edges, sort-most Listed, sort-most Any, sort-most Origins, sort-most AttributeOrigins)
+
     pub template-most : length (templateBytes templates S) ≤ 393216
-    unfolding templateBytes
-    template-most = each-most (sortBytesAt templates S) 6 6 65536 (omega arith) (λ i l. sort-most (sortOf i))
+    template-most = omega (arith, template-length templates S, sorts-most)

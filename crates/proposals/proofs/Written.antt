@@ -1,5 +1,5 @@
 -- The bytes in the order in which they are written are those of the proposal.
-use Prim.Native.Nat.{ℕ, zero, suc, _+_, _-_, _≤_, _<_}
+use Prim.Native.Nat.{ℕ, zero, suc, _+_, _-_, _*_, _≤_, _<_}
 use mathlib.Core.Path.{_≡_, refl, sym, ap, ap₂, _∙_}
 use mathlib.Core.Bool.{Bool, true, false, cond, not, _&&_}
 use mathlib.Core.List.{List, [], _∷_, _++_, append-assoc, append-nil}
@@ -16,8 +16,8 @@ use Rattle.summaries.specs.ProposalOf.{each, where-held, unlisted, rootItems, e
 use Rattle.summaries.specs.WrittenProposal.{written-holding, written-holdings, written-variable, written-head, written-proposal}
 use Rattle.states.specs.contracts.States.{entriesIn}
 use Rattle.proposals.specs.declared.Sort.the-variants.{Roots, Edges, Listed, Any, Origins, AttributeOrigins}
-use Rattle.proposals.specs.contracts.Bytes.{itemBytes, memberItems, members, listedOf, placeBytes, rowBytes, sortBytes, templateBytes, stringBytes, entryBytes, headBytes, entryAt, variableBytes, pointBytes, pointsBytes}
-use Rattle.proposals.proofs.Each.{each-same, each-one}
+use Rattle.proposals.specs.contracts.Bytes.{itemBytes, memberItems, members, listedOf, placeBytes, rowBytes, sortBytes, templateBytes, stringBytes, entryBytes, headBytes, entryAt, entriesBytes}
+use Rattle.proposals.proofs.Each.{each-same, each-one, each-rows}
 
 -- ---- items
 
@@ -101,7 +101,7 @@ module _ (templates : ℕ) (S : Summary) where
   and-then xs ys us vs e f = holdings-append xs ys ∙ ap₂ (λ a b. a ++ b) e f
 
   template-written : written-holdings (templateItems templates S) ≡ templateBytes templates S
-  unfolding templateItems templateBytes each
+  unfolding templateItems templateBytes
   template-written =
       and-then _ _ _ _ (and-then _ _ _ _ (and-then _ _ _ _ (and-then _ _ _ _ (and-then _ _ _ _ roots-written edges-written) strings-written) any-written) gaps-written) attribute-gaps-written
 
@@ -166,15 +166,19 @@ variable-written templates E p v = headed-written p (variableOf v) (itemsOf temp
 -- ---- the whole
 
 -- Whether there are more points does not matter to the entries at one.
-one-point : (points : ℕ) (work : List ℕ) (p : ℕ) → p < points → entriesIn points work p ≡ entryAt work p
+pub one-point : (points : ℕ) (work : List ℕ) (p : ℕ) → p < points → entriesIn points work p ≡ entryAt work p
 unfolding entriesIn
 one-point points work p l = rw (lt-ltb p points l, lt-ltb p (p + 1) (omega arith))
 
-pub proposal-written : (templates points : ℕ) (work : List ℕ) → written-proposal (proposalOf templates points (entriesIn points work)) ≡ pointsBytes templates work points ++ (0x4F ∷ [])
-unfolding proposalOf pointsBytes pointBytes
+abbrev variableBytes : ℕ → List ℕ → ℕ → ℕ → List ℕ
+variableBytes templates work p v = headBytes p v (entryBytes templates (entryAt work p) v)
+
+pub proposal-written : (templates points : ℕ) (work : List ℕ) → written-proposal (proposalOf templates points (entriesIn points work)) ≡ entriesBytes templates work (points * 8) ++ (0x4F ∷ [])
+unfolding proposalOf entriesBytes
 proposal-written templates points work =
     heads-end (proposalOf templates points (entriesIn points work))
     ∙ ap (λ (bs : List ℕ). bs ++ (0x4F ∷ []))
-    (heads-each points _ (pointBytes templates work) λ p l.
+    (heads-each points _ (λ p. each 8 (variableBytes templates work p)) (λ p l.
     heads-each 8 _ (variableBytes templates work p) λ v m.
     variable-written templates (entriesIn points work p) p v ∙ ap (λ (E : Environment). headBytes p v (entryBytes templates E v)) (one-point points work p l))
+    ∙ each-rows (variableBytes templates work) points)

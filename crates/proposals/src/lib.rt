@@ -1,7 +1,8 @@
 // The proposal that says what the entries in a work area hold: its length, and its bytes laid into a lent buffer.
 ghost use mathlib.Core.Path.{_≡_};
-ghost use mathlib.Core.List.{[], _∷_};
-ghost use Prim.Native.Nat.{ℕ, _+_, _*_, _≤_, _<_};
+ghost use mathlib.Core.List.{List};
+ghost use mathlib.Core.Bool.{true};
+ghost use Prim.Native.Nat.{ℕ, _+_, _*_, _/_, _≤_, _<_};
 ghost use lib.ListN.{length};
 ghost use Rattle.sets.specs.Sets.{member};
 ghost use Rattle.sets.specs.contracts.Promises.{FirstMember, countBelow};
@@ -14,7 +15,7 @@ ghost use Rattle.states.specs.contracts.Promises.{HasPoint};
 ghost use Rattle.jobs.specs.Inference.{storedAt};
 ghost use Rattle.graphs.specs.contracts.Graphs.{holds};
 ghost use Rattle.memory.specs.contracts.Laid.{Writes};
-ghost use Rattle.proposals.specs.contracts.Bytes.{prefixBytes, itemBytes, members, sortOf, firsts, seconds, limit, prefixOf, MayStand, MayBe, isHeld, listedOf, placeBytes, rowBytes, sortBytes, templateBytes, stringBytes, entryBytes, entryAt, variableBytes, pointBytes, pointsBytes};
+ghost use Rattle.proposals.specs.contracts.Bytes.{prefixBytes, itemBytes, members, firsts, seconds, limit, prefixOf, MayStand, MayBe, isHeld, listedOf, placeBytes, rowBytes, sortBytes, templateBytes, stringBytes, entryBytes, headBytes, entryAt, itemsAt, headedAt, entriesBytes, Counted, entryMost, FewBytes, Repeated, Stand};
 use graphs::Graph;
 use strings::Values;
 
@@ -35,8 +36,6 @@ enum Sort {
     AttributeOrigins,
 }
 
-const SORTS: u8 = 6;
-
 // The commands of a string variable's items, of a head, and of the end.
 const ONE_STRING: u8 = 0x47;
 
@@ -47,6 +46,11 @@ const HEAD: u8 = 0x40;
 const END: u8 = 0x4F;
 
 const VARIABLES: usize = 8;
+
+const ENTRIES: usize = 256;
+
+// A number for each entry: entry 8 p + v is that of variable v at point p.
+pub type EntryTable = [usize; ENTRIES];
 
 // The first member of a set at a place or after it, or 64 where there is none.
 fn next_member(set: u64, from: u32) -> u32
@@ -122,20 +126,6 @@ fn put_members(out: &mut [u8], at: usize, prefix: Prefix, set: u64, below: u32) 
         k = next_member(set, k + 1);
     }
     n
-}
-
-// The sorts in their order.
-fn sort_at(i: u8) -> Sort
-    ensures { λ r. ⌜ r ≡ sortOf i ⌝ }
-{
-    match i {
-        0 => Sort::Roots,
-        1 => Sort::Edges,
-        2 => Sort::Listed,
-        3 => Sort::Any,
-        4 => Sort::Origins,
-        _ => Sort::AttributeOrigins,
-    }
 }
 
 // How many first operands the items of a sort have.
@@ -334,13 +324,12 @@ fn template_length(graph: &Graph, templates: u8) -> usize
     requires { ⌜ templates < 32 ⌝ }
     ensures { λ r. ⌜ r ≡ length (templateBytes templates (holds (now (graph .entry)))) ⌝ }
 {
-    let mut total: usize = 0;
-    let mut i: u8 = 0;
-    while i < SORTS {
-        total += sort_length(graph, templates, sort_at(i));
-        i += 1;
-    }
-    total
+    sort_length(graph, templates, Sort::Roots)
+        + sort_length(graph, templates, Sort::Edges)
+        + sort_length(graph, templates, Sort::Listed)
+        + sort_length(graph, templates, Sort::Any)
+        + sort_length(graph, templates, Sort::Origins)
+        + sort_length(graph, templates, Sort::AttributeOrigins)
 }
 
 // They are written, sort by sort.
@@ -348,13 +337,12 @@ fn put_template(out: &mut [u8], at: usize, graph: &Graph, templates: u8) -> usiz
     requires { ⌜ (at + length (templateBytes templates (holds (now graph))) ≤ length (now out)) × (templates < 32) ⌝ }
     ensures { λ r. ⌜ Writes (now (out .entry)) at (templateBytes templates (holds (now (graph .entry)))) r (now (out .exit)) ⌝ }
 {
-    let mut n = at;
-    let mut i: u8 = 0;
-    while i < SORTS {
-        n = put_sort(out, n, graph, templates, sort_at(i));
-        i += 1;
-    }
-    n
+    let roots = put_sort(out, at, graph, templates, Sort::Roots);
+    let edges = put_sort(out, roots, graph, templates, Sort::Edges);
+    let listed = put_sort(out, edges, graph, templates, Sort::Listed);
+    let any = put_sort(out, listed, graph, templates, Sort::Any);
+    let origins = put_sort(out, any, graph, templates, Sort::Origins);
+    put_sort(out, origins, graph, templates, Sort::AttributeOrigins)
 }
 
 // The bytes of the items of a string variable.
@@ -417,100 +405,152 @@ fn put_entry(out: &mut [u8], at: usize, work: &[u64], templates: u8, p: usize, v
     put_strings(out, at, states::values_at(work, p, v - 4))
 }
 
-// The bytes with the head under which they stand, where there are any.
-fn variable_length(work: &[u64], templates: u8, p: usize, v: usize) -> usize
-    requires { ⌜ HasPoint (now work) p × (templates < 32) × (v < 8) ⌝ }
-    ensures { λ r. ⌜ r ≡ length (variableBytes templates (now (work .entry)) p v) ⌝ }
+// Whether a variable has the same entry as at the point before.
+fn is_repeated(work: &[u64], p: usize, v: usize) -> bool
+    requires { ⌜ HasPoint (now work) p × (v < 8) ⌝ }
+    ensures { λ r. ⌜ (r ≡ true → Repeated (now (work .entry)) p v) ⌝ }
 {
-    let n = entry_length(work, templates, p, v);
-    if n == 0 {
-        return 0;
+    if p == 0 {
+        return false;
     }
-    n + 3
+    let before = p - 1;
+    states::same_entry(work, before, p, v)
 }
 
-// They are written; no head where there is none.
-fn put_variable(out: &mut [u8], at: usize, work: &[u64], templates: u8, p: usize, v: usize) -> usize
-    requires { ⌜ (at + length (variableBytes templates (now work) p v) ≤ length (now out)) × HasPoint (now work) p × (templates < 32) × (v < 8) × (p < 32) ⌝ }
-    ensures { λ r. ⌜ Writes (now (out .entry)) at (variableBytes templates (now (work .entry)) p v) r (now (out .exit)) ⌝ }
+// The bytes of the items of an entry, where those of the entries before it were counted.
+fn next_length(work: &[u64], templates: u8, i: usize, lengths: &EntryTable) -> usize
+    requires { ⌜ HasPoint (now work) (i / 8) × (templates < 32) × (i < 256) × Counted templates (now work) i (now lengths) ⌝ }
+    ensures { λ r. ⌜ r ≡ length (itemsAt templates (now (work .entry)) i) ⌝ }
 {
-    if entry_length(work, templates, p, v) == 0 {
+    let p = i / VARIABLES;
+    let v = i % VARIABLES;
+    if is_repeated(work, p, v) {
+        return lengths[i - VARIABLES];
+    }
+    entry_length(work, templates, p, v)
+}
+
+// The bytes of the items of each entry are counted.
+pub fn entry_lengths(work: &[u64], templates: usize, points: usize) -> EntryTable
+    requires { ⌜ (points * pointWords ≤ length (now work)) × (templates < 32) × (points ≤ 32) ⌝ }
+    ensures { λ r. ⌜ Counted templates (now (work .entry)) (points * 8) r ⌝ }
+{
+    let count = points * VARIABLES;
+    let mut lengths: EntryTable = [0; ENTRIES];
+    let mut i: usize = 0;
+    while i < count {
+        lengths[i] = next_length(work, templates as u8, i, &lengths);
+        i += 1;
+    }
+    lengths
+}
+
+// The items of an entry are written; the table tells where those of each entry before it end. What is repeated is copied from there.
+fn put_items(
+    out: &mut [u8],
+    at: usize,
+    work: &[u64],
+    templates: u8,
+    i: usize,
+    size: usize,
+    ends: &EntryTable,
+) -> usize
+    requires { ⌜ (at + length (itemsAt templates (now work) i) ≤ length (now out)) × HasPoint (now work) (i / 8) × (templates < 32) × (i < 256) × (size ≡ length (itemsAt templates (now work) i)) × Stand templates (now work) i (now out) at (now ends) ⌝ }
+    ensures { λ r. ⌜ Writes (now (out .entry)) at (itemsAt templates (now (work .entry)) i) r (now (out .exit)) ⌝ }
+{
+    let p = i / VARIABLES;
+    let v = i % VARIABLES;
+    if is_repeated(work, p, v) {
+        let end = ends[i - VARIABLES];
+        return memory::copy(out, end - size, at, size);
+    }
+    put_entry(out, at, work, templates, p, v)
+}
+
+// An entry is written: its items under a head, or nothing.
+fn put_variable(
+    out: &mut [u8],
+    at: usize,
+    work: &[u64],
+    templates: u8,
+    i: usize,
+    size: usize,
+    ends: &EntryTable,
+) -> usize
+    requires { ⌜ (at + length (headedAt templates (now work) i) ≤ length (now out)) × HasPoint (now work) (i / 8) × (templates < 32) × (i < 256) × (size ≡ length (itemsAt templates (now work) i)) × Stand templates (now work) i (now out) at (now ends) ⌝ }
+    ensures { λ r. ⌜ Writes (now (out .entry)) at (headedAt templates (now (work .entry)) i) r (now (out .exit)) ⌝ }
+{
+    if size == 0 {
         return at;
     }
+    let p = i / VARIABLES;
+    let v = i % VARIABLES;
     let n = memory::put_three(out, at, HEAD, p as u8, v as u8);
-    put_entry(out, n, work, templates, p, v)
+    put_items(out, n, work, templates, i, size, ends)
 }
 
-// The bytes of all variables at a point.
-fn point_length(work: &[u64], templates: u8, p: usize) -> usize
-    requires { ⌜ HasPoint (now work) p × (templates < 32) ⌝ }
-    ensures { λ r. ⌜ r ≡ length (pointBytes templates (now (work .entry)) p) ⌝ }
+// The entries of all points are written, entry by entry.
+fn put_entries(
+    out: &mut [u8],
+    at: usize,
+    work: &[u64],
+    templates: u8,
+    points: usize,
+    lengths: &EntryTable,
+) -> usize
+    requires { ⌜ (at + length (entriesBytes templates (now work) (points * 8)) ≤ length (now out)) × (points * pointWords ≤ length (now work)) × (templates < 32) × (points ≤ 32) × Counted templates (now work) (points * 8) (now lengths) ⌝ }
+    ensures { λ r. ⌜ Writes (now (out .entry)) at (entriesBytes templates (now (work .entry)) (points * 8)) r (now (out .exit)) ⌝ }
 {
-    let mut total: usize = 0;
-    let mut v: usize = 0;
-    while v < VARIABLES {
-        total += variable_length(work, templates, p, v);
-        v += 1;
-    }
-    total
-}
-
-// They are written, variable by variable.
-fn put_point(out: &mut [u8], at: usize, work: &[u64], templates: u8, p: usize) -> usize
-    requires { ⌜ (at + length (pointBytes templates (now work) p) ≤ length (now out)) × HasPoint (now work) p × (templates < 32) × (p < 32) ⌝ }
-    ensures { λ r. ⌜ Writes (now (out .entry)) at (pointBytes templates (now (work .entry)) p) r (now (out .exit)) ⌝ }
-{
+    let count = points * VARIABLES;
+    let mut ends: EntryTable = [0; ENTRIES];
     let mut n = at;
-    let mut v: usize = 0;
-    while v < VARIABLES {
-        n = put_variable(out, n, work, templates, p, v);
-        v += 1;
+    let mut i: usize = 0;
+    while i < count {
+        n = put_variable(out, n, work, templates, i, lengths[i], &ends);
+        ends[i] = n;
+        i += 1;
     }
     n
 }
 
-// The bytes of all points.
-fn points_length(work: &[u64], templates: u8, points: usize) -> usize
-    requires { ⌜ (points * pointWords ≤ length (now work)) × (templates < 32) × (points ≤ 32) ⌝ }
-    ensures { λ r. ⌜ r ≡ length (pointsBytes templates (now (work .entry)) points) ⌝ }
+// The bytes of an entry, by those of its items: a head stands above them where there are any.
+fn with_head(size: usize) -> usize
+    requires { ⌜ size ≤ entryMost ⌝ }
+    ensures { λ r. ⌜ (r ≤ 3 + size) × ((p v : ℕ) (bs : List ℕ) → size ≡ length bs → r ≡ length (headBytes p v bs)) ⌝ }
 {
+    if size == 0 {
+        return 0;
+    }
+    size + 3
+}
+
+// The proposal of entries that were counted: its length, told before anything is written.
+pub fn proposal_length(lengths: &EntryTable, points: usize) -> usize
+    requires { ⌜ (points ≤ 32) × FewBytes (points * 8) (now lengths) ⌝ }
+    ensures { λ r. ⌜ ((templates : ℕ) (work : List ℕ) → Counted templates work (points * 8) (now (lengths .entry)) → r ≡ length (written-proposal (proposalOf templates points (entriesIn points work)))) ⌝ }
+{
+    let count = points * VARIABLES;
     let mut total: usize = 0;
-    let mut p: usize = 0;
-    while p < points {
-        total += point_length(work, templates, p);
-        p += 1;
+    let mut i: usize = 0;
+    while i < count {
+        total += with_head(lengths[i]);
+        i += 1;
     }
-    total
-}
-
-// They are written, point by point.
-fn put_points(out: &mut [u8], at: usize, work: &[u64], templates: u8, points: usize) -> usize
-    requires { ⌜ (at + length (pointsBytes templates (now work) points) ≤ length (now out)) × (points * pointWords ≤ length (now work)) × (templates < 32) × (points ≤ 32) ⌝ }
-    ensures { λ r. ⌜ Writes (now (out .entry)) at (pointsBytes templates (now (work .entry)) points) r (now (out .exit)) ⌝ }
-{
-    let mut n = at;
-    let mut p: usize = 0;
-    while p < points {
-        n = put_point(out, n, work, templates, p);
-        p += 1;
-    }
-    n
-}
-
-// The proposal of the entries in a work area: its length, told before anything is written.
-pub fn proposal_length(work: &[u64], templates: usize, points: usize) -> usize
-    requires { ⌜ (points * pointWords ≤ length (now work)) × (templates < 32) × (points ≤ 32) ⌝ }
-    ensures { λ r. ⌜ r ≡ length (written-proposal (proposalOf templates points (entriesIn points (now (work .entry))))) ⌝ }
-{
-    points_length(work, templates as u8, points) + 1
+    total + 1
 }
 
 // Its bytes, from the start of a buffer on.
-pub fn put_proposal(out: &mut [u8], work: &[u64], templates: usize, points: usize) -> usize
-    requires { ⌜ (length (written-proposal (proposalOf templates points (entriesIn points (now work)))) ≤ length (now out)) × (points * pointWords ≤ length (now work)) × (templates < 32) × (points ≤ 32) ⌝ }
+pub fn put_proposal(
+    out: &mut [u8],
+    work: &[u64],
+    templates: usize,
+    points: usize,
+    lengths: &EntryTable,
+) -> usize
+    requires { ⌜ (length (written-proposal (proposalOf templates points (entriesIn points (now work)))) ≤ length (now out)) × (points * pointWords ≤ length (now work)) × (templates < 32) × (points ≤ 32) × Counted templates (now work) (points * 8) (now lengths) ⌝ }
     ensures { λ r. ⌜ Writes (now (out .entry)) 0 (written-proposal (proposalOf templates points (entriesIn points (now (work .entry))))) r (now (out .exit)) ⌝ }
 {
-    let n = put_points(out, 0, work, templates as u8, points);
+    let n = put_entries(out, 0, work, templates as u8, points, lengths);
     memory::put(out, n, END)
 }
 
@@ -521,9 +561,10 @@ pub fn put_from(
     work: &[u64],
     templates: usize,
     points: usize,
+    lengths: &EntryTable,
 ) -> usize
-    requires { ⌜ (place + length (written-proposal (proposalOf templates points (entriesIn points (now work)))) ≤ length (now buffer)) × (points * pointWords ≤ length (now work)) × (templates < 32) × (points ≤ 32) ⌝ }
+    requires { ⌜ (place + length (written-proposal (proposalOf templates points (entriesIn points (now work)))) ≤ length (now buffer)) × (points * pointWords ≤ length (now work)) × (templates < 32) × (points ≤ 32) × Counted templates (now work) (points * 8) (now lengths) ⌝ }
     ensures { λ r. ⌜ (r ≡ length (written-proposal (proposalOf templates points (entriesIn points (now (work .entry)))))) × (now (buffer .exit) ≡ storedAt place (written-proposal (proposalOf templates points (entriesIn points (now (work .entry))))) (now (buffer .entry))) ⌝ }
 {
-    put_proposal(&mut buffer[place..], work, templates, points)
+    put_proposal(&mut buffer[place..], work, templates, points, lengths)
 }

@@ -13,7 +13,8 @@ use Rattle.summaries.specs.Summaries.{Summary}
 use Rattle.graphs.specs.contracts.Graphs.{holds}
 use Rattle.patterns.specs.contracts.Given.{contents}
 use Rattle.patterns.specs.contracts.Rounds.{Sets, anyTemplate}
-use Rattle.patterns.proofs.Tests.{and-both, and-left, and-right, same-test, any-below, below-any}
+use Rattle.patterns.proofs.Tests.{any-below, below-any}
+use Rattle.sets.proofs.Booleans.{and-both, and-left, and-right, alike}
 use Rattle.reach.specs.contracts.Closures.{United}
 use Rattle.reach.specs.contracts.Promises.{GraphKept}
 use Rattle.reach.specs.contracts.Walking.{ContentsKept, TellsBrings}
@@ -26,7 +27,7 @@ module _ (graph within : List ℕ) (n : ℕ) where
 
   brings-at : n < 32 → (φs : List Items) (G : Summary) (C : Sets) (count : ℕ) → GraphKept φs G graph count → ContentsKept φs C within → (g c w : ℕ) → g < 8 → c < contents
       → BringsAt g w → member w c ≡ anyTemplate φs (λ m. G (edge n g m) && C m c)
-  brings-at low φs G C count kept is g c w h l (edges, are, u) = same-test (member w c) (anyTemplate φs some) to back
+  brings-at low φs G C count kept is g c w h l (edges, are, u) = alike (member w c) (anyTemplate φs some) to back
     where
       some : ℕ → Bool
       some m = G (edge n g m) && C m c
@@ -40,7 +41,7 @@ module _ (graph within : List ℕ) (n : ℕ) where
           (λ (m, p, q).
           let is-edge : G (edge n g m) ≡ true = edge-kept m ∙ p in
           let there : m ≤ length φs = kept .bounded .edges n g m is-edge in
-          any-below (suc (length φs)) some m (omega arith) (and-both is-edge (sym (is m c there l) ∙ q)))
+          any-below (suc (length φs)) some m (omega arith) (and-both _ _ is-edge (sym (is m c there l) ∙ q)))
           (u .no-other c e)
 
       back : anyTemplate φs some ≡ true → member w c ≡ true

@@ -6,6 +6,7 @@ use mathlib.Core.List.{List}
 use mathlib.Core.Bool.{Bool, true, false, not, _&&_, false≢true}
 use mathlib.Core.Logic.{⊎-elim}
 use lib.ListN.{getD}
+use Rattle.sets.proofs.Booleans.{and-left, never-lacks}
 use Rattle.sets.specs.Sets.{member}
 use Rattle.reach.specs.contracts.Closures.{United, ClosedUnder, Closure}
 use Rattle.reach.proofs.Sets.{larger}
@@ -26,16 +27,6 @@ start-between set table = record {
   followed = λ i k e n t. absurd (false≢true (sym n ∙ e));
 }
 
--- A number that is not among those that one set has and another lacks.
-not-fresh : (a b : Bool) → (a && not b) ≡ false → a ≡ true → b ≡ true
-not-fresh true true n e = refl
-not-fresh true false n e = sym n
-not-fresh false b n e = absurd (false≢true e)
-
-is-fresh : (a b : Bool) → (a && not b) ≡ true → a ≡ true
-is-fresh true b e = refl
-is-fresh false b e = e
-
 module _ (table : List ℕ) (all fresh more : ℕ) (u : United all fresh table more) where
   module _ (set : ℕ) (b : Between set table all fresh) where
     -- What any member leads to is there after the round.
@@ -53,8 +44,8 @@ module _ (table : List ℕ) (all fresh more : ℕ) (u : United all fresh table m
           (b .least S has closed k)
           (λ h. closed (h .0) k (b .least S has closed (h .0) (b .within (h .0) (h .1))) (h .2))
           (u .no-other k e);
-      within = λ k e. is-fresh (member more k) (member all k) (sym (is k) ∙ e);
-      followed = λ i k e n t. leads i k (not-fresh (member more i) (member all i) (sym (is i) ∙ n) e) t;
+      within = λ k e. and-left (member more k) (not (member all k)) (sym (is k) ∙ e);
+      followed = λ i k e n t. leads i k (never-lacks (member more i) (member all i) (sym (is i) ∙ n) e) t;
     }
 
     pub round-closed : more ≡ all → Closure set table all

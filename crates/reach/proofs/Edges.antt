@@ -12,7 +12,8 @@ use Rattle.sets.specs.Sets.{member}
 use Rattle.summaries.specs.Proposal.{edge}
 use Rattle.summaries.specs.Summaries.{Summary}
 use Rattle.graphs.specs.contracts.Graphs.{holds, Keeps}
-use Rattle.patterns.proofs.Tests.{and-both, and-left, and-right, same-test, any-below, below-any}
+use Rattle.patterns.proofs.Tests.{any-below, below-any}
+use Rattle.sets.proofs.Booleans.{and-both, and-left, and-right, alike}
 use Rattle.reach.specs.contracts.Promises.{edgesBy, EdgeTable}
 use Rattle.reach.proofs.Sets.{not-in-zero}
 use Rattle.reach.proofs.Unions.{UnitedTo}
@@ -29,12 +30,12 @@ leads-by graph n g all edges more h is both m =
 
 module _ (graph : List ℕ) (n gaps : ℕ) (low : n < 32) where
   pub edges-by : (g r : ℕ) → 8 ≤ g → UnitedTo 0 gaps (leads graph n) g r → (G : Summary) → Keeps graph G → (m : ℕ) → member r m ≡ edgesBy G n gaps m
-  edges-by g r past u G keeps m = same-test (member r m) (edgesBy G n gaps m) to back
+  edges-by g r past u G keeps m = alike (member r m) (edgesBy G n gaps m) to back
     where
       led : (i : ℕ) → member gaps i ≡ true → leads graph n i m ≡ true → edgesBy G n gaps m ≡ true
       led i e t =
           let l = ltb-true i 8 (and-left (ltb i 8) (holds graph (edge n i m)) t) in
-          any-below 8 (λ k. member gaps k && G (edge n k m)) i l (and-both e (keeps .same (edge n i m) (low, l) ∙ and-right (ltb i 8) (holds graph (edge n i m)) t))
+          any-below 8 (λ k. member gaps k && G (edge n k m)) i l (and-both _ _ e (keeps .same (edge n i m) (low, l) ∙ and-right (ltb i 8) (holds graph (edge n i m)) t))
 
       to : member r m ≡ true → edgesBy G n gaps m ≡ true
       to e = ⊎-elim (λ z. absurd (not-in-zero m z)) (λ (i, h, t). led i h t) (u .no-other m e)
@@ -43,7 +44,7 @@ module _ (graph : List ℕ) (n gaps : ℕ) (low : n < 32) where
       back e =
           let (i, h, p) = below-any 8 (λ k. member gaps k && G (edge n k m)) e in
           u .adds i m (omega arith) (and-left (member gaps i) (G (edge n i m)) p)
-          (and-both (lt-ltb i 8 h) (sym (keeps .same (edge n i m) (low, h)) ∙ and-right (member gaps i) (G (edge n i m)) p))
+          (and-both _ _ (lt-ltb i 8 h) (sym (keeps .same (edge n i m) (low, h)) ∙ and-right (member gaps i) (G (edge n i m)) p))
 
 -- The edges from a template, of those to templates of a set.
 abbrev pub EdgesAt : Summary → List ℕ → ℕ → ℕ → ℕ → Type 0

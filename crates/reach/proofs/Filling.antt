@@ -9,7 +9,7 @@ use lib.ListN.{length, getD, set, replicate, getD-replicate, length-replicate, l
 use lib.Seq.{getD-set-same, getD-set-other}
 use lib.Dec.{ltb}
 use borrow.Author.Tests.{ltb-true, ltb-false}
-use Rattle.patterns.proofs.Tests.{either}
+use Rattle.sets.proofs.Booleans.{either}
 
 -- Of N entries those below n are as P says.
 pub record Filled (P : ℕ → ℕ → Type 0) (N n : ℕ) (table : List ℕ) : Type 0 where

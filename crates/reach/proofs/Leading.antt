@@ -2,9 +2,9 @@
 -- those that can stand in its pages.
 use Prim.Native.Nat.{ℕ, suc, _≤_, _<_}
 use native.Mathlib.Omega.{arith}
-use mathlib.Core.Path.{_≡_, refl, sym, subst, _∙_}
+use mathlib.Core.Path.{_≡_, sym, subst, _∙_}
 use mathlib.Core.List.{List}
-use mathlib.Core.Bool.{Bool, true, false, not, _&&_, _||_, false≢true}
+use mathlib.Core.Bool.{Bool, true, not, _&&_, _||_}
 use mathlib.Core.Logic.{⊎-elim}
 use lib.ListN.{length, getD}
 use lib.Dec.{eqb, ltb, leb}
@@ -19,7 +19,8 @@ use Rattle.summaries.specs.Summaries.{Summary}
 use Rattle.patterns.specs.contracts.Rounds.{Sets}
 use Rattle.patterns.specs.contracts.Reached.{Yields, contentsOf}
 use Rattle.patterns.specs.contracts.Exactness.{YieldsExact, ContentsExact}
-use Rattle.patterns.proofs.Tests.{and-both, and-left, and-right, same-test, eqb-same, any-below, below-any}
+use Rattle.patterns.proofs.Tests.{eqb-same, any-below, below-any}
+use Rattle.sets.proofs.Booleans.{and-both, and-left, and-right, implied, implies, alike}
 use Rattle.patterns.proofs.Contents.{occurs-made, occurs-found}
 use Rattle.pages.specs.contracts.Gaps.{hasGap}
 use Rattle.reach.specs.contracts.Closures.{ClosedUnder}
@@ -39,7 +40,7 @@ module _ (targets contents : List ℕ) (yields : ℕ) where
       L .closure .least (λ _. member yields n) (λ i e. and-right (eqb i n) (member yields n) (sym (L .is-start i) ∙ e)) (λ i j e p. e) k h
 
   led-itself : (n r : ℕ) (L : Led n r) → member yields n ≡ true → member (L .led) n ≡ true
-  led-itself n r L y = L .closure .starts n (L .is-start n ∙ and-both (eqb-same n) y)
+  led-itself n r L y = L .closure .starts n (L .is-start n ∙ and-both _ _ (eqb-same n) y)
 
   led-through : (n m r q : ℕ) (L : Led n r) (M : Led m q) → member (L .led) m ≡ true → (k : ℕ) → member (M .led) k ≡ true → member (L .led) k ≡ true
   led-through n m r q L M h = M .closure .least (member (L .led))
@@ -106,17 +107,9 @@ module _ (φs : List Items) (G : Summary) (graph contents gaps : List ℕ) (coun
             and-left (member yields k) (not (C k c) || C n c) q,
             implied (C k c) (C n c) (and-right (member yields k) (not (C k c) || C n c) q),
           )
-        where
-          implied : (a b : Bool) → (not a || b) ≡ true → a ≡ true → b ≡ true
-          implied true b i j = i
-          implied false b i j = absurd (false≢true j)
 
       hand : (k : ℕ) → k ≤ count → member yields k ≡ true → (C k c ≡ true → C n c ≡ true) → hands k ≡ true
-      hand k l y f = and-both (le-leb k count l) (and-both y (imply (C k c) (C n c) f))
-        where
-          imply : (a b : Bool) → (a ≡ true → b ≡ true) → (not a || b) ≡ true
-          imply true b i = i refl
-          imply false b i = refl
+      hand k l y f = and-both _ _ (le-leb k count l) (and-both _ _ y (implies (C k c) (C n c) f))
 
       first-hands : (k : ℕ) → member (L .start) k ≡ true → hands k ≡ true
       first-hands k e =
@@ -132,8 +125,8 @@ module _ (φs : List Items) (G : Summary) (graph contents gaps : List ℕ) (coun
           let (g, low, in-gaps, is-edge) = edge-gap G gaps targets count yields t (kept .few) i k p in
           let k-there : k ≤ length φs = kept .bounded .edges i g k is-edge in
           hand k (omega arith) (edge-yields G gaps targets count yields t (kept .few) i k p)
-          (λ in-k. f (settled i c (omega arith) y (contents-brought φs G C i c (templateAt φs i) g (outline i (omega arith) .gaps g ∙ and-both (lt-ltb g 8 low) in-gaps)
-          (any-below (suc (length φs)) (λ m. G (edge i g m) && C m c) k (omega arith) (and-both is-edge in-k)))))
+          (λ in-k. f (settled i c (omega arith) y (contents-brought φs G C i c (templateAt φs i) g (outline i (omega arith) .gaps g ∙ and-both _ _ (lt-ltb g 8 low) in-gaps)
+          (any-below (suc (length φs)) (λ m. G (edge i g m) && C m c) k (omega arith) (and-both _ _ is-edge in-k)))))
 
       sound : E n c ≡ true → C n c ≡ true
       sound e =
@@ -146,4 +139,4 @@ module _ (φs : List Items) (G : Summary) (graph contents gaps : List ℕ) (coun
       found e = let (page, d, i) = is n c h .0 e in complete n c h (page, d) (occurs-found φs G (kept .bounded) E complete d c i)
 
       pub contents-same : E n c ≡ C n c
-      contents-same = same-test (E n c) (C n c) sound found
+      contents-same = alike (E n c) (C n c) sound found

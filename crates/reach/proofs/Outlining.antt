@@ -18,7 +18,8 @@ use Rattle.summaries.specs.Summaries.{Summary}
 use Rattle.patterns.specs.contracts.Given.{contents}
 use Rattle.patterns.specs.contracts.Rounds.{Sets, anyTemplate}
 use Rattle.patterns.specs.contracts.Reached.{contentsOf, itemContents}
-use Rattle.patterns.proofs.Tests.{or-left, or-right, or-cases, and-both, and-left, and-right, same-test, eqb-same}
+use Rattle.patterns.proofs.Tests.{eqb-same}
+use Rattle.sets.proofs.Booleans.{or-left, or-right, or-cases, and-both, and-left, and-right, alike}
 use Rattle.pages.specs.contracts.Gaps.{hasGap}
 use Rattle.reach.specs.contracts.Closures.{United}
 use Rattle.reach.specs.contracts.Outlines.{isGap, gapAmong, Outline}
@@ -29,8 +30,8 @@ no-gap : (g : ℕ) → hasGap 0 g ≡ false
 no-gap g = rw (member-zero g) (and-false (ltb g 8))
 
 gap-is : (k g : ℕ) → k < 8 → eqb k g ≡ (ltb g 8 && eqb g k)
-gap-is k g h = same-test (eqb k g) (ltb g 8 && eqb g k)
-    (λ e. let q : k ≡ g = eqb-true k g e in and-both (lt-ltb g 8 (omega arith)) (subst (λ (n : ℕ). eqb n k ≡ true) q (eqb-same k)))
+gap-is k g h = alike (eqb k g) (ltb g 8 && eqb g k)
+    (λ e. let q : k ≡ g = eqb-true k g e in and-both _ _ (lt-ltb g 8 (omega arith)) (subst (λ (n : ℕ). eqb n k ≡ true) q (eqb-same k)))
     (λ e. let q : g ≡ k = eqb-true g k (and-right (ltb g 8) (eqb g k) e) in subst (λ (n : ℕ). eqb k n ≡ true) (sym q) (eqb-same k))
 
 -- ---- outlines, one item after the other
@@ -136,10 +137,10 @@ module _ (φs : List Items) (G : Summary) (C : Sets) (n c : ℕ) where
   -- By the outline, and the contents that gaps can bring.
   pub contents-by : (brings : List ℕ) → length brings ≡ 8 → Brings φs G C n brings → c < contents → (φ : Items) (inside gaps r : ℕ) → Outline φ inside gaps
       → United inside gaps brings r → member r c ≡ contentsOf φs G C n φ c
-  contents-by brings long brought-is low φ inside gaps r o u = same-test (member r c) (contentsOf φs G C n φ c) to back
+  contents-by brings long brought-is low φ inside gaps r o u = alike (member r c) (contentsOf φs G C n φ c) to back
     where
       by-gap : (g : ℕ) → member gaps g ≡ true → member (getD brings g 0) c ≡ true → (b : Bool) → ltb g 8 ≡ b → contentsOf φs G C n φ c ≡ true
-      by-gap g h t true l = contents-brought φ g (o .gaps g ∙ and-both l h) (sym (brought-is g c (ltb-true g 8 l) low) ∙ t)
+      by-gap g h t true l = contents-brought φ g (o .gaps g ∙ and-both _ _ l h) (sym (brought-is g c (ltb-true g 8 l) low) ∙ t)
       by-gap g h t false l =
           let past : 8 ≤ g = ltb-false g 8 l in
           absurd (not-in-zero c (subst (λ (w : ℕ). member w c ≡ true) (List·getD-eq-default brings 0 {n = g} (omega arith)) t))

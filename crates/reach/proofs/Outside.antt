@@ -16,7 +16,8 @@ use Rattle.patterns.specs.contracts.Given.{contents}
 use Rattle.patterns.specs.contracts.Rounds.{Sets, anyBelow}
 use Rattle.patterns.specs.contracts.Reached.{contentsOf}
 use Rattle.patterns.specs.contracts.Elements.{contentOutside}
-use Rattle.patterns.proofs.Tests.{and-both, and-left, and-right, failed, any-below, below-any}
+use Rattle.patterns.proofs.Tests.{any-below, below-any}
+use Rattle.sets.proofs.Booleans.{and-both, and-left, and-right, refuted}
 use Rattle.reach.specs.contracts.PlainlyWrong.{plainlyUnder}
 use Rattle.reach.specs.contracts.Walking.{TellsOutside}
 
@@ -28,12 +29,12 @@ module _ (φs : List Items) (G : Summary) (C : Sets) (n : ℕ) (allowed : List �
   -- Every content is allowed, or one is not.
   content-test : (t : Bool) → MembersWithin inside held t → contentOutside φs G C allowed n φ ≡ not t
   unfolding contentOutside
-  content-test true w = failed (anyBelow contents out)
+  content-test true w = refuted (anyBelow contents out)
       (λ e.
       let (c, h, p) = below-any contents out e in
       let k : isIn c allowed ≡ true = sym (is-held c) ∙ w c (is c h ∙ and-left (contentsOf φs G C n φ c) (not (isIn c allowed)) p) in
       false≢true (sym (ap not k) ∙ and-right (contentsOf φs G C n φ c) (not (isIn c allowed)) p))
-  content-test false (c, h, p, q) = any-below contents out c h (and-both (sym (is c h) ∙ p) (ap not (sym (is-held c) ∙ q)))
+  content-test false (c, h, p, q) = any-below contents out c h (and-both _ _ (sym (is c h) ∙ p) (ap not (sym (is-held c) ∙ q)))
 
 module _ (n at named allowed inside held : ℕ) where
   pub names-outside : (t : Bool) → MembersWithin named allowed t → t ≡ false → TellsOutside n at named allowed inside held (At n at)

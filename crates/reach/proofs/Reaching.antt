@@ -18,7 +18,8 @@ use Rattle.graphs.specs.contracts.Graphs.{holds}
 use Rattle.patterns.specs.contracts.Rounds.{Set}
 use Rattle.patterns.specs.contracts.Reached.{Reached, from-root, through-gap}
 use Rattle.patterns.specs.contracts.Exactness.{YieldsExact, ReachedExact}
-use Rattle.patterns.proofs.Tests.{and-both, and-left, and-right, either, same-test, any-below, below-any}
+use Rattle.patterns.proofs.Tests.{any-below, below-any}
+use Rattle.sets.proofs.Booleans.{and-both, and-left, and-right, alike, either}
 use Rattle.patterns.proofs.Reaching.{reached-there}
 use Rattle.reach.specs.contracts.Closures.{ClosedUnder, Closure}
 use Rattle.reach.specs.contracts.Promises.{edgesBy, EdgeTable, GraphKept}
@@ -47,7 +48,7 @@ module _ (G : Summary) (gaps table : List ℕ) (count yields : ℕ) (t : EdgeTab
   pub gap-edge : (n g m : ℕ) → n ≤ count → g < 8 → member (getD gaps n 0) g ≡ true → G (edge n g m) ≡ true → member yields m ≡ true
       → member (getD table n 0) m ≡ true
   gap-edge n g m h l e p y =
-      t .there n m h (omega arith) ∙ and-both (any-below 8 (λ i. member (getD gaps n 0) i && G (edge n i m)) g l (and-both e p)) y
+      t .there n m h (omega arith) ∙ and-both _ _ (any-below 8 (λ i. member (getD gaps n 0) i && G (edge n i m)) g l (and-both _ _ e p)) y
 
 module _ (φs : List Items) (G : Summary) (graph gaps : List ℕ) (count yields : ℕ) (kept : GraphKept φs G graph count) (gaps-are : GapsTable gaps φs)
     (exact : YieldsExact φs G (member yields)) (table : List ℕ) (t : EdgeTable G gaps count yields table)
@@ -57,7 +58,7 @@ module _ (φs : List Items) (G : Summary) (graph gaps : List ℕ) (count yields 
 
   -- All that are reached.
   found : {n : ℕ} → Reached φs G n → member r n ≡ true
-  found (from-root {r = n} g y) = c .starts n (is-start n ∙ and-both (sym (root-kept n) ∙ g) (exact n (kept .bounded .roots n g) .1 y))
+  found (from-root {r = n} g y) = c .starts n (is-start n ∙ and-both _ _ (sym (root-kept n) ∙ g) (exact n (kept .bounded .roots n g) .1 y))
   found (through-gap {n = n} {g = g} {m = m} h i e y) =
       let there : n ≤ length φs = reached-there φs G (kept .bounded) h in
       let same : count ≡ length φs = kept .counts in
@@ -81,8 +82,8 @@ module _ (φs : List Items) (G : Summary) (graph gaps : List ℕ) (count yields 
         let (g, l, i, q) = edge-gap G gaps table count yields t (kept .few) n m p in
         let there : m ≤ length φs = kept .bounded .edges n g m q in
         is m there .1 (through-gap {n = n} {g = g} (is n (omega arith) .0 e)
-        (gaps-are n (omega arith) .gaps g ∙ and-both (lt-ltb g 8 l) i) q
+        (gaps-are n (omega arith) .gaps g ∙ and-both _ _ (lt-ltb g 8 l) i) q
         (exact m there .0 (edge-yields G gaps table count yields t (kept .few) n m p)))
 
     pub reached-same : (n : ℕ) → n ≤ length φs → member r n ≡ S n
-    reached-same n h = same-test (member r n) (S n) (c .least S has-start is-closed n) (λ e. found (is n h .0 e))
+    reached-same n h = alike (member r n) (S n) (c .least S has-start is-closed n) (λ e. found (is n h .0 e))

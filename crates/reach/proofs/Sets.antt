@@ -5,7 +5,7 @@ use mathlib.Core.Bool.{Bool, true, false, _&&_, _||_, false≢true}
 use lib.Bits.{bitAnd, and-le-l, and-lt}
 use Rattle.sets.specs.Sets.{member}
 use Rattle.sets.proofs.Laws.{member-zero, member-high, member-and, same-members}
-use Rattle.patterns.proofs.Tests.{and-both, and-right, same-test}
+use Rattle.sets.proofs.Booleans.{and-both, and-right, alike}
 
 -- No number is in the empty set, and none from 64 on in a word.
 pub not-in-zero : (k : ℕ) → member 0 k ≡ true → ⊥
@@ -18,7 +18,7 @@ member-low set k narrow high e = false≢true (sym (member-high 64 set k narrow 
 pub larger : (a b : ℕ) → a < 2 ^ 64 → b < 2 ^ 64 → ((k : ℕ) → member a k ≡ true → member b k ≡ true) → a ≤ b
 larger a b p q within =
     let e : bitAnd b a ≡ a = same-members 64 (bitAnd b a) a (and-lt 64 b a q p) p
-    (λ k h. member-and b a k ∙ same-test (member b k && member a k) (member a k) (and-right (member b k) (member a k)) (λ t. and-both (within k t) t)) in
+    (λ k h. member-and b a k ∙ alike (member b k && member a k) (member a k) (and-right (member b k) (member a k)) (λ t. and-both _ _ (within k t) t)) in
     subst (λ (n : ℕ). n ≤ b) e (and-le-l b a)
 
 -- The first two of three tests in the other order.

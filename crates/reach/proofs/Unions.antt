@@ -10,7 +10,7 @@ use lib.ListN.{length, getD, List·getD-eq-default}
 use lib.Dec.{ltb}
 use borrow.Author.Tests.{ltb-true, ltb-false}
 use Rattle.sets.specs.Sets.{member}
-use Rattle.patterns.proofs.Tests.{or-left, or-right, or-cases, either}
+use Rattle.sets.proofs.Booleans.{or-left, or-right, or-cases, either}
 use Rattle.sets.specs.contracts.Promises.{FirstMember}
 use Rattle.reach.specs.contracts.Closures.{United}
 use Rattle.reach.proofs.Sets.{not-in-zero, member-low}

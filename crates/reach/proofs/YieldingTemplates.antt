@@ -13,7 +13,8 @@ use Rattle.sets.specs.Sets.{member}
 use Rattle.sets.proofs.Laws.{member-zero}
 use Rattle.patterns.specs.contracts.Morphisms.{rootMorphism}
 use Rattle.patterns.specs.contracts.Rounds.{anyBelow}
-use Rattle.patterns.proofs.Tests.{either, any-below, below-any}
+use Rattle.patterns.proofs.Tests.{any-below, below-any}
+use Rattle.sets.proofs.Booleans.{either}
 use Rattle.patterns.proofs.Lawful.{root-lawful}
 use Rattle.patterns.proofs.Reaching.{yields-exact}
 use Rattle.pattern_sets.specs.contracts.PatternSets.{holds, IsEmpty}

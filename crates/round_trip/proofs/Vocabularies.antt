@@ -9,6 +9,7 @@ use lib.ListN.{length, length-append}
 use lib.Seq.{append-snoc}
 use lib.Dec.{leb, eqb}
 use borrow.Author.Tests.{eqb-true, le-leb, lt-ltb, ne-eqb}
+use Rattle.sets.proofs.Booleans.{or-neither}
 use Rattle.commands.specs.declared.Context.{Context}
 use Rattle.commands.specs.declared.Context.the-variants.{Rules, Attributes, Contents, Formulas}
 use Rattle.commands.specs.declared.Decoded.the-variants.{Moved}
@@ -19,7 +20,7 @@ use Rattle.vocabularies.specs.VocabularyReading.{ruleBody, formula, rising, cla
 use Rattle.vocabularies.specs.Facts.{factsOf}
 use Rattle.round_trip.specs.Written.{highest-first, written-formula, written-numbers, written-clauses, written-rules, written-vocabulary}
 use Rattle.round_trip.specs.InRange.{Rising, Distinct, connective-depth, NamesInRange, ClausesInRange, RuleInRange, RulesInRange, VocabularyInRange, IsElement}
-use Rattle.round_trip.proofs.Once.{NoneOf, none-of-none, either-false, none-after, elements}
+use Rattle.round_trip.proofs.Once.{NoneOf, none-of-none, none-after, elements}
 use Rattle.round_trip.proofs.Rests.{Rest, all, head, byte-at, first, behind, grouped, taken, element-goes, ends-at, reads-alone, reads-set, length-highest-first}
 
 -- A formula is read back, whatever stands behind it.
@@ -158,7 +159,7 @@ not-declared : (gs : List Rule) (d : Rule) (e : ℕ) → declared gs e ≡ false
 unfolding ruleOf
 not-declared [] d e h n = rw n
 not-declared (g ∷ gs) d e h n =
-    let both = either-false (eqb (g .element) e) (declared gs e) (sym (declared-cons g gs e) ∙ h) in
+    let both = or-neither (eqb (g .element) e) (declared gs e) (sym (declared-cons g gs e) ∙ h) in
     rw (both .0) (not-declared gs d e (both .1) n)
 
 -- A declared element is in range.

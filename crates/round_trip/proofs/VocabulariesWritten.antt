@@ -8,6 +8,7 @@ use lib.ListN.{length}
 use lib.Seq.{append-snoc}
 use lib.Dec.{ltb, leb, eqb}
 use borrow.Author.Tests.{ltb-true, leb-true, eqb-true}
+use Rattle.sets.proofs.Booleans.{or-neither}
 use Rattle.commands.specs.declared.Context.{Context}
 use Rattle.commands.specs.declared.Context.the-variants.{Rules, Attributes, Contents, Formulas}
 use Rattle.commands.specs.Commands.{byte, setAt, allowed, operandsOf, operandBytes}
@@ -19,7 +20,7 @@ use Rattle.agreement.proofs.Readings.{Gives, gives, refuses, runs-out, gives-co
 use Rattle.round_trip.specs.Written.{written-formula, written-numbers, written-clauses, written-rules, written-vocabulary}
 use Rattle.round_trip.specs.InRange.{Bytes, Rising, Distinct, IsElement, connective-depth, NamesInRange, ClausesInRange, RuleInRange, RulesInRange, VocabularyInRange}
 use Rattle.round_trip.specs.Exact.{Span, Exactly}
-use Rattle.round_trip.proofs.Once.{NoneOf, none-before, either-false, elements}
+use Rattle.round_trip.proofs.Once.{NoneOf, none-before, elements}
 use Rattle.round_trip.proofs.Spans.{nothing, then, at-byte, alone-written, taken-span, taken-fits, one-of, _or_, done}
 use Rattle.round_trip.proofs.Vocabularies.{written-body, declared-cons}
 use Rattle.round_trip.proofs.Digits.{digits, spelt-small}
@@ -145,9 +146,9 @@ record RulesRead (s : List ℕ) (before : List Rule) (at : ℕ) (D : Vocabulary)
 -- An element that no rule declares, with one more rule, is declared by none before it.
 declared-by-none : (before : List Rule) (r : Rule) (e : ℕ) → declared (before ++ (r ∷ [])) e ≡ false → (declared before e ≡ false) × (eqb (r .element) e ≡ false)
 unfolding ruleOf
-declared-by-none [] r e h = (refl, either-false (eqb (r .element) e) false (sym (declared-cons r [] e) ∙ h) .0)
+declared-by-none [] r e h = (refl, or-neither (eqb (r .element) e) false (sym (declared-cons r [] e) ∙ h) .0)
 declared-by-none (g ∷ gs) r e h =
-    let both = either-false (eqb (g .element) e) (declared (gs ++ (r ∷ [])) e) (sym (declared-cons g (gs ++ (r ∷ [])) e) ∙ h) in
+    let both = or-neither (eqb (g .element) e) (declared (gs ++ (r ∷ [])) e) (sym (declared-cons g (gs ++ (r ∷ [])) e) ∙ h) in
     let rest = declared-by-none gs r e (both .1) in
     (declared-cons g gs e ∙ rw (both .0, rest .0), rest .1)
 

@@ -13,7 +13,7 @@ use Rattle.sets.specs.Sets.{member}
 use Rattle.sets.proofs.Laws.{member-zero}
 use Rattle.vocabularies.specs.Facts.{Fact, present, sameFact}
 use Rattle.patterns.specs.contracts.Patterns.{flagIn}
-use Rattle.patterns.proofs.Tests.{failed}
+use Rattle.sets.proofs.Booleans.{refuted}
 use Rattle.patterns.proofs.Facts.{same-fact, fact-same}
 use Rattle.schemes.specs.contracts.Schemes.{Distinct, placeOf}
 use Rattle.sets.proofs.Laws.{member-head, member-tail}
@@ -84,6 +84,6 @@ same-place fs d f i h = go (ℕ-discrete i (placeOf f fs))
         let q : getD fs i (present 0) ≡ f = ap (λ (k : ℕ). getD fs k (present 0)) e ∙ fact-placed fs f (omega arith) in
         ap (λ (g : Fact). sameFact g f) q ∙ fact-same f ∙ sym (eq-eqb i (placeOf f fs) e)
     go (no n) =
-        failed (sameFact (getD fs i (present 0)) f) (λ s.
+        refuted (sameFact (getD fs i (present 0)) f) (λ s.
         n (sym (ap (λ (g : Fact). placeOf g fs) (sym (same-fact (getD fs i (present 0)) f s)) ∙ place-at fs d i h)))
         ∙ sym (ne-eqb i (placeOf f fs) n)

@@ -5,12 +5,11 @@ use mathlib.Core.List.{List, [], _∷_}
 use mathlib.Core.Bool.{Bool, true, false, cond, _&&_, _||_, and-false, and-comm, or-false, or-comm, false≢true}
 use native.Mathlib.Omega.{arith}
 use lib.ListN.{length, getD, List·getD-eq-default}
-use lib.Bits.{bitAnd, bitOr}
 use lib.Dec.{eqb, ltb, lit<}
 use lib.Pow.{pow-mono, pow-lt, shl-exact}
 use borrow.Author.Tests.{eq-eqb, ne-eqb, ltb-true, ltb-false}
 use Rattle.sets.specs.Sets.{member}
-use Rattle.sets.proofs.Laws.{member-and, member-or, member-zero, member-high, member-single}
+use Rattle.sets.proofs.Laws.{member-zero, member-high, member-single}
 use Rattle.vocabularies.specs.Vocabulary.{isIn}
 use Rattle.vocabularies.specs.Facts.{Fact, present, ordered, valued, sameFact}
 use Rattle.judging.specs.contracts.Judgement.{precedes, holdsValue}
@@ -23,8 +22,8 @@ use Rattle.schemes.specs.declared.Scheme.{Scheme}
 use Rattle.schemes.specs.contracts.Schemes.{placeOf, contentOf, pairPlace, beforeOf, afterOf, Lists, StandsForFacts, StandsFor, of-facts, of-root}
 use Rattle.schemes.specs.contracts.Promises.{PatternOfOne, FirstPlace}
 use Rattle.pattern_sets.specs.contracts.Images.{flagAt, joinedBy, Apart}
-use Rattle.pattern_sets.proofs.Booleans.{or-absent}
-use Rattle.pattern_sets.proofs.Flags.{pattern-below, pattern-bit, pattern-high, pattern-is, pattern-same}
+use Rattle.sets.proofs.Booleans.{or-absent}
+use Rattle.pattern_sets.proofs.Flags.{pattern-below, pattern-bit, pattern-high, pattern-same}
 use Rattle.schemes.proofs.Numbers.{numbered-is}
 use Rattle.schemes.proofs.FactPlaces.{flag-placed, fact-placed, place-le, place-at, same-place}
 

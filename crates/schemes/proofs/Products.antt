@@ -11,7 +11,8 @@ use Rattle.patterns.specs.contracts.Patterns.{join}
 use Rattle.patterns.specs.contracts.Morphisms as Morphisms
 use Rattle.patterns.specs.contracts.Morphisms.{factMorphism, joinClasses}
 use Rattle.patterns.specs.contracts.Rounds.{Set, only, anyBelow, product}
-use Rattle.patterns.proofs.Tests.{and-both, and-left, and-right, same-test, failed, any-below, below-any}
+use Rattle.patterns.proofs.Tests.{any-below, below-any}
+use Rattle.sets.proofs.Booleans.{and-both, and-left, and-right, alike, refuted}
 use Rattle.schemes.specs.declared.Scheme.{Scheme}
 use Rattle.pattern_sets.specs.contracts.PatternSets.{holds, Same}
 use Rattle.pattern_sets.specs.contracts.Images.{joinedBy, Apart, Joined}
@@ -36,8 +37,8 @@ module _ {r : Scheme} {R : Morphisms.Morphism} (reads : StandsFor r R) (a b : Li
 
   pub joined-product : (words : List ℕ) → Joined (R .op) a b words → Is R words (product R A B)
   joined-product words joined = record {
-    inside = λ z h. same-test (holds words z) (product R A B z) (λ e. into z (joined .sound z e)) (out z);
-    outside = λ z h. failed (holds words z) (λ e. too-large z h (joined .sound z e));
+    inside = λ z h. alike (holds words z) (product R A B z) (λ e. into z (joined .sound z e)) (out z);
+    outside = λ z h. refuted (holds words z) (λ e. too-large z h (joined .sound z e));
   }
     where
       into : (z : ℕ) → (x : ℕ) × (y : ℕ) × (holds a x ≡ true) × (holds b y ≡ true) × (R .op x y ≡ z) → product R A B z ≡ true
@@ -45,9 +46,9 @@ module _ {r : Scheme} {R : Morphisms.Morphism} (reads : StandsFor r R) (a b : Li
           let p : x < R .size = below-left x h in
           let q : y < R .size = below-right y k in
           any-below (R .size) (λ x. A x && anyBelow (R .size) (λ y. B y && eqb z (R .op x y))) x p
-          (and-both (sym (is-a .inside x p) ∙ h)
+          (and-both _ _ (sym (is-a .inside x p) ∙ h)
           (any-below (R .size) (λ y. B y && eqb z (R .op x y)) y q
-          (and-both (sym (is-b .inside y q) ∙ k) (eq-eqb z (R .op x y) (sym e)))))
+          (and-both _ _ (sym (is-b .inside y q) ∙ k) (eq-eqb z (R .op x y) (sym e)))))
 
       out : (z : ℕ) → product R A B z ≡ true → holds words z ≡ true
       out z e =

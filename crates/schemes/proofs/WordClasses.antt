@@ -10,7 +10,7 @@ use lib.ListN.{length}
 use lib.Dec.{eqb, ltb}
 use borrow.Author.Tests.{ne-eqb, eqb-true, ltb-true, ltb-false}
 use Rattle.patterns.specs.contracts.Morphisms.{joinClasses}
-use Rattle.patterns.proofs.Tests.{or-left, or-right, or-cases, and-both, and-left, and-right}
+use Rattle.sets.proofs.Booleans.{or-left, or-right, or-cases, and-both, and-left, and-right}
 use Rattle.pattern_sets.specs.contracts.PatternSets.{holds, First}
 use Rattle.pattern_sets.specs.contracts.Images.{Joined}
 use Rattle.pattern_sets.proofs.Laws.{held-small}
@@ -69,12 +69,12 @@ module _ (a b right left both sides words : List ℕ) (has-a has-b more : Bool) 
   complete : (x y : ℕ) → holds a x ≡ true → holds b y ≡ true → Dec (x ≡ 0) → Dec (y ≡ 0) → holds words (joinClasses x y) ≡ true
   complete x y h k (yes p) q =
       let e : joinClasses x y ≡ y = ap (λ (v : ℕ). joinClasses v y) p in
-      rw e (in-right y (er y ∙ and-both (ea ∙ ap (holds a) (sym p) ∙ h) k))
+      rw e (in-right y (er y ∙ and-both _ _ (ea ∙ ap (holds a) (sym p) ∙ h) k))
   complete x y h k (no n) (yes q) =
       let e : joinClasses x y ≡ x = ap (joinClasses x) q ∙ right-empty x in
-      rw e (in-left x (el x ∙ and-both (eb ∙ ap (holds b) (sym q) ∙ k) h))
+      rw e (in-left x (el x ∙ and-both _ _ (eb ∙ ap (holds b) (sym q) ∙ k) h))
   complete x y h k (no n) (no m) =
-      rw (none-empty x y n m) (in-both 2 (eo 2 ∙ and-both (have-more more em x y h k n m) refl))
+      rw (none-empty x y n m) (in-both 2 (eo 2 ∙ and-both _ _ (have-more more em x y h k n m) refl))
 
   from-both : (t : Bool) → BothHaveMore a b t → (z : ℕ) → t ≡ true → z ≡ 2 → (x : ℕ) × (y : ℕ) × (holds a x ≡ true) × (holds b y ≡ true) × (joinClasses x y ≡ z)
   from-both true ((x, h, n), (y, k, m)) z e q = (x, y, h, k, none-empty x y n m ∙ sym q)

@@ -45,7 +45,7 @@ trailing-skips (suc k) n x h = go (trailing-skips k (n / 2)) (n % 2) refl x h
     go skips zero e (suc x) l = member-tail n x ∙ skips x (omega arith)
     go skips (suc d) e x l = absurd (omega arith)
 
-no-members : (n : ℕ) → n < 2 ^ 64 → ((k : ℕ) → k < 64 → member n k ≡ false) → n ≡ 0
+pub no-members : (n : ℕ) → n < 2 ^ 64 → ((k : ℕ) → k < 64 → member n k ≡ false) → n ≡ 0
 no-members n b none = same-members 64 n 0 b (lit< tt) (λ k h. none k h ∙ sym (member-zero k))
 
 -- A word that is not zero has a member below 64.

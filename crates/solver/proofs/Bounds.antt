@@ -11,22 +11,22 @@ use borrow.Author.Tests.{eqb-true, lt-ltb, ltb-true, ltb-false}
 use Rattle.pages.specs.Items.{Items, none}
 use Rattle.pages.specs.contracts.Gaps.{GapsAre, GapsTable}
 use Rattle.pages.proofs.Gathering.{no-gaps}
-use Rattle.programs.specs.Program.{Act, Statement, step, stop, statementAt, Variable, templateVariable, stringVariable}
-use Rattle.programs.specs.ProgramReading.{actTemplatesThere, pointsThere}
+use Rattle.programs.specs.Program.{Act, Statement, step, stop, statementAt, templateVariable, stringVariable}
+use Rattle.programs.specs.ProgramReading.{actTemplatesThere}
 use Rattle.programs.specs.contracts.Promises.{ActFits, statementHere}
 use Rattle.programs.proofs.Decoding.{statement-fits}
 use Rattle.summaries.specs.Proposal.{Claim, root, edge, string, gapFrom, attributeGapFrom}
 use Rattle.summaries.specs.ProposalReading.{variableOf}
-use Rattle.summaries.specs.Summaries.{Summary, Environment, fragment, plugSummary, plugStringSummary, transfer}
-use Rattle.summaries.specs.Covering.{WithinAt, startEnvironment, StepCovered}
+use Rattle.summaries.specs.Summaries.{Summary, fragment, plugSummary, plugStringSummary, transfer}
+use Rattle.summaries.specs.Covering.{WithinAt, startEnvironment}
 use Rattle.jobs.specs.Job.{Script}
-use Rattle.jobs.specs.JobVerdict.{AllCovered, StepHolds, StatementHolds}
+use Rattle.jobs.specs.JobVerdict.{AllCovered, StatementHolds}
 use Rattle.jobs.specs.contracts.ScriptTables.{ScriptTables}
 use Rattle.transfers.specs.declared.Made.{Made}
 use Rattle.transfers.specs.declared.Made.the-variants.{Value, Template, Plugged, Filled}
 use Rattle.transfers.specs.contracts.Ways.{madeBy, summaryMade, MadeFits, MadeThere}
 use Rattle.transfers.proofs.Transfers.{made-is, made-fits, made-there}
-use Rattle.graphs.proofs.Tests.{or-cases, and-both, and-left, and-right}
+use Rattle.sets.proofs.Booleans.{or-cases, and-both, and-left, and-right}
 use Rattle.covering.proofs.Whole.{past-stops}
 use Rattle.solver.specs.contracts.Work.{inside, everything}
 

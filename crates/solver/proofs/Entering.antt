@@ -1,10 +1,10 @@
 -- An entry of the work area gets more: what the entries of all points are then.
 use Prim.Native.Nat.{ℕ, _<_}
-use mathlib.Core.Path.{_≡_, refl, sym, _∙_}
+use mathlib.Core.Path.{_≡_, refl, sym, ap, _∙_}
 use mathlib.Core.List.{List}
 use mathlib.Core.Logic.{_⊎_, inl, inr}
 use mathlib.Core.Bool.{Bool, true, false, _&&_, _||_, false≢true}
-use lib.Dec.{eqb, ltb}
+use lib.Dec.{eqb}
 use borrow.Author.Tests.{eqb-true, eqb-false}
 use Rattle.strings.specs.declared.Values.{Values}
 use Rattle.strings.specs.contracts.Promises.{holdsValue}
@@ -13,7 +13,7 @@ use Rattle.summaries.specs.Proposal.{Claim}
 use Rattle.summaries.specs.Summaries.{Summary, Environment, Within}
 use Rattle.summaries.specs.Covering.{WithinAt}
 use Rattle.graphs.specs.contracts.Graphs.{holds, Keeps}
-use Rattle.graphs.proofs.Tests.{or-left, or-right, or-cases, and-left, and-right, refuted}
+use Rattle.sets.proofs.Booleans.{or-left, or-right, or-cases, refuted}
 use Rattle.states.specs.contracts.States.{inWords, entriesIn}
 use Rattle.states.specs.contracts.Promises.{GraphJoined, ValuesJoined}
 use Rattle.states.proofs.Entries.{words-in}
@@ -52,15 +52,15 @@ module _ (E E′ : ℕ → Environment) (p x : ℕ) (G : Environment) where
     ]
 
     pub template-joins : Joins E E′ p (templateVariable x) G
-    template-joins = record { grows = up; elsewhere = down; made = λ c e. here c ∙ or-right (E p .template x c) _ e; least = least }
+    template-joins = record { grows = up; others = kept; made = λ c e. here c ∙ or-right (E p .template x c) _ e; least = least }
       where
         up : (q : ℕ) → Below (E q) (E′ q)
         up q (templateVariable z) = template-up q z
         up q (stringVariable y) = λ s e. strings q y s ∙ e
 
-        down : (q : ℕ) → (q ≡ p → ⊥) → Below (E′ q) (E q)
-        down q n (templateVariable z) = λ c e. sym (others q z (λ b. n (b .0)) c) ∙ e
-        down q n (stringVariable y) = λ s e. sym (strings q y s) ∙ e
+        kept : (q : ℕ) (w : Variable) → ((q ≡ p) × (w ≡ templateVariable x) → ⊥) → WithinAt w (E′ q) (E q)
+        kept q (templateVariable z) n = λ c e. sym (others q z (λ b. n (b .0, ap templateVariable (b .1))) c) ∙ e
+        kept q (stringVariable y) n = λ s e. sym (strings q y s) ∙ e
 
         least : (F : ℕ → Environment) → ((q : ℕ) → Below (E q) (F q)) → WithinAt (templateVariable x) G (F p) → (q : ℕ) → Below (E′ q) (F q)
         least F b g q (templateVariable z) = template-least F b g q z
@@ -85,25 +85,21 @@ module _ (E E′ : ℕ → Environment) (p x : ℕ) (G : Environment) where
     ]
 
     pub string-joins : Joins E E′ p (stringVariable x) G
-    string-joins = record { grows = up; elsewhere = down; made = λ s e. here s ∙ or-right (E p .string x s) _ e; least = least }
+    string-joins = record { grows = up; others = kept; made = λ s e. here s ∙ or-right (E p .string x s) _ e; least = least }
       where
         up : (q : ℕ) → Below (E q) (E′ q)
         up q (templateVariable y) = λ c e. templates q y c ∙ e
         up q (stringVariable z) = string-up q z
 
-        down : (q : ℕ) → (q ≡ p → ⊥) → Below (E′ q) (E q)
-        down q n (templateVariable y) = λ c e. sym (templates q y c) ∙ e
-        down q n (stringVariable z) = λ s e. sym (others q z (λ b. n (b .0)) s) ∙ e
+        kept : (q : ℕ) (w : Variable) → ((q ≡ p) × (w ≡ stringVariable x) → ⊥) → WithinAt w (E′ q) (E q)
+        kept q (templateVariable y) n = λ c e. sym (templates q y c) ∙ e
+        kept q (stringVariable z) n = λ s e. sym (others q z (λ b. n (b .0, ap stringVariable (b .1))) s) ∙ e
 
         least : (F : ℕ → Environment) → ((q : ℕ) → Below (E q) (F q)) → WithinAt (stringVariable x) G (F p) → (q : ℕ) → Below (E′ q) (F q)
         least F b g q (templateVariable y) = λ c e. b q (templateVariable y) c (sym (templates q y c) ∙ e)
         least F b g q (stringVariable z) = string-least F b g q z
 
 -- ---- joined in the work area
-
-pub entry-has-words : (points : ℕ) (work : List ℕ) (p x : ℕ) (c : Claim) → entriesIn points work p .template x c ≡ true → inWords c ≡ true
-unfolding entriesIn
-entry-has-words points work p x c e = and-left _ _ (and-right (ltb p points && ltb x 4) _ e)
 
 -- What a graph holds, where all of it has words.
 pub graph-said : (made : List ℕ) (S : Summary) → Keeps made S → ((c : Claim) → S c ≡ true → inWords c ≡ true) → (c : Claim) → (inWords c && holds made c) ≡ S c

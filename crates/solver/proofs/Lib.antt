@@ -1,3 +1,5 @@
+pub mod Sources
+pub mod Variables
 pub mod Worklist
 pub mod MadeGraphs
 pub mod Entering
@@ -6,4 +8,5 @@ pub mod Flowing
 pub mod Bounds
 pub mod Points
 pub mod Starting
+pub mod Sweeping
 pub mod Solving

@@ -1,13 +1,14 @@
 -- The start is put at point 0, at one variable after the other.
 use Prim.Native.Nat.{ℕ, _+_, _-_, _≤_, _<_}
-use mathlib.Core.Path.{_≡_, refl, sym, _∙_}
+use mathlib.Core.Path.{_≡_, refl, sym, ap, _∙_}
 use mathlib.Core.List.{List}
-use mathlib.Core.Bool.{Bool, true, false, _&&_, _||_, and-false, false≢true}
+use mathlib.Core.Bool.{Bool, true, false, cond, _&&_, and-false, false≢true}
 use native.Mathlib.Omega.{arith}
+use lib.ListN.{length, getD, set, replicate}
+use lib.Seq.{getD-set-same, getD-set-other}
 use lib.Dec.{eqb, ltb}
-use borrow.Author.Tests.{eqb-true, eqb-false, lt-ltb, le-ltb, ltb-true, ltb-false}
+use borrow.Author.Tests.{lt-ltb, le-ltb, ltb-true, ltb-false}
 use Rattle.sets.specs.Sets.{member}
-use Rattle.sets.proofs.Laws.{member-zero}
 use Rattle.strings.specs.declared.Values.{Values}
 use Rattle.strings.specs.contracts.Promises.{holdsValue}
 use Rattle.pages.specs.Items.{Items, none}
@@ -15,17 +16,15 @@ use Rattle.pages.specs.contracts.Gaps.{GapsAre}
 use Rattle.pages.proofs.Gathering.{no-gaps}
 use Rattle.programs.specs.Program.{templateVariable}
 use Rattle.summaries.specs.ProposalReading.{variableOf}
-use Rattle.summaries.specs.Summaries.{Environment, fragment}
+use Rattle.summaries.specs.Summaries.{fragment}
 use Rattle.summaries.specs.Covering.{startEnvironment}
-use Rattle.jobs.specs.Job.{Script}
-use Rattle.jobs.specs.contracts.ScriptTables.{NamesAre}
+use Rattle.summaries.proofs.Laws.{zeros}
 use Rattle.graphs.specs.contracts.Graphs.{Keeps}
 use Rattle.states.specs.contracts.States.{entriesIn}
 use Rattle.states.specs.contracts.Promises.{GraphJoined, ValuesJoined}
-use Rattle.least_entries.specs.contracts.Order.{Below}
 use Rattle.solver.specs.contracts.Flows.{Starts}
-use Rattle.solver.specs.contracts.Work.{HasWords, VariableStarts, NamedStarts, Started}
-use Rattle.solver.proofs.Worklist.{starts-from, starts-past, starts-on}
+use Rattle.solver.specs.contracts.Work.{HasWords, allVariables, FirstWaiting, VariableStarts, NamedStarts, Started}
+use Rattle.solver.proofs.Worklist.{same-or-not, lower, starts-from, starts-past, starts-on}
 use Rattle.solver.proofs.Entering.{graph-said, template-entered, string-entered}
 use Rattle.solver.proofs.Flowing.{has-words}
 use Rattle.solver.proofs.Bounds.{start-inside}
@@ -56,30 +55,65 @@ starting-goes names v before work after low S N π points some A nothing = go (m
     go true e = starts-on π (entriesIn points work) v (S π points some A nothing) (entriesIn points after) (sym (A v low) ∙ e) low (N .starts e points some)
     go false e = rw (N .left e) (starts-past π (entriesIn points work) v (S π points some A nothing) (sym (A v low) ∙ e))
 
--- The points below the loop's, of those that there are.
+-- At the points below the loop's, of those that there are, all variables wait.
 module _ (points : ℕ) where
-  abbrev pub PointsTo : ℕ → ℕ → Type 0
-  PointsTo k set = (q : ℕ) → member set q ≡ (ltb q k && ltb q points)
+  abbrev pub WaitingTo : ℕ → List ℕ → Type 0
+  WaitingTo k waiting = (q : ℕ) → getD waiting q 0 ≡ cond (ltb q k && ltb q points) allVariables 0
 
-  pub points-begin : PointsTo 0 0
-  points-begin q = rw (le-ltb q 0 (omega arith)) (member-zero q)
+  pub waiting-begins : (waiting : List ℕ) → waiting ≡ replicate 32 0 → WaitingTo 0 waiting
+  waiting-begins waiting is q = rw (is, le-ltb q 0 (omega arith)) (zeros 32 q)
 
-  pub points-go : (k set more : ℕ) → PointsTo k set → ((q : ℕ) → member more q ≡ ((eqb q k && ltb k points) || member set q)) → PointsTo (k + 1) more
-  points-go k set more to is q = is q ∙ rw (to q) (go (eqb q k) refl (ltb q k) refl)
-    where
-      go : (t : Bool) → eqb q k ≡ t → (u : Bool) → ltb q k ≡ u → ((t && ltb k points) || (u && ltb q points)) ≡ (ltb q (k + 1) && ltb q points)
-      go true e true f = let a = eqb-true q k e in let b = ltb-true q k f in absurd (omega arith)
-      go true e false f = let a : q ≡ k = eqb-true q k e in rw (lt-ltb q (k + 1) (omega arith), a) (or-none (ltb k points))
-        where
-          or-none : (b : Bool) → (b || false) ≡ b
-          or-none true = refl
-          or-none false = refl
-      go false e true f = let b = ltb-true q k f in rw (lt-ltb q (k + 1) (omega arith))
-      go false e false f = let a = eqb-false q k e in let b = ltb-false q k f in rw (le-ltb q (k + 1) (omega arith))
+  module _ (k : ℕ) (waiting : List ℕ) (to : WaitingTo k waiting) where
+    -- The others are as they were.
+    others-go : (q : ℕ) → (q ≡ k → ⊥) → getD waiting q 0 ≡ cond (ltb q (k + 1) && ltb q points) allVariables 0
+    others-go q d = to q ∙ ap (λ (t : Bool). cond (t && ltb q points) allVariables 0) (go (ltb q k) refl)
+      where
+        go : (t : Bool) → ltb q k ≡ t → t ≡ ltb q (k + 1)
+        go true e = let b = ltb-true q k e in sym (lt-ltb q (k + 1) (omega arith))
+        go false e = let b = ltb-false q k e in sym (le-ltb q (k + 1) (past b d))
+          where
+            past : k ≤ q → (q ≡ k → ⊥) → k + 1 ≤ q
+            past l n = omega arith
 
-  pub points-end : (k set : ℕ) → 32 ≤ k → PointsTo k set → points ≤ 32 → (q : ℕ) → member set q ≡ ltb q points
-  points-end k set l to few q = to q ∙ go (ltb q points) refl
-    where
-      go : (t : Bool) → ltb q points ≡ t → (ltb q k && t) ≡ t
-      go true e = let a = ltb-true q points e in rw (lt-ltb q k (omega arith))
-      go false e = and-false (ltb q k)
+    pub waiting-goes : k < points → k < length waiting → WaitingTo (k + 1) (set waiting k allVariables)
+    waiting-goes l low q = go (same-or-not q k)
+      where
+        go : Dec (q ≡ k) → getD (set waiting k allVariables) q 0 ≡ cond (ltb q (k + 1) && ltb q points) allVariables 0
+        go (yes e) = rw (e, lt-ltb k (k + 1) (omega arith), lt-ltb k points l) (getD-set-same waiting k allVariables 0 low)
+        go (no d) = getD-set-other waiting k q allVariables 0 d ∙ others-go q d
+
+    pub waiting-stays : points ≤ k → WaitingTo (k + 1) waiting
+    waiting-stays l q = go (same-or-not q k)
+      where
+        go : Dec (q ≡ k) → getD waiting q 0 ≡ cond (ltb q (k + 1) && ltb q points) allVariables 0
+        go (yes e) = to q ∙ rw (e, le-ltb k points l, and-false (ltb k k), and-false (ltb k (k + 1)))
+        go (no d) = others-go q d
+
+    pub waiting-ends : 32 ≤ k → points ≤ 32 → (q : ℕ) → getD waiting q 0 ≡ cond (ltb q points) allVariables 0
+    waiting-ends l few q = to q ∙ ap (λ (t : Bool). cond t allVariables 0) (go (ltb q points) refl)
+      where
+        go : (t : Bool) → ltb q points ≡ t → (ltb q k && t) ≡ t
+        go true e = let a = ltb-true q points e in rw (lt-ltb q k (omega arith))
+        go false e = and-false (ltb q k)
+
+-- At the points below the loop's nothing waits.
+module _ (waiting : List ℕ) where
+  abbrev pub Skips : ℕ → Type 0
+  Skips p = (q : ℕ) → q < p → getD waiting q 0 ≡ 0
+
+  pub skips-begin : Skips 0
+  skips-begin q l = absurd (omega arith)
+
+  module _ (p : ℕ) (skips : Skips p) where
+    pub skips-go : getD waiting p 0 ≡ 0 → Skips (p + 1)
+    skips-go e q l = go (same-or-not q p)
+      where
+        go : Dec (q ≡ p) → getD waiting q 0 ≡ 0
+        go (yes s) = rw s e
+        go (no d) = skips q (lower q p l d)
+
+    pub found-waiting : (getD waiting p 0 ≡ 0 → ⊥) → FirstWaiting waiting p
+    found-waiting n = record { waits = λ l. n; skips = skips }
+
+    pub none-waiting : 32 ≤ p → FirstWaiting waiting p
+    none-waiting l = record { waits = λ low. absurd (omega arith); skips = skips }

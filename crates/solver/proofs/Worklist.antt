@@ -1,21 +1,23 @@
--- Entries that grow by the steps of waiting points become the least ones.
+-- Entries that grow by the steps of points where variables wait become the least ones.
 use Prim.Native.Nat.{ℕ, _+_, _≤_, _<_}
 use native.Mathlib.Omega.{arith}
 use native.Mathlib.Decide.{decLe}
-use mathlib.Core.Path.{_≡_, refl, sym, _∙_, subst}
+use mathlib.Core.Path.{_≡_, refl, sym, _∙_}
 use mathlib.Core.Logic.{_⊎_, inl, inr}
-use mathlib.Core.Bool.{Bool, true, false, cond, _||_, false≢true}
-use Rattle.sets.specs.Sets.{member}
+use mathlib.Core.Bool.{Bool, true, false, cond, false≢true}
+use Rattle.sets.proofs.Booleans.{or-neither}
 use Rattle.programs.specs.Program.{Act, Statement, step, stop, statementAt, Variable, templateVariable, stringVariable, named}
 use Rattle.summaries.specs.ProposalReading.{variableOf}
 use Rattle.summaries.specs.Summaries.{Environment, transfer}
-use Rattle.summaries.specs.Covering.{WithinAt, startEnvironment, StepCovered}
+use Rattle.summaries.specs.Covering.{WithinAt, startEnvironment}
 use Rattle.jobs.specs.Job.{Script}
-use Rattle.jobs.specs.JobVerdict.{AllCovered, StartHolds, StatementHolds, StepHolds}
+use Rattle.jobs.specs.JobVerdict.{AllCovered, StartHolds, StatementHolds}
 use Rattle.jobs.specs.LeastEntries.{Least}
 use Rattle.least_entries.specs.contracts.Order.{Below}
 use Rattle.least_entries.proofs.Monotone.{transfer-grows, below-refl, below-trans}
-use Rattle.solver.specs.contracts.Flows.{BelowAll, Leads, Joins, Starts, Flows, Settling}
+use Rattle.transfers.specs.contracts.Ways.{actSources, meets}
+use Rattle.solver.specs.contracts.Flows.{BelowAll, Leads, Joins, Starts, Passed, Flows, madeFrom, Takes, Settling}
+use Rattle.solver.proofs.Sources.{transfer-from}
 
 -- At one variable.
 pub within-trans : (v : Variable) (E F G : Environment) → WithinAt v E F → WithinAt v F G → WithinAt v E G
@@ -30,86 +32,66 @@ same-or-not m n = go (decLe m n) (decLe n m)
     go (yes h) (no k) = no (λ e. k (omega arith))
     go (no h) d = no (λ e. h (omega arith))
 
-lower : (w v : ℕ) → w < v + 1 → (w ≡ v → ⊥) → w < v
+pub lower : (w v : ℕ) → w < v + 1 → (w ≡ v → ⊥) → w < v
 lower w v l d = go (decLe v w)
   where
     go : Dec (v ≤ w) → w < v
     go (yes h) = absurd (d (omega arith))
     go (no h) = omega arith
 
-pub or-neither : (a b : Bool) → (a || b) ≡ false → (a ≡ false) × (b ≡ false)
-or-neither true b e = absurd (false≢true (sym e))
-or-neither false b e = (refl, e)
-
 module _ (π : Script) (p : ℕ) (a : Act) (next : ℕ) where
   abbrev Made : (ℕ → Environment) → Environment
   Made E = transfer (π .templates) a (E p)
 
-  abbrev Covered : (ℕ → Environment) → Variable → Type 0
-  Covered E v = StepCovered (π .templates) (π .program) E p a next v
-
   -- A step that F covers.
-  pub covered-by : Leads π p a next → (F : ℕ → Environment) → AllCovered π F → (v : ℕ) → v < 8 → Covered F (variableOf v)
+  pub covered-by : Leads π p a next → (F : ℕ → Environment) → AllCovered π F → (v : ℕ) → v < 8 → Passed π (F p) a (F next) v
   covered-by l F c v low n = go (l .either)
     where
       go : (next ≡ l .first) ⊎ (next ≡ l .second) → WithinAt (variableOf v) (Made F) (F next)
       go (inl e) = rw e (rw (l .is) at (c .steps p false v low) n)
       go (inr e) = rw e (rw (l .is) at (c .steps p true v low) n)
 
-  -- A step stays covered where its point has not changed and its next point has only grown.
-  pub stays-covered : (E E′ : ℕ → Environment) → Below (E′ p) (E p) → Below (E next) (E′ next) → (v : Variable) → Covered E v → Covered E′ v
-  stays-covered E E′ same grown v c n =
-      within-trans v (Made E′) (E next) (E′ next) (within-trans v (Made E′) (Made E) (E next) (transfer-grows (π .templates) (E′ p) (E p) same a v) (c n)) (grown v)
-
-  pub flows-from : (E : ℕ → Environment) → Flows π 0 E E p a next false
-  flows-from E = record {
+  pub flows-from : (E : ℕ → Environment) (fresh changed : Variable → Bool) → Flows π 0 E E p a next fresh changed
+  flows-from E fresh changed = record {
     grows = λ q. below-refl (E q);
-    elsewhere = λ q n. below-refl (E q);
-    same = λ e q. below-refl (E q);
+    others = λ q w d. below-refl (E q) w;
     below = λ l b. b;
-    covers = λ h w l. absurd (omega arith);
+    passes = λ w l. absurd (omega arith);
   }
 
-  module _ (E₀ E : ℕ → Environment) (changed : Bool) (v : ℕ) (f : Flows π v E₀ E p a next changed) where
-    -- A variable that no statement names is not looked at.
-    pub flows-past : named (π .program) (variableOf v) ≡ false → Flows π (v + 1) E₀ E p a next changed
-    flows-past n = record {
-      grows = f .grows;
-      elsewhere = f .elsewhere;
-      same = f .same;
-      below = f .below;
-      covers = λ h w l. go h w l (same-or-not w v);
-    }
+  module _ (E₀ E : ℕ → Environment) (fresh changed changed′ : Variable → Bool) (v : ℕ) (f : Flows π v E₀ E p a next fresh changed)
+      (more : (w : Variable) → changed w ≡ true → changed′ w ≡ true) where
+    so-far : (q : ℕ) (w : Variable) → ((q ≡ next) × (changed′ w ≡ true) → ⊥) → WithinAt w (E q) (E₀ q)
+    so-far q w d = f .others q w (λ b. d (b .0, more w (b .1)))
+
+    -- A variable that no statement names, or that the act makes from no fresh one, is not looked at.
+    pub flows-past : (named (π .program) (variableOf v) ≡ true → meets fresh (actSources a (variableOf v)) ≡ true → ⊥) → Flows π (v + 1) E₀ E p a next fresh changed′
+    flows-past n = record { grows = f .grows; others = so-far; below = f .below; passes = λ w l. go w l (same-or-not w v) }
       where
-        go : (next ≡ p → changed ≡ false) → (w : ℕ) → w < v + 1 → Dec (w ≡ v) → Covered E (variableOf w)
-        go h w l (yes e) = λ m. absurd (false≢true (sym n ∙ (rw e at m)))
-        go h w l (no d) = f .covers h w (lower w v l d)
+        go : (w : ℕ) → w < v + 1 → Dec (w ≡ v) → meets fresh (actSources a (variableOf w)) ≡ true → Passed π (E₀ p) a (E next) w
+        go w l (yes e) = rw e (λ m k. absurd (n k m))
+        go w l (no d) = f .passes w (lower w v l d)
 
-    module _ (E′ : ℕ → Environment) (changed′ : Bool) (n : named (π .program) (variableOf v) ≡ true) (low : v < 8) (j : Joins E E′ next (variableOf v) (Made E))
-        (kept : changed′ ≡ false → (q : ℕ) → Below (E′ q) (E q)) where
-      source : (next ≡ p → changed′ ≡ false) → Below (E′ p) (E p)
-      source h = go (same-or-not p next)
-        where
-          go : Dec (p ≡ next) → Below (E′ p) (E p)
-          go (yes e) = kept (h (sym e)) p
-          go (no d) = j .elsewhere p d
+    module _ (E′ : ℕ → Environment) (n : named (π .program) (variableOf v) ≡ true) (low : v < 8) (j : Joins E E′ next (variableOf v) (Made E))
+        (kept : changed′ (variableOf v) ≡ false → (q : ℕ) → Below (E′ q) (E q)) where
+      joined : (q : ℕ) (w : Variable) → ((q ≡ next) × (changed′ w ≡ true) → ⊥) → (t : Bool) → changed′ (variableOf v) ≡ t → WithinAt w (E′ q) (E q)
+      joined q w d true e = j .others q w (λ b. d (b .0, rw (b .1) e))
+      joined q w d false e = kept e q w
 
-      both : (next ≡ p → (changed || changed′) ≡ false) → (w : ℕ) → w < v + 1 → Dec (w ≡ v) → Covered E′ (variableOf w)
-      both h w l (yes e) = rw e (λ m. within-trans (variableOf v) (Made E′) (Made E) (E′ next)
-          (transfer-grows (π .templates) (E′ p) (E p) (source (λ s. or-neither changed changed′ (h s) .1)) a (variableOf v)) (j .made))
-      both h w l (no d) = stays-covered E E′ (source (λ s. or-neither changed changed′ (h s) .1)) (j .grows next) (variableOf w)
-          (f .covers (λ s. or-neither changed changed′ (h s) .0) w (lower w v l d))
+      passed : (w : ℕ) → w < v + 1 → Dec (w ≡ v) → meets fresh (actSources a (variableOf w)) ≡ true → Passed π (E₀ p) a (E′ next) w
+      passed w l (yes e) m = rw e (λ k. within-trans (variableOf v) (Made E₀) (Made E) (E′ next)
+          (transfer-grows (π .templates) (E₀ p) (E p) (f .grows p) a (variableOf v)) (j .made))
+      passed w l (no d) m = λ k. within-trans (variableOf w) (Made E₀) (E next) (E′ next) (f .passes w (lower w v l d) m k) (j .grows next (variableOf w))
 
       -- One that is named gets what the act makes of it.
-      pub flows-on : Flows π (v + 1) E₀ E′ p a next (changed || changed′)
+      pub flows-on : Flows π (v + 1) E₀ E′ p a next fresh changed′
       flows-on = record {
         grows = λ q. below-trans (E₀ q) (E q) (E′ q) (f .grows q) (j .grows q);
-        elsewhere = λ q d. below-trans (E′ q) (E q) (E₀ q) (j .elsewhere q d) (f .elsewhere q d);
-        same = λ e q. below-trans (E′ q) (E q) (E₀ q) (kept (or-neither changed changed′ e .1) q) (f .same (or-neither changed changed′ e .0) q);
+        others = λ q w d. within-trans w (E′ q) (E q) (E₀ q) (joined q w d (changed′ (variableOf v)) refl) (so-far q w d);
         below = λ l b F c. j .least F (f .below l b F c)
             (within-trans (variableOf v) (Made E) (Made F) (F next)
             (transfer-grows (π .templates) (E p) (F p) (f .below l b F c p) a (variableOf v)) (covered-by l F c v low n));
-        covers = λ h w l. both h w l (same-or-not w v);
+        passes = λ w l. passed w l (same-or-not w v);
       }
 
 module _ (π : Script) where
@@ -135,73 +117,96 @@ module _ (π : Script) where
         go w l (yes e) = rw e (λ m. j .made)
         go w l (no d) = λ m. within-trans (variableOf w) startEnvironment (E 0) (E′ 0) (s .holds w (lower w v l d) m) (j .grows 0 (variableOf w))
 
-  -- All points that have a step wait.
-  pub settling-starts : (E : ℕ → Environment) → Starts π 8 E → (waiting : ℕ) → ((p : ℕ) → member waiting p ≡ false → statementAt (π .program) p ≡ stop) → Settling π E waiting
-  settling-starts E s waiting rest = record {
+  -- Where a statement makes each variable from one that waits, there is no step to cover.
+  pub settling-starts : (E : ℕ → Environment) → Starts π 8 E → (waits : ℕ → Variable → Bool)
+      → ((p v : ℕ) → v < 8 → madeFrom (waits p) (statementAt (π .program) p) (variableOf v) ≡ false → statementAt (π .program) p ≡ stop) → Settling π E waits
+  settling-starts E s waits rest = record {
     start = s .holds;
-    steps = λ p n b v l. rw (rest p n) tt;
+    steps = λ p b v l n. rw (rest p v l n) tt;
     below = s .below;
   }
 
-  -- What a statement asks stays so where its point has not changed and the others have only grown.
-  holds-still : (E E′ : ℕ → Environment) (p : ℕ) → Below (E′ p) (E p) → ((q : ℕ) → Below (E q) (E′ q)) → (t : Statement) (b : Bool) (v : ℕ)
-      → StatementHolds π E p t b v → StatementHolds π E′ p t b v
-  holds-still E E′ p same grown (step a q q′) b v h = stays-covered π p a (cond b q′ q) E E′ same (grown (cond b q′ q)) (variableOf v) h
-  holds-still E E′ p same grown stop b v h = tt
+  -- What the statement of a point makes of a variable of one point's entries lies within the next point's.
+  abbrev Stepped : Environment → (ℕ → Environment) → Statement → Bool → ℕ → Type 0
+  Stepped D E (step a q q′) b v = Passed π D a (E (cond b q′ q)) v
+  Stepped D E stop b v = Unit {0}
 
-  -- A point whose step is taken waits no longer; those that changed wait.
-  module _ (E E₁ E₂ : ℕ → Environment) (waiting waiting′ p : ℕ) (s : Settling π E waiting) where
-    pub settles-stop : statementAt (π .program) p ≡ stop → ((q : ℕ) → member waiting′ q ≡ false → (q ≡ p → ⊥) → member waiting q ≡ false) → Settling π E waiting′
-    settles-stop is fewer = record {
-      start = s .start;
-      steps = λ q n. go q n (same-or-not q p);
-      below = s .below;
+  holds-stepped : (E E′ : ℕ → Environment) (p : ℕ) → ((q : ℕ) → Below (E q) (E′ q)) → (t : Statement) (b : Bool) (v : ℕ) → StatementHolds π E p t b v → Stepped (E p) E′ t b v
+  holds-stepped E E′ p grown (step a q q′) b v h = λ n.
+      within-trans (variableOf v) (transfer (π .templates) a (E p)) (E (cond b q′ q)) (E′ (cond b q′ q)) (h n) (grown (cond b q′ q) (variableOf v))
+  holds-stepped E E′ p grown stop b v h = tt
+
+  -- It is covered where none of the variables that it is made from has changed.
+  stepped-holds : (D : Environment) (E : ℕ → Environment) (p : ℕ) (waits : Variable → Bool) → ((w : Variable) → waits w ≡ false → WithinAt w (E p) D) → (t : Statement) (b : Bool) (v : ℕ)
+      → madeFrom waits t (variableOf v) ≡ false → Stepped D E t b v → StatementHolds π E p t b v
+  stepped-holds D E p waits same (step a q q′) b v m h = λ n.
+      within-trans (variableOf v) (transfer (π .templates) a (E p)) (transfer (π .templates) a D) (E (cond b q′ q)) (transfer-from (π .templates) D (E p) waits same a (variableOf v) m) (h n)
+  stepped-holds D E p waits same stop b v m h = tt
+
+  fewer-from : (waits waits′ : Variable → Bool) → ((w : Variable) → waits′ w ≡ false → waits w ≡ false) → (t : Statement) (v : Variable) → madeFrom waits′ t v ≡ false → madeFrom waits t v ≡ false
+  fewer-from waits waits′ fewer (step a q q′) v m =
+      let n = or-neither (waits′ (actSources a v .0)) (waits′ (actSources a v .1)) m in
+      rw (fewer _ (n .0), fewer _ (n .1))
+  fewer-from waits waits′ fewer stop v m = refl
+
+  -- The steps of a point are taken.
+  module _ (E E′ : ℕ → Environment) (waits waits′ : ℕ → Variable → Bool) (p : ℕ) (s : Settling π E waits) (grown : (q : ℕ) → Below (E q) (E′ q))
+      (fewer : (q : ℕ) (w : Variable) → (q ≡ p → ⊥) → waits′ q w ≡ false → waits q w ≡ false) (same : (q : ℕ) (w : Variable) → waits′ q w ≡ false → WithinAt w (E′ q) (E q))
+      (below : BelowAll π E′)
+      (taken : (b : Bool) (v : ℕ) → v < 8 → madeFrom (waits p) (statementAt (π .program) p) (variableOf v) ≡ true → Stepped (E p) E′ (statementAt (π .program) p) b v) where
+    still : (q : ℕ) (b : Bool) (v : ℕ) → v < 8 → madeFrom (waits q) (statementAt (π .program) q) (variableOf v) ≡ false → Stepped (E q) E′ (statementAt (π .program) q) b v
+    still q b v l m = holds-stepped E E′ q grown (statementAt (π .program) q) b v (s .steps q b v l m)
+
+    stepped : (q : ℕ) → Dec (q ≡ p) → (b : Bool) (v : ℕ) → v < 8 → madeFrom (waits′ q) (statementAt (π .program) q) (variableOf v) ≡ false → Stepped (E q) E′ (statementAt (π .program) q) b v
+    stepped q (yes e) b v l m = rw e (go (madeFrom (waits p) (statementAt (π .program) p) (variableOf v)) refl)
+      where
+        go : (t : Bool) → madeFrom (waits p) (statementAt (π .program) p) (variableOf v) ≡ t → Stepped (E p) E′ (statementAt (π .program) p) b v
+        go true h = taken b v l h
+        go false h = still p b v l h
+    stepped q (no d) b v l m = still q b v l (fewer-from (waits q) (waits′ q) (λ w. fewer q w d) (statementAt (π .program) q) (variableOf v) m)
+
+    settles : Settling π E′ waits′
+    settles = record {
+      start = λ v l m. within-trans (variableOf v) startEnvironment (E 0) (E′ 0) (s .start v l m) (grown 0 (variableOf v));
+      steps = λ q b v l m. stepped-holds (E q) E′ q (waits′ q) (same q) (statementAt (π .program) q) b v m (stepped q (same-or-not q p) b v l m);
+      below = below;
+    }
+
+  module _ (E : ℕ → Environment) (waits cleared : ℕ → Variable → Bool) (p : ℕ) (s : Settling π E waits)
+      (clears : (q : ℕ) (w : Variable) → (q ≡ p → ⊥) → cleared q w ≡ false → waits q w ≡ false) where
+    pub settles-stop : statementAt (π .program) p ≡ stop → Settling π E cleared
+    settles-stop is = settles E E waits cleared p s (λ q. below-refl (E q)) clears (λ q w n. below-refl (E q) w) (s .below) (λ b v l m. rw is tt)
+
+    pub settles-step : (E′ : ℕ → Environment) (waits′ : ℕ → Variable → Bool) (a : Act) (first second : ℕ) → statementAt (π .program) p ≡ step a first second
+        → ((b : Bool) → Takes π E E′ cleared waits′ p a (cond b second first) (waits p)) → Settling π E′ waits′
+    settles-step E′ waits′ a first second is T =
+        settles E E′ waits waits′ p s (T false .grows) (λ q w d n. clears q w d (T false .fewer q w n)) (T false .same) (T false .below (s .below))
+        (λ b v l m. rw is (T b .passes v l (rw is at m)))
+
+  -- A step stays taken when another is taken after it, and that one is taken from before it on.
+  module _ (E E₁ E₂ : ℕ → Environment) (waits waits₁ waits₂ : ℕ → Variable → Bool) (p : ℕ) (a : Act) (k k′ : ℕ) (fresh : Variable → Bool)
+      (T₁ : Takes π E E₁ waits waits₁ p a k fresh) (T₂ : Takes π E₁ E₂ waits₁ waits₂ p a k′ fresh) where
+    pub takes-both : (b : Bool) → Takes π E E₂ waits waits₂ p a (cond b k′ k) fresh
+    takes-both b = record {
+      grows = λ q. below-trans (E q) (E₁ q) (E₂ q) (T₁ .grows q) (T₂ .grows q);
+      fewer = λ q w n. T₁ .fewer q w (T₂ .fewer q w n);
+      same = λ q w n. within-trans w (E₂ q) (E₁ q) (E q) (T₂ .same q w n) (T₁ .same q w (T₂ .fewer q w n));
+      below = λ h. T₂ .below (T₁ .below h);
+      passes = go b;
     }
       where
-        go : (q : ℕ) → member waiting′ q ≡ false → Dec (q ≡ p) → (b : Bool) (v : ℕ) → v < 8 → StepHolds π E q b v
-        go q n (yes e) b v l = rw (e, is) tt
-        go q n (no d) b v l = s .steps q (fewer q n d) b v l
+        go : (b : Bool) (v : ℕ) → v < 8 → meets fresh (actSources a (variableOf v)) ≡ true → Passed π (E p) a (E₂ (cond b k′ k)) v
+        go true v l m n = within-trans (variableOf v) (transfer (π .templates) a (E p)) (transfer (π .templates) a (E₁ p)) (E₂ k′)
+            (transfer-grows (π .templates) (E p) (E₁ p) (T₁ .grows p) a (variableOf v)) (T₂ .passes v l m n)
+        go false v l m n = within-trans (variableOf v) (transfer (π .templates) a (E p)) (E₁ k) (E₂ k) (T₁ .passes v l m n) (T₂ .grows k (variableOf v))
 
-    module _ (a : Act) (first second : ℕ) (c₁ c₂ : Bool) (is : statementAt (π .program) p ≡ step a first second)
-        (f₁ : Flows π 8 E E₁ p a first c₁) (f₂ : Flows π 8 E₁ E₂ p a second c₂)
-        (fewer : (q : ℕ) → member waiting′ q ≡ false → (q ≡ p → ⊥) → member waiting q ≡ false)
-        (first-waits : member waiting′ first ≡ false → c₁ ≡ false) (second-waits : member waiting′ second ≡ false → c₂ ≡ false) where
-      grown : (q : ℕ) → Below (E q) (E₂ q)
-      grown q = below-trans (E q) (E₁ q) (E₂ q) (f₁ .grows q) (f₂ .grows q)
-
-      first-same : (q : ℕ) → member waiting′ q ≡ false → Below (E₁ q) (E q)
-      first-same q n = go (same-or-not q first)
-        where
-          go : Dec (q ≡ first) → Below (E₁ q) (E q)
-          go (yes e) = f₁ .same (first-waits (rw e at n)) q
-          go (no d) = f₁ .elsewhere q d
-
-      second-same : (q : ℕ) → member waiting′ q ≡ false → Below (E₂ q) (E₁ q)
-      second-same q n = go (same-or-not q second)
-        where
-          go : Dec (q ≡ second) → Below (E₂ q) (E₁ q)
-          go (yes e) = f₂ .same (second-waits (rw e at n)) q
-          go (no d) = f₂ .elsewhere q d
-
-      -- The point itself, if it does not wait again.
-      own : member waiting′ p ≡ false → (b : Bool) (v : ℕ) → v < 8 → StatementHolds π E₂ p (step a first second) b v
-      own n true v l = f₂ .covers (λ e. second-waits (rw (← e) at n)) v l
-      own n false v l = stays-covered π p a first E₁ E₂ (second-same p n) (f₂ .grows first) (variableOf v) (f₁ .covers (λ e. first-waits (rw (← e) at n)) v l)
-
-      pub settles-step : Settling π E₂ waiting′
-      settles-step = record {
-        start = λ v l m. within-trans (variableOf v) startEnvironment (E 0) (E₂ 0) (s .start v l m) (grown 0 (variableOf v));
-        steps = λ q n. go q n (same-or-not q p);
-        below = f₂ .below (record { first = first; second = second; is = is; either = inr refl }) (f₁ .below (record { first = first; second = second; is = is; either = inl refl }) (s .below));
-      }
-        where
-          go : (q : ℕ) → member waiting′ q ≡ false → Dec (q ≡ p) → (b : Bool) (v : ℕ) → v < 8 → StepHolds π E₂ q b v
-          go q n (yes e) b v l = rw (e, is) (own (rw e at n) b v l)
-          go q n (no d) b v l = holds-still E E₂ q (below-trans (E₂ q) (E₁ q) (E q) (second-same q n) (first-same q n)) grown (statementAt (π .program) q) b v (s .steps q (fewer q n d) b v l)
-
-  -- When none waits, the entries are the least ones.
-  pub settled : (E : ℕ → Environment) (waiting : ℕ) → Settling π E waiting → ((p : ℕ) → member waiting p ≡ false) → Least π E
-  settled E waiting s none = record {
-    covers = record { start = s .start; steps = λ p. s .steps p (none p) };
+  -- When nothing waits, the entries are the least ones.
+  pub settled : (E : ℕ → Environment) (waits : ℕ → Variable → Bool) → Settling π E waits → ((p : ℕ) (w : Variable) → waits p w ≡ false) → Least π E
+  settled E waits s none = record {
+    covers = record { start = s .start; steps = λ p b v l. s .steps p b v l (nowhere p (statementAt (π .program) p) (variableOf v)) };
     within = λ F c p. s .below F c p;
   }
+    where
+      nowhere : (p : ℕ) (t : Statement) (v : Variable) → madeFrom (waits p) t v ≡ false
+      nowhere p (step a q q′) v = rw (none p (actSources a v .0), none p (actSources a v .1))
+      nowhere p stop v = refl

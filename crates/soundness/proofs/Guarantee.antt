@@ -21,7 +21,7 @@ use Rattle.summaries.specs.Summaries.{Environment}
 use Rattle.jobs.specs.Job.{Script, Job, script, job}
 use Rattle.jobs.specs.JobVerdict.{ScriptVerdict, start-uncovered, step-uncovered, not-root, wrong-element, accepted, JobVerdict, unreadable, readable}
 use Rattle.jobs.specs.Guarantee.{Guarantee, ShowsOnlyRightPages}
-use Rattle.agreement.proofs.Readings.{alone-whole}
+use Rattle.jobs.proofs.Tables.{alone-whole}
 use Rattle.soundness.proofs.Run.{InRange, all-right}
 use Rattle.soundness.proofs.Ranges.{program-in-range}
 

@@ -1,4 +1,3 @@
-pub mod Tests
 pub mod Described
 pub mod Statements
 pub mod Shows

@@ -1,6 +1,6 @@
 -- The variables that a program names are 0 to 3 wherever the program can be read.
 use Prim.Native.Nat.{ℕ, zero, suc, _+_, _<_, _≤_}
-use mathlib.Core.Path.{_≡_, refl, sym, ap, subst}
+use mathlib.Core.Path.{_≡_, refl, sym, subst}
 use mathlib.Core.List.{List, [], _∷_, map}
 use mathlib.Core.Bool.{Bool, true, false, cond, _&&_, _||_, false≢true}
 use mathlib.Core.Option.{Option, some, none}
@@ -15,21 +15,13 @@ use Rattle.commands.specs.Reading.{Read, whole, refused, andThen, when}
 use Rattle.commands.proofs.Laws.{moved, andThen-whole, onCommand-whole, when-whole}
 use Rattle.programs.specs.Program.{copyTemplate, setTemplate, copyString, setString, anyString, plug, plugString, show, Statement, step, stop, Variable, templateVariable, stringVariable, statementNames, named}
 use Rattle.programs.specs.ProgramReading.{Placed, statementOf, statementRead, statementContext, statements, strayed, unlessStrayed, program, templatesThere, mostPoints}
-use Rattle.soundness.proofs.Tests.{or-cases}
+use Rattle.sets.proofs.Booleans.{or-cases, and-left, and-right}
 use Rattle.soundness.proofs.Run.{InRange}
 
 -- A variable's number: which of the two sorts does not matter here.
 abbrev number : Variable → ℕ
 number (templateVariable x) = x
 number (stringVariable y) = y
-
-and-left : (a b : Bool) → (a && b) ≡ true → a ≡ true
-and-left true b e = refl
-and-left false b e = e
-
-and-right : (a b : Bool) → (a && b) ≡ true → b ≡ true
-and-right true b e = e
-and-right false b e = absurd (false≢true e)
 
 -- A variable that is one of a statement's operands is in range with it.
 same : (v n : ℕ) → eqb v n ≡ true → leb n 3 ≡ true → v < 4

@@ -18,7 +18,7 @@ use Rattle.summaries.specs.Covering.{WithinAt, StepCovered, startEnvironment}
 use Rattle.summaries.specs.Languages.{closedSummary, statementGraph, graphShown}
 use Rattle.jobs.specs.Job.{Script}
 use Rattle.jobs.specs.JobVerdict.{AllCovered, ShowHolds, StatementHolds}
-use Rattle.soundness.proofs.Tests.{or-left, or-right}
+use Rattle.sets.proofs.Booleans.{or-left, or-right}
 use Rattle.soundness.proofs.Described.{Describes, nothing}
 use Rattle.soundness.proofs.Statements.{Holds, within-holds, set-template, plug-holds, plug-string-holds}
 use Rattle.soundness.proofs.Shows.{shown-in-language, template-zero}

@@ -1,10 +1,10 @@
 -- A shown page is in the language of its show: a described value, closed as a show closes it, is derived from the closed graph.
 use Prim.Native.Nat.{ℕ}
-use mathlib.Core.Path.{_≡_, refl, sym, ap, subst}
+use mathlib.Core.Path.{_≡_, refl, sym, subst}
 use mathlib.Core.List.{List, [], _∷_}
 use mathlib.Core.Bool.{true, false, false≢true}
 use Rattle.commands.specs.Commands.{emptyString}
-use Rattle.pages.specs.Items.{Attribute, Item, text, gap, element, Items, none, one}
+use Rattle.pages.specs.Items.{Attribute, Item, gap, Items, none}
 use Rattle.programs.specs.Program.{templateAt}
 use Rattle.programs.specs.Runs.{closed, stringOf, closing}
 use Rattle.summaries.specs.Proposal.{root, edge, gapFrom, attributeGapFrom}
@@ -12,7 +12,7 @@ use Rattle.summaries.specs.Proposal as Proposal
 use Rattle.summaries.specs.Summaries.{Summary}
 use Rattle.summaries.specs.Languages.{closedSummary, AttributesDerive, Derives, ItemDerives, Language}
 use Rattle.summaries.specs.Languages as Languages
-use Rattle.soundness.proofs.Tests.{or-left, or-right}
+use Rattle.sets.proofs.Booleans.{or-left, or-right}
 use Rattle.soundness.proofs.Described.{takes, stays, AttributesDescribed, no-attribute, fixed, holds, Describes, nothing, item-then, DescribesItem, text-stays, gap-stays, gap-takes, element-keeps, described-replaced}
 use Rattle.soundness.proofs.Statements.{Holds}
 

@@ -13,7 +13,7 @@ use Rattle.summaries.specs.Proposal.{Claim, root, edge, gapFrom, attributeGapFr
 use Rattle.summaries.specs.Proposal as Proposal
 use Rattle.summaries.specs.Summaries.{Summary, Strings, fragment, plugSummary, plugStringSummary}
 use Rattle.summaries.specs.Languages as Languages
-use Rattle.soundness.proofs.Tests.{or-left, or-right, and-both}
+use Rattle.sets.proofs.Booleans.{or-left, or-right, and-both}
 use Rattle.soundness.proofs.Described.{FillsWith, takes, stays, AttributesDescribed, no-attribute, fixed, holds, Describes, nothing, item-then, DescribesItem, text-stays, gap-stays, gap-takes, element-keeps, described-replaced}
 
 -- A value is described where some root's template derives it, with gaps left open.

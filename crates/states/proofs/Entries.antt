@@ -1,20 +1,18 @@
--- The entries that a work area keeps: by the words of each variable; nothing in zeros; strings from 64 on all or none.
+-- The entries that a work area keeps: by the words of each variable; nothing in zeros.
 use Prim.Native.Nat.{ℕ, _+_, _*_, _^_, _≤_, _<_}
 use mathlib.Core.Path.{_≡_, refl, sym, ap, _∙_}
 use mathlib.Core.List.{List}
-use mathlib.Core.Bool.{Bool, true, false, _&&_, _||_, false≢true}
+use mathlib.Core.Bool.{Bool, true, false, _&&_, false≢true}
 use native.Mathlib.Omega.{arith}
 use lib.ListN.{length, getD, drop, length-take, length-drop, List·getD-eq-default}
 use lib.Seq.{getD-take, getD-drop, length-take-le}
-use lib.Dec.{eqb, ltb}
+use lib.Dec.{ltb}
 use borrow.Author.Tests.{lt-ltb, ltb-true, ltb-false}
-use Rattle.sets.specs.Sets.{member}
-use Rattle.sets.proofs.Laws.{member-zero, member-high}
-use Rattle.strings.specs.Strings.{strings}
-use Rattle.summaries.specs.Proposal.{Claim, root, edge, string, gapFrom, attributeGapFrom, anyAt}
-use Rattle.graphs.specs.contracts.Graphs.{isKept, holds, InWords}
+use Rattle.sets.proofs.Laws.{member-zero}
+use Rattle.summaries.specs.Proposal.{Claim, root, edge, string, gapFrom, attributeGapFrom}
+use Rattle.graphs.specs.contracts.Graphs.{holds, InWords}
 use Rattle.graphs.proofs.Slots.{holds-none}
-use Rattle.graphs.proofs.Tests.{or-left, and-both, and-left, and-right, refuted}
+use Rattle.sets.proofs.Booleans.{and-both, and-left, and-right, refuted}
 use Rattle.states.specs.contracts.States.{pointWords, graphPlace, stringsPlace, graphWords, inWords, stringIn, entriesIn}
 use Rattle.states.specs.contracts.Promises.{HasPoint, stringWords}
 
@@ -119,27 +117,3 @@ module _ (points : ℕ) (work : List ℕ) (zero-at : (i : ℕ) → i < points * 
       let l : p < points = ltb-true p points (and-left _ _ (and-left _ _ e)) in
       let m : y < 4 = ltb-true y 4 (and-right (ltb p points) _ (and-left _ _ e)) in
       false≢true (sym (no-string p y l m s) ∙ and-right (ltb p points && ltb y 4) _ e)
-
--- ---- a string that is not named is held where any string is
-
-module _ (points : ℕ) (work : List ℕ) (narrow : (i : ℕ) → getD work i 0 < 2 ^ 64) where
-  not-named : (word s : ℕ) → word < 2 ^ 64 → strings ≤ s → (t : Bool) → (t || member word s) ≡ true → t ≡ true
-  not-named word s l m true e = refl
-  not-named word s l m false e = absurd (false≢true (sym (member-high 64 word s l m) ∙ e))
-
-  pub plain-templates : (p x n h s : ℕ) → strings ≤ s → entriesIn points work p .template x (string n h s) ≡ true
-      → (t : ℕ) → entriesIn points work p .template x (string n h t) ≡ true
-  unfolding entriesIn
-  plain-templates p x n h s l e t =
-      let g : List ℕ = graphWords work p x in
-      let there = and-left (ltb p points && ltb x 4) _ e in
-      let kept = and-right (ltb p points && ltb x 4) _ e in
-      let any : isKept g (anyAt n h) ≡ true = not-named (getD g (288 + n * 8 + h) 0) s (graph-narrow work p x narrow (288 + n * 8 + h)) l _ (and-right (ltb n 32 && ltb h 8) _ kept) in
-      and-both _ _ there (and-both _ _ (and-left (ltb n 32 && ltb h 8) _ kept) (or-left _ _ any))
-
-  pub plain-strings : (p y s : ℕ) → strings ≤ s → entriesIn points work p .string y s ≡ true → (t : ℕ) → entriesIn points work p .string y t ≡ true
-  unfolding entriesIn
-  plain-strings p y s l e t =
-      let there = and-left (ltb p points && ltb y 4) _ e in
-      let any : member (getD work (stringsPlace p y + 1) 0) 0 ≡ true = not-named (getD work (stringsPlace p y) 0) s (narrow (stringsPlace p y)) l _ (and-right (ltb p points && ltb y 4) _ e) in
-      and-both _ _ there (or-left _ _ any)

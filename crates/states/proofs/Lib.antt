@@ -1,3 +1,5 @@
 pub mod Entries
 pub mod Taken
+pub mod Gathering
 pub mod Put
+pub mod Same

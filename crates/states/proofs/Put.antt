@@ -2,27 +2,27 @@
 use Prim.Native.Nat.{ℕ, _+_, _^_, _≤_, _<_}
 use mathlib.Core.Path.{_≡_, refl, sym, ap, _∙_}
 use mathlib.Core.List.{List, [], _∷_}
-use mathlib.Core.Bool.{Bool, true, false, cond, _&&_, _||_}
+use mathlib.Core.Bool.{Bool, true, false, not, _&&_, _||_}
 use mathlib.Core.Logic.{_⊎_, inl, inr}
 use native.Mathlib.Omega.{arith}
-use lib.ListN.{length, getD, set, take, drop, length-set, length-take, length-drop}
+use lib.ListN.{length, getD, take, drop, length-set, length-take, length-drop}
 use lib.Seq.{getD-set-same, getD-set-other, ext-getD, getD-take, getD-drop}
 use lib.Dec.{eqb, ltb}
 use borrow.Author.Tests.{eqb-true, eqb-false, ltb-true, ltb-false}
 use Rattle.sets.specs.Sets.{member}
+use Rattle.sets.specs.contracts.Promises.{MembersWithin}
 use Rattle.strings.specs.declared.Values.{Values}
-use Rattle.strings.specs.contracts.Promises.{setNumber, holdsValue}
 use Rattle.summaries.specs.Proposal.{Claim}
 use Rattle.graphs.specs.contracts.Graphs.{holds}
 use Rattle.graphs.specs.contracts.Promises.{JoinsWord}
 use Rattle.graphs.specs.contracts.Growth.{Grows}
-use Rattle.graphs.proofs.Joining.{holds-joined}
-use Rattle.graphs.proofs.Growth.{members-more, unchanged-grows, grows-both, word-grows}
-use Rattle.graphs.proofs.Tests.{or-left}
+use Rattle.graphs.proofs.Joining.{word-joined, shuffle, holds-joined}
+use Rattle.graphs.proofs.Growth.{unchanged-grows, grows-gained}
+use Rattle.sets.proofs.Booleans.{or-within}
 use Rattle.memory.specs.contracts.Laid.{laid}
-use Rattle.memory.proofs.Laid.{laid-length, laid-there, laid-after, laid-before, laid-adds}
+use Rattle.memory.proofs.Laid.{laid-there, laid-after, laid-before}
 use Rattle.states.specs.contracts.States.{graphPlace, stringsPlace, graphWords, inWords, entriesIn}
-use Rattle.states.specs.contracts.Promises.{HasPoint, stringWords, GraphJoined, ValuesJoined}
+use Rattle.states.specs.contracts.Promises.{HasPoint, stringWords, LiesWithin, GraphJoined, ValuesJoined}
 use Rattle.states.proofs.Entries.{template-entry, string-entry, template-same, string-same, word-first, word-second, words-in, graph-word}
 
 -- Two parts of a list that do not meet.
@@ -77,35 +77,30 @@ graph-apart p y q x l m = elim (side q p) [
   | inr (inr a) ↦ inl (omega arith)
 ]
 
-word-joined : (before : List ℕ) (i more : ℕ) (after : List ℕ) (changed : Bool) → i < length before → JoinsWord before i more after changed × (getD before i 0 < 2 ^ 64) → Grows before after changed
-word-joined before i more after changed inside (J, fits) =
-    rw (J .after-is, J .changes) (word-grows before i (J .word) inside (members-more 64 (getD before i 0) (J .word) fits λ k e. J .either k ∙ or-left _ _ e))
-
-regrouped : (a b c d : Bool) → ((a || b) || (c || d)) ≡ ((a || c) || (b || d))
-regrouped true b c d = refl
-regrouped false true true d = refl
-regrouped false true false d = refl
-regrouped false false true d = refl
-regrouped false false false d = refl
-
 -- Words of a graph are joined to those of an entry, one after another.
-pub record RowJoined (work from : List ℕ) (first i : ℕ) (now : List ℕ) (changed : Bool) : Type 0 where
+pub record RowJoined (work from : List ℕ) (first i : ℕ) (now : List ℕ) (gained : ℕ) : Type 0 where
   pub joined : (k : ℕ) → k < i → (b : ℕ) → member (getD now (first + k) 0) b ≡ (member (getD work (first + k) 0) b || member (getD from k 0) b)
   pub rest : (k : ℕ) → (k < first) ⊎ (first + i ≤ k) → getD now k 0 ≡ getD work k 0
-  pub grows : Grows work now changed
+  pub gained-fits : gained < 2 ^ 64
+  pub grows : Grows work now (not (eqb gained 0))
 
 module _ (work from : List ℕ) (first : ℕ) where
-  pub row-begins : RowJoined work from first 0 work false
-  row-begins = record { joined = λ k l. absurd (omega arith); rest = λ k s. refl; grows = unchanged-grows work }
+  -- Words that hold what is to be joined are joined as they are.
+  row-holds : (i : ℕ) → ((k : ℕ) → k < i → MembersWithin (getD from k 0) (getD work (first + k) 0) true) → RowJoined work from first i work 0
+  row-holds i within = record { joined = λ k l b. sym (or-within _ _ (within k l b)); rest = λ k s. refl; gained-fits = omega arith; grows = unchanged-grows work }
 
-  pub row-goes : (now after : List ℕ) (i more : ℕ) (s t : Bool) → first + i < length work → more ≡ getD from i 0 → RowJoined work from first i now s → JoinsWord now (first + i) more after t × (getD now (first + i) 0 < 2 ^ 64)
-      → RowJoined work from first (i + 1) after (s || t)
-  row-goes now after i more s t inside is R (J, fits) =
+  pub row-begins : RowJoined work from first 0 work 0
+  row-begins = row-holds 0 λ k l. absurd (omega arith)
+
+  pub row-goes : (now after : List ℕ) (i more s t both : ℕ) → first + i < length work → more ≡ getD from i 0 → RowJoined work from first i now s → JoinsWord now (first + i) more after t × (getD now (first + i) 0 < 2 ^ 64)
+      → both < 2 ^ 64 → ((k : ℕ) → member both k ≡ (member s k || member t k)) → RowJoined work from first (i + 1) after both
+  row-goes now after i more s t both inside is R (J, fits) both-fits either =
       let room : first + i < length now = omega (arith, R .grows .same-length) in
       record {
         joined = λ k l b. here k l b (eqb k i) refl;
         rest = λ k side. rw (J .after-is) (getD-set-other now (first + i) k (J .word) 0 (apart k side) ∙ R .rest k (wider k side));
-        grows = grows-both work now after s t (R .grows) (word-joined now (first + i) more after t room (J, fits));
+        gained-fits = both-fits;
+        grows = grows-gained s t both (R .gained-fits) (J .gained-fits) both-fits either work now after (R .grows) (word-joined now (first + i) more after t J fits room);
       }
     where
       apart : (k : ℕ) → (k < first) ⊎ (first + (i + 1) ≤ k) → k ≡ first + i → ⊥
@@ -140,23 +135,23 @@ module _ (work : List ℕ) (p x : ℕ) (has : HasPoint work p) (l : x < 4) where
         templates = λ points q z. template-same points work after q z λ u v. rw is (part-same work (stringsPlace p x) (a ∷ b ∷ []) (graphPlace q z) 544 (graph-apart p x q z l v));
       }
 
-  pub values-joined : (values : Values) (first : ℕ) → first ≡ stringsPlace p x → (any : ℕ) → member any 0 ≡ values .any → (after₁ after : List ℕ) (named-changed any-changed : Bool)
-      → JoinsWord work first (values .named .word) after₁ named-changed × (getD work first 0 < 2 ^ 64) → JoinsWord after₁ (first + 1) any after any-changed × (getD after₁ (first + 1) 0 < 2 ^ 64)
-      → ValuesJoined work p x values after (named-changed || any-changed)
+  pub values-joined : (values : Values) (first : ℕ) → first ≡ stringsPlace p x → (any : ℕ) → member any 0 ≡ values .any → (after₁ after : List ℕ) (s t both : ℕ)
+      → JoinsWord work first (values .named .word) after₁ s × (getD work first 0 < 2 ^ 64) → JoinsWord after₁ (first + 1) any after t × (getD after₁ (first + 1) 0 < 2 ^ 64)
+      → both < 2 ^ 64 → ((k : ℕ) → member both k ≡ (member s k || member t k)) → ValuesJoined work p x values after (not (eqb both 0))
   unfolding laid
-  values-joined values first at any is after₁ after s t (J, fits) (K, fits′) =
+  values-joined values first at any is after₁ after s t both (J, fits) (K, fits′) both-fits either =
       let other : getD after₁ (first + 1) 0 ≡ getD work (first + 1) 0 = rw (J .after-is) (getD-set-other work first (first + 1) (J .word) 0 (λ e. omega arith)) in
       let laid-so : after ≡ laid work (stringsPlace p x) (J .word ∷ K .word ∷ []) = rw (← at, K .after-is, J .after-is) in
       let W = words-put (J .word) (K .word) after laid-so in
       record {
         here = λ points m r. W .here points m r
-            ∙ rw (K .either 0, J .either r, other, is) (regrouped (member (getD work (first + 1) 0) 0) (values .any) (member (getD work first 0) r) (member (values .named .word) r)
+            ∙ rw (K .either 0, J .either r, other, is) (shuffle (member (getD work (first + 1) 0) 0) (values .any) (member (getD work first 0) r) (member (values .named .word) r)
             ∙ rw at (sym (ap (λ (b : Bool). b || (values .any || member (values .named .word) r)) (string-entry points work p x m l r))));
         others = W .others;
         templates = W .templates;
-        grows = grows-both work after₁ after s t
-            (word-joined work first (values .named .word) after₁ s (omega arith) (J, fits))
-            (word-joined after₁ (first + 1) any after t (let e : length after₁ ≡ length work = ap length (J .after-is) ∙ length-set work first (J .word) in omega arith) (K, fits′));
+        grows = grows-gained s t both (J .gained-fits) (K .gained-fits) both-fits either work after₁ after
+            (word-joined work first (values .named .word) after₁ s J fits (omega arith))
+            (word-joined after₁ (first + 1) any after t K fits′ (let e : length after₁ ≡ length work = ap length (J .after-is) ∙ length-set work first (J .word) in omega arith));
       }
 
   -- Words that are the same outside the entry's own.
@@ -173,8 +168,8 @@ module _ (work : List ℕ) (p x : ℕ) (has : HasPoint work p) (l : x < 4) where
         outside i low (inl b) = inl (omega arith)
         outside i low (inr b) = inr (omega arith)
 
-  pub row-ends : (from after : List ℕ) (first i : ℕ) (changed : Bool) → first ≡ graphPlace p x → 544 ≤ i → i ≤ 544 → RowJoined work from first i after changed → GraphJoined work p x from after changed
-  row-ends from after first i changed at all few R =
+  pub row-ends : (from after : List ℕ) (first i gained : ℕ) → first ≡ graphPlace p x → 544 ≤ i → i ≤ 544 → RowJoined work from first i after gained → GraphJoined work p x from after (not (eqb gained 0))
+  row-ends from after first i gained at all few R =
       let whole-row : i ≡ 544 = omega arith in
       let same : (k : ℕ) → (k < graphPlace p x) ⊎ (graphPlace p x + 544 ≤ k) → getD after k 0 ≡ getD work k 0 = λ k s. R .rest k (rw (at, whole-row) s) in
       let room : length after ≡ length work = R .grows .same-length in
@@ -193,9 +188,9 @@ module _ (work : List ℕ) (p x : ℕ) (has : HasPoint work p) (l : x < 4) where
       held c false e = rw e refl
 
 -- A word of an entry that is joined to another, or to itself, is still its own.
-pub row-read : (work now : List ℕ) (p x q z first from i : ℕ) (changed : Bool) → x < 4 → z < 4 → first ≡ graphPlace p x → from ≡ graphPlace q z → i < 544
-    → RowJoined work (graphWords work q z) first i now changed → getD now (from + i) 0 ≡ getD (graphWords work q z) i 0
-row-read work now p x q z first from i changed l m at at′ low R = R .rest (from + i) away ∙ ap (λ (k : ℕ). getD work (k + i) 0) at′ ∙ sym (graph-word work q z i low)
+pub row-read : (work now : List ℕ) (p x q z first from i gained : ℕ) → x < 4 → z < 4 → first ≡ graphPlace p x → from ≡ graphPlace q z → i < 544
+    → RowJoined work (graphWords work q z) first i now gained → getD now (from + i) 0 ≡ getD (graphWords work q z) i 0
+row-read work now p x q z first from i gained l m at at′ low R = R .rest (from + i) away ∙ ap (λ (k : ℕ). getD work (k + i) 0) at′ ∙ sym (graph-word work q z i low)
   where
     away : (from + i < first) ⊎ (first + i ≤ from + i)
     away = elim (side from first) [
@@ -206,3 +201,9 @@ row-read work now p x q z first from i changed l m at at′ low R = R .rest (fro
       where
         apart : from < first → q ≡ p → z ≡ x → ⊥
         apart a e f = omega arith
+
+-- An entry that lies within another is joined to it already.
+pub entry-within : (work : List ℕ) (p x q z first from : ℕ) → HasPoint work p → x < 4 → first ≡ graphPlace p x → from ≡ graphPlace q z → LiesWithin work from first
+    → GraphJoined work p x (graphWords work q z) work false
+entry-within work p x q z first from has l at at′ within = row-ends work p x has l (graphWords work q z) work first 544 0 at (omega arith) (omega arith)
+    (row-holds work (graphWords work q z) first 544 λ k m. rw (graph-word work q z k m, ← at′) (within k m))

@@ -2,7 +2,7 @@
 use Prim.Native.Nat.{ℕ, _+_, _^_, _≤_, _<_}
 use mathlib.Core.Path.{_≡_, refl, sym, ap, _∙_}
 use mathlib.Core.List.{List}
-use mathlib.Core.Bool.{Bool, true, false, _&&_, _||_, and-false}
+use mathlib.Core.Bool.{Bool, true, false, _&&_, and-false}
 use native.Mathlib.Omega.{arith}
 use lib.ListN.{length, getD, set, length-set}
 use lib.Seq.{ext-getD, getD-set-same, getD-set-other}
@@ -16,8 +16,6 @@ use Rattle.states.specs.contracts.States.{graphPlace, stringsPlace, grap
 use Rattle.states.specs.contracts.Promises.{HasPoint, GraphTaken, ValuesTaken}
 use Rattle.states.proofs.Entries.{template-entry, string-entry, in-words, graph-room, graph-word, no-graph-word, graph-narrow}
 use Rattle.graphs.proofs.Slots.{holds-none}
-use Rattle.graphs.proofs.Growth.{members-more}
-use Rattle.graphs.proofs.Tests.{or-left, or-right}
 use Rattle.summaries.specs.Proposal.{Claim}
 
 -- The first words of a graph are copied.
@@ -75,19 +73,3 @@ nothing-there work p x first i at all zero points c = rw (holds-none (graphWords
         go : (t : Bool) → ltb k 544 ≡ t → getD (graphWords work p x) k 0 ≡ 0
         go true e = let l : k < 544 = ltb-true k 544 e in graph-word work p x k l ∙ ap (λ (n : ℕ). getD work (n + k) 0) (sym at) ∙ zero k (omega arith)
         go false e = no-graph-word work p x k (ltb-false k 544 e)
-
--- The members of words are gathered.
-abbrev pub Gathered : List ℕ → ℕ → ℕ → ℕ → Type 0
-Gathered work first i all = (k : ℕ) → k < i → (b : ℕ) → member (getD work (first + k) 0) b ≡ true → member all b ≡ true
-
-pub gathers : (work : List ℕ) (first i all both : ℕ) → Gathered work first i all → ((b : ℕ) → member both b ≡ (member all b || member (getD work (first + i) 0) b)) → Gathered work first (i + 1) both
-gathers work first i all both G is k l b m = go (eqb k i) refl
-  where
-    go : (t : Bool) → eqb k i ≡ t → member both b ≡ true
-    go true q = let e : k ≡ i = eqb-true k i q in is b ∙ or-right (member all b) _ (rw e at m)
-    go false q = let n = eqb-false k i q in is b ∙ or-left _ _ (G k (omega arith) b m)
-
-pub gathered-none : (work : List ℕ) (first i all : ℕ) → ((k : ℕ) → getD work k 0 < 2 ^ 64) → Gathered work first i all → all ≡ 0 → (k : ℕ) → k < i → getD work (first + k) 0 ≡ 0
-gathered-none work first i all narrow G e k l =
-    let least : getD work (first + k) 0 ≤ 0 = members-more 64 (getD work (first + k) 0) 0 (narrow (first + k)) (λ b m. rw e at (G k l b m)) in
-    omega arith

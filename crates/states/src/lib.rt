@@ -1,13 +1,13 @@
 // The entries of all points, kept in a work area: which words are a point's stands here alone.
 ghost use mathlib.Core.Path.{_≡_};
-ghost use Prim.Native.Nat.{ℕ, _*_, _^_, _<_};
+ghost use Prim.Native.Nat.{ℕ, _+_, _*_, _^_, _≤_, _<_};
 ghost use mathlib.Core.Bool.{true, false};
 ghost use Rattle.summaries.specs.Proposal.{Claim};
-ghost use lib.ListN.{length, getD};
+ghost use lib.ListN.{length, getD, take, drop};
 ghost use Rattle.sets.specs.Sets.{member};
 ghost use Rattle.graphs.specs.contracts.Promises.{JoinsWord};
 ghost use Rattle.states.specs.contracts.States.{pointWords, graphPlace, stringsPlace, graphWords, entriesIn};
-ghost use Rattle.states.specs.contracts.Promises.{HasPoint, GraphTaken, ValuesTaken, GraphJoined, ValuesJoined};
+ghost use Rattle.states.specs.contracts.Promises.{HasPoint, GraphTaken, ValuesTaken, LiesWithin, GraphJoined, ValuesJoined, SameEntry};
 use graphs::Graph;
 use strings::Values;
 
@@ -78,15 +78,44 @@ pub fn values_at(work: &[u64], p: usize, y: usize) -> Values
     }
 }
 
-// One word gains the members of another; whether it has changed.
-fn join_word(work: &mut [u64], i: usize, more: u64) -> bool
+// Whether the words from two places on are the same. Their differences are gathered without an early exit: many can be compared at once.
+fn same_words(work: &[u64], a: usize, b: usize, count: usize) -> bool
+    requires { ⌜ (a + count ≤ length (now work)) × (b + count ≤ length (now work)) ⌝ }
+    ensures { λ r. ⌜ (r ≡ true → take count (drop a (now (work .entry))) ≡ take count (drop b (now (work .entry)))) ⌝ }
+{
+    let mut differences: u64 = 0;
+    let mut i: usize = 0;
+    while i < count {
+        differences = differences | (work[a + i] ^ work[b + i]);
+        i += 1;
+    }
+    differences == 0
+}
+
+// Whether the words of a variable's entry are the same at two points: then the same is held there. Variables 4 to 7 are the string variables.
+pub fn same_entry(work: &[u64], p: usize, q: usize, v: usize) -> bool
+    requires { ⌜ HasPoint (now work) p × HasPoint (now work) q × (v < 8) ⌝ }
+    ensures { λ r. ⌜ (r ≡ true → (points : ℕ) → p < points → q < points → SameEntry points (now (work .entry)) p q v) ⌝ }
+{
+    if v < 4 {
+        return same_words(work, graph_place(p, v), graph_place(q, v), GRAPH_WORDS);
+    }
+    same_words(
+        work,
+        strings_place(p, v - 4),
+        strings_place(q, v - 4),
+        STRING_WORDS,
+    )
+}
+
+// One word gains the members of another; those that it lacked.
+fn join_word(work: &mut [u64], i: usize, more: u64) -> u64
     requires { ⌜ i < length (now work) ⌝ }
     ensures { λ r. ⌜ JoinsWord (now (work .entry)) i more (now (work .exit)) r × (getD (now (work .entry)) i 0 < 2 ^ 64) ⌝ }
 {
     let before = work[i];
-    let both = sets::union(before, more);
-    work[i] = both;
-    both != before
+    work[i] = sets::union(before, more);
+    sets::without(more, before)
 }
 
 // A template variable at a point also holds what a graph does; whether its words have changed.
@@ -95,14 +124,27 @@ pub fn join_graph(work: &mut [u64], p: usize, x: usize, from: &Graph) -> bool
     ensures { λ r. ⌜ GraphJoined (now (work .entry)) p x (now (from .entry)) (now (work .exit)) r ⌝ }
 {
     let first = graph_place(p, x);
-    let mut changed = false;
+    let mut gained: u64 = 0;
     let mut i: usize = 0;
     while i < GRAPH_WORDS {
-        let rises = join_word(work, first + i, from[i]);
-        changed = changed | rises;
+        gained = sets::union(gained, join_word(work, first + i, from[i]));
         i += 1;
     }
-    changed
+    gained != 0
+}
+
+// Whether the words of a graph lie within those of another: then joining it to that one changes nothing.
+fn lies_within(work: &[u64], from: usize, first: usize) -> bool
+    requires { ⌜ (from + 544 ≤ length (now work)) × (first + 544 ≤ length (now work)) ⌝ }
+    ensures { λ r. ⌜ (r ≡ true → LiesWithin (now (work .entry)) from first) ⌝ }
+{
+    let mut lacking: u64 = 0;
+    let mut i: usize = 0;
+    while i < GRAPH_WORDS {
+        lacking = sets::union(lacking, sets::without(work[from + i], work[first + i]));
+        i += 1;
+    }
+    lacking == 0
 }
 
 // A template variable at a point also holds what another does, perhaps at another point; whether its words have changed.
@@ -112,15 +154,17 @@ pub fn join_entry(work: &mut [u64], p: usize, x: usize, q: usize, z: usize) -> b
 {
     let first = graph_place(p, x);
     let from = graph_place(q, z);
-    let mut changed = false;
+    if lies_within(work, from, first) {
+        return false;
+    }
+    let mut gained: u64 = 0;
     let mut i: usize = 0;
     while i < GRAPH_WORDS {
         let more = work[from + i];
-        let rises = join_word(work, first + i, more);
-        changed = changed | rises;
+        gained = sets::union(gained, join_word(work, first + i, more));
         i += 1;
     }
-    changed
+    gained != 0
 }
 
 // The word that says whether a string variable takes any string.
@@ -138,5 +182,5 @@ pub fn join_values(work: &mut [u64], p: usize, y: usize, values: Values) -> bool
     let first = strings_place(p, y);
     let named = join_word(work, first, values.named.word);
     let any = join_word(work, first + 1, any_word(values.any));
-    named | any
+    sets::union(named, any) != 0
 }

@@ -7,6 +7,7 @@ use native.Mathlib.Nat.{eq-or-lt-of-le, le-of-suc-le-suc}
 use native.Mathlib.Omega.{arith}
 use lib.Dec.{eqb, ltb, lit<}
 use borrow.Author.Tests.{ltb-true, ltb-false, eqb-true, eqb-false}
+use Rattle.sets.proofs.Booleans.{and-left, and-right}
 use Rattle.sets.specs.Sets.{member}
 use Rattle.sets.specs.contracts.Promises.{MembersWithin, FirstMember}
 use Rattle.sets.proofs.Laws.{member-high}
@@ -24,13 +25,9 @@ below : (n : ℕ) (p : ℕ → Bool) → allBelow n p ≡ true → (k : ℕ) →
 unfolding allBelow
 below zero p t k h = absurd (omega arith)
 below (suc n) p t k h = elim (eq-or-lt-of-le (le-of-suc-le-suc h)) [
-  | inl e ↦ ap p e ∙ both (p n) (allBelow n p) t .0
-  | inr l ↦ below n p (both (p n) (allBelow n p) t .1) k l
+  | inl e ↦ ap p e ∙ and-left (p n) (allBelow n p) t
+  | inr l ↦ below n p (and-right (p n) (allBelow n p) t) k l
 ]
-  where
-    both : (a b : Bool) → (a && b) ≡ true → (a ≡ true) × (b ≡ true)
-    both true b e = (refl, e)
-    both false b e = absurd (false≢true e)
 
 pub all-strings : (s : ℕ) → member 0xFFFF_FFFF_FFFF_FFFF s ≡ ltb s strings
 unfolding member allBelow

@@ -1,8 +1,9 @@
 // What a statement makes of each variable (document 01, "Covering, and the language of a show"): from which values, and how. Code that
 // applies the transfer functions goes by these few ways; the acts are told apart here alone.
 ghost use mathlib.Core.Path.{_≡_};
+ghost use Rattle.programs.specs.Program.{templateVariable, stringVariable};
 ghost use Rattle.programs.specs.contracts.Promises.{asAct};
-ghost use Rattle.transfers.specs.contracts.Ways.{ifSet, madeBy, ifStringSet, stringMadeBy};
+ghost use Rattle.transfers.specs.contracts.Ways.{ifSet, madeBy, ifStringSet, stringMadeBy, sources, stringSources, among, meets};
 use programs::Act;
 
 // How the value of a template variable is made.
@@ -75,4 +76,47 @@ fn if_string_set(y: u8, x: u8, new: MadeString) -> MadeString
         return new;
     }
     MadeString::Value(y)
+}
+
+// Whether a template variable is in a set of variables, as `40` numbers them.
+fn has_template(set: u64, x: u8) -> bool
+    ensures { λ r. ⌜ r ≡ among set (templateVariable x) ⌝ }
+{
+    if 4 <= x {
+        return false;
+    }
+    sets::has(set, x)
+}
+
+// The same of a string variable.
+fn has_string(set: u64, y: u8) -> bool
+    ensures { λ r. ⌜ r ≡ among set (stringVariable y) ⌝ }
+{
+    if 4 <= y {
+        return false;
+    }
+    sets::has(set, 4 + y)
+}
+
+// Whether a value of template variable x is made from a variable of the set. One that is made from none counts as made from x.
+pub fn made_from(way: Made, x: u8, set: u64) -> bool
+    ensures { λ r. ⌜ r ≡ meets (among set) (sources x way) ⌝ }
+{
+    match way {
+        Made::Value(z) => has_template(set, z),
+        Made::Template(_) => has_template(set, x),
+        Made::Plugged(z, _, y) => has_template(set, z) | has_template(set, y),
+        Made::Filled(z, _, y) => has_template(set, z) | has_string(set, y),
+    }
+}
+
+// The same of a value of string variable y.
+pub fn string_made_from(way: MadeString, y: u8, set: u64) -> bool
+    ensures { λ r. ⌜ r ≡ meets (among set) (stringSources y way) ⌝ }
+{
+    match way {
+        MadeString::Value(z) => has_string(set, z),
+        MadeString::One(_) => has_string(set, y),
+        MadeString::Any => has_string(set, y),
+    }
 }

@@ -11,7 +11,8 @@ use borrow.Author.Tests.{ne-eqb, eqb-true}
 use Rattle.summaries.specs.Proposal.{Claim, root, edge, string, gapFrom, attributeGapFrom, Holding, claim, anyAt, oneString, anyString}
 use Rattle.summaries.specs.Summaries.{Summary, Strings, Within, sameCode, saysClaim, saysString, held}
 use Rattle.entries.specs.contracts.Passing.{Decides}
-use Rattle.entries.proofs.Tests.{or-left, or-right, or-cases, and-both, and-left, and-right, decides}
+use Rattle.entries.proofs.Tests.{decides}
+use Rattle.sets.proofs.Booleans.{or-left, or-right, or-cases, and-both, and-left, and-right, implied, implies}
 use Rattle.entries.proofs.Claims.{says-alone, says-any}
 
 -- Some item of a list passes a test.
@@ -94,21 +95,6 @@ any-string-others (anyAt m k) t l = refl
 any-string-others (oneString s) t l = ne-eqb t s (λ e. omega arith)
 any-string-others anyString t l = refl
 
--- What is said by some item of two lists, one after the other.
-module _ {A : Type 0} (says : Holding → A → Bool) (ys : List Holding) (a : A) where
-  pub in-first : (xs : List Holding) → held says xs a ≡ true → held says (xs ++ ys) a ≡ true
-  unfolding held
-  in-first [] e = absurd (false≢true e)
-  in-first (x ∷ xs) e = elim (or-cases (says x a) (held says xs a) e) [
-    | inl h ↦ or-left _ _ h
-    | inr h ↦ or-right (says x a) _ (in-first xs h)
-  ]
-
-  pub in-second : (xs : List Holding) → held says ys a ≡ true → held says (xs ++ ys) a ≡ true
-  unfolding held
-  in-second [] e = e
-  in-second (x ∷ xs) e = or-right (says x a) _ (in-second xs e)
-
 -- All items of a list pass into an entry.
 unfoldable pub allPass : {A : Type 0} → ((A → Bool) → List Holding → Holding → Bool) → (A → Bool) → List Holding → List Holding → Bool
 allPass passes F [] ys = true
@@ -167,15 +153,6 @@ module _ {A : Type 0} (says : Holding → A → Bool) (Whole : (A → Bool) → 
 
     all-decide : (xs : List Holding) → Lists F xs → Decides (allPass passes F xs ys) (Within F (held says ys))
     all-decide xs L = decides _ (λ e a f. all-sound xs e a f (L .complete a f)) (all-back xs (L .whole))
-
--- One test: what F holds is held.
-implied : (f h : Bool) → (not f || h) ≡ true → f ≡ true → h ≡ true
-implied true h e q = e
-implied false h e q = absurd (false≢true q)
-
-implies : (f h : Bool) → (f ≡ true → h ≡ true) → (not f || h) ≡ true
-implies true h w = w refl
-implies false h w = refl
 
 -- Template variables.
 abbrev passesTemplate : Summary → List Holding → Holding → Bool

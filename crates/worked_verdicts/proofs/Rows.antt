@@ -23,7 +23,7 @@ use Rattle.patterns.specs.contracts.Patterns.{patternOf, join}
 use Rattle.patterns.specs.contracts.Morphisms.{classOf}
 use Rattle.patterns.specs.contracts.Elements.{wrongUnder}
 use Rattle.patterns.proofs.ReadVocabularies.{Bytes}
-use Rattle.entries.proofs.Tests.{and-left, and-right}
+use Rattle.sets.proofs.Booleans.{and-left, and-right}
 use Rattle.worked_verdicts.specs.Table.{Row, RowHolds, table}
 use Rattle.worked_verdicts.proofs.Verdicts.{verdictBy, verdict-by}
 

@@ -16,7 +16,7 @@ use Rattle.jobs.specs.JobVerdict.{AllCovered}
 use Rattle.jobs.specs.LeastEntries.{Least}
 use Rattle.covering.specs.contracts.Promises.{Covers}
 use Rattle.covering.specs.declared.Covering.the-variants.{Covered}
-use Rattle.entries.proofs.Tests.{or-right, or-cases, and-both, and-left, and-right}
+use Rattle.sets.proofs.Booleans.{or-right, or-cases, and-both, and-left, and-right}
 use Rattle.entries.proofs.Claims.{says-alone}
 use Rattle.worked_examples.proofs.ReadingJ1.{j1-job}
 use Rattle.worked_verdicts.proofs.Covering.{coverBy, cover-by}

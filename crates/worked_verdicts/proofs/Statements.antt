@@ -13,7 +13,8 @@ use Rattle.summaries.specs.Proposal as Proposal
 use Rattle.summaries.specs.Summaries.{fragment, transfer, transferTemplate, transferString, saysClaim, saysString, held, under, entries}
 use Rattle.summaries.specs.Covering.{WithinAt, startEnvironment, StartCovered, StepCovered}
 use Rattle.entries.specs.contracts.Passing.{Decides}
-use Rattle.entries.proofs.Tests.{or-left, decides-map}
+use Rattle.entries.proofs.Tests.{decides-map}
+use Rattle.sets.proofs.Booleans.{or-left}
 use Rattle.worked_verdicts.proofs.Comparing.{either-lists, WholeTemplate, ListsTemplate, entry-lists, templateWithin, template-within, WholeString, ListsString, strings-list, stringWithin, string-within}
 use Rattle.worked_verdicts.proofs.Transferred.{fragmentItems, fragment-lists, plugItems, plug-lists, fillItems, fill-lists}
 

@@ -20,7 +20,8 @@ use Rattle.patterns.specs.contracts.Rounds.{Set, Sets, anyBelow, iterate, round
 use Rattle.patterns.specs.contracts.Reached.{reachRounds, contentRounds}
 use Rattle.patterns.specs.contracts.Exactness.{Exact, YieldsExact}
 use Rattle.patterns.specs.contracts.Shows.{Tables, ExactTables}
-use Rattle.patterns.proofs.Tests.{and-left, and-right, any-below, failed}
+use Rattle.patterns.proofs.Tests.{any-below}
+use Rattle.sets.proofs.Booleans.{and-left, and-right, refuted}
 use Rattle.patterns.proofs.Lawful.{Lawful, root-lawful, clause-lawful}
 use Rattle.patterns.proofs.Exact.{exact}
 use Rattle.patterns.proofs.Reaching.{yields-exact, reached-exact, reach-rounds-sound}
@@ -43,7 +44,7 @@ module _ (φs : List Items) where
 
   same-sets : (M : ℕ) (X Y : Sets) → sameSets M X Y ≡ true → (n x : ℕ) → n ≤ length φs → x < M → X n x ≡ Y n x
   unfolding sameSets
-  same-sets M X Y e n x hn hx = no-difference (X n x) (Y n x) (failed (differ (X n x) (Y n x)) λ d.
+  same-sets M X Y e n x hn hx = no-difference (X n x) (Y n x) (refuted (differ (X n x) (Y n x)) λ d.
       false≢true (sym (not-true _ e) ∙ any-below (suc (length φs)) (λ m. anyBelow M (λ y. differ (X m y) (Y m y))) n (omega arith)
       (any-below M (λ y. differ (X n y) (Y n y)) x hx d)))
 

@@ -11,9 +11,10 @@ use Rattle.pages.specs.Items.{Value, string, open-gap, Attribute, Item, text, g
 use Rattle.summaries.specs.Proposal.{Claim, root, edge, gapFrom, attributeGapFrom, Holding, claim, anyAt, oneString}
 use Rattle.summaries.specs.Proposal as Proposal
 use Rattle.summaries.specs.Summaries.{Summary, Strings, Within, fragment, plugSummary, plugStringSummary, isStringAt, saysClaim, saysString, held}
-use Rattle.entries.proofs.Tests.{or-left, or-right, or-cases, and-both, and-left, and-right}
+use Rattle.sets.proofs.Booleans.{or-left, or-right, or-cases, and-both, and-left, and-right}
 use Rattle.entries.proofs.Claims.{says-itself, says-alone, says-any}
-use Rattle.worked_verdicts.proofs.Comparing.{in-first, in-second, Each, each-append, each-map, WholeTemplate, ListsTemplate, template-whole}
+use Rattle.summaries.proofs.Held.{held-before, held-behind}
+use Rattle.worked_verdicts.proofs.Comparing.{Each, each-append, each-map, WholeTemplate, ListsTemplate, template-whole}
 
 -- Items that are claims.
 abbrev saysAmong : List Claim → Claim → Bool
@@ -203,13 +204,13 @@ module _ (g : ℕ) (xs ys : List Holding) where
   es = map claim (edges xs ys)
 
   of-first : (c : Claim) → S c ≡ true → held saysClaim (xs ++ (ys ++ es)) c ≡ true
-  of-first c e = in-first saysClaim (ys ++ es) c xs e
+  of-first c e = held-before saysClaim c xs (ys ++ es) e
 
   of-second : (c : Claim) → T c ≡ true → held saysClaim (xs ++ (ys ++ es)) c ≡ true
-  of-second c e = in-second saysClaim (ys ++ es) c xs (in-first saysClaim es c ys e)
+  of-second c e = held-behind saysClaim c xs (ys ++ es) (held-before saysClaim c ys es e)
 
   of-edges : (c : Claim) → held saysClaim es c ≡ true → held saysClaim (xs ++ (ys ++ es)) c ≡ true
-  of-edges c e = in-second saysClaim (ys ++ es) c xs (in-second saysClaim es c ys e)
+  of-edges c e = held-behind saysClaim c xs (ys ++ es) (held-behind saysClaim c ys es e)
 
   of-either : (c : Claim) → (S c || T c) ≡ true → held saysClaim (xs ++ (ys ++ es)) c ≡ true
   of-either c e = elim (or-cases (S c) (T c) e) [ inl h ↦ of-first c h | inr h ↦ of-second c h ]
@@ -267,8 +268,8 @@ string-filled : (n h s : ℕ) (ys : List Holding) → held saysString ys s ≡ t
 unfolding fillings held
 string-filled n h s [] e = absurd (false≢true e)
 string-filled n h s (y ∷ ys) e = elim (or-cases (saysString y s) (held saysString ys s) e) [
-  | inl k ↦ in-first saysClaim (fillings n h ys) (Proposal.string n h s) (filling n h y) (here y k)
-  | inr k ↦ in-second saysClaim (fillings n h ys) (Proposal.string n h s) (filling n h y) (string-filled n h s ys k)
+  | inl k ↦ held-before saysClaim (Proposal.string n h s) (filling n h y) (fillings n h ys) (here y k)
+  | inr k ↦ held-behind saysClaim (Proposal.string n h s) (filling n h y) (fillings n h ys) (string-filled n h s ys k)
 ]
   where
     here : (y : Holding) → saysString y s ≡ true → held saysClaim (filling n h y) (Proposal.string n h s) ≡ true
@@ -282,9 +283,9 @@ origin-filled : (n h s : ℕ) (xs ys : List Holding) → held saysClaim xs (attr
 unfolding filled held
 origin-filled n h s [] ys e f = absurd (false≢true e)
 origin-filled n h s (x ∷ xs) ys e f = elim (or-cases (saysClaim x (attributeGapFrom h n)) (held saysClaim xs (attributeGapFrom h n)) e) [
-  | inl k ↦ in-first saysClaim (filled h xs ys) (Proposal.string n h s) (filledAt h ys x)
+  | inl k ↦ held-before saysClaim (Proposal.string n h s) (filledAt h ys x) (filled h xs ys)
       (rw (is-claim (attributeGapFrom h n) (λ m l. refl) x k, eq-eqb h h refl) (string-filled n h s ys f))
-  | inr k ↦ in-second saysClaim (filled h xs ys) (Proposal.string n h s) (filledAt h ys x) (origin-filled n h s xs ys k f)
+  | inr k ↦ held-behind saysClaim (Proposal.string n h s) (filledAt h ys x) (filled h xs ys) (origin-filled n h s xs ys k f)
 ]
 
 -- Any string that is filled in is held.
@@ -335,7 +336,7 @@ fill-lists h xs ys = record {
 }
   where
     of-first : (c : Claim) → held saysClaim xs c ≡ true → held saysClaim (xs ++ filled h xs ys) c ≡ true
-    of-first c e = in-first saysClaim (filled h xs ys) c xs e
+    of-first c e = held-before saysClaim c xs (filled h xs ys) e
 
     complete : Within (plugStringSummary h (held saysClaim xs) (held saysString ys)) (held saysClaim (xs ++ filled h xs ys))
     complete (root n) e = of-first (root n) e
@@ -343,7 +344,7 @@ fill-lists h xs ys = record {
     complete (Proposal.string n k s) e =
         elim (or-cases (held saysClaim xs (Proposal.string n k s)) (eqb k h && held saysClaim xs (attributeGapFrom k n) && held saysString ys s) e) [
           | inl q ↦ of-first (Proposal.string n k s) q
-          | inr q ↦ in-second saysClaim (filled h xs ys) (Proposal.string n k s) xs (strung (eqb-true k h (and-left _ _ (and-left _ _ q)))
+          | inr q ↦ held-behind saysClaim (Proposal.string n k s) xs (filled h xs ys) (strung (eqb-true k h (and-left _ _ (and-left _ _ q)))
               (and-right (eqb k h) _ (and-left _ _ q)) (and-right (eqb k h && held saysClaim xs (attributeGapFrom k n)) _ q))
         ]
       where

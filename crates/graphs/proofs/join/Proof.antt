@@ -8,10 +8,10 @@ use Rattle.graphs.proofs.join.Statement.{statement}
 use Rattle.graphs.proofs.join.Tie as tie
 
 abbrev Inv-loop : tie.InvT-loop
-Inv-loop graph₀ from changed₀ i₀ graph changed i = (R : Summary) → Keeps graph₀ R → JoinedTo graph₀ from graph i changed
+Inv-loop graph₀ from gained₀ i₀ graph gained i = (R : Summary) → Keeps graph₀ R → JoinedTo graph₀ from graph i gained
 
 abbrev μ-loop : tie.MeasureT-loop
-μ-loop graph₀ from changed₀ i₀ graph changed i = 544 - i
+μ-loop graph₀ from gained₀ i₀ graph gained i = 544 - i
 
 loop-holds : tie.Need-loop-holds Inv-loop μ-loop
 loop-holds c = λ R k. joining-begins _ _ R k
@@ -25,6 +25,9 @@ element-copy-out-join-word c = search needs
 join-word-requires : tie.Need-join-word-requires Inv-loop μ-loop
 join-word-requires c κs = search needs
 
+union-requires : tie.Need-union-requires Inv-loop μ-loop
+union-requires c κs = search needs
+
 add-i : tie.Need-add-i Inv-loop μ-loop
 add-i c = search needs
 
@@ -33,8 +36,8 @@ loop-less c = search needs
 
 loop-again : tie.Need-loop-again Inv-loop μ-loop
 loop-again c =
-    let l = c .before .before .before .before .loop in
-    λ R k. joining-goes _ _ (l .graph) _ (l .i) _ _ (c .before .before .before .loop-test .taken) (l .inv R k) (c .join-word .ensures)
+    let l = c .before .before .before .before .before .loop in
+    λ R k. joining-goes _ _ (l .graph) _ (l .i) (l .gained) (c .before .join-word .result) _ (c .before .before .before .before .loop-test .taken) (l .inv R k) (c .before .join-word .ensures) (search needs) (c .union .ensures)
 
 returns : tie.Need-returns Inv-loop μ-loop
 returns c = joining-ends _ _ _ _ _ (c .loop-test .left) (c .before .loop .inv)
@@ -49,6 +52,7 @@ join-spec =
     mul-join-word
     element-copy-out-join-word
     join-word-requires
+    union-requires
     add-i
     loop-less
     loop-again

@@ -61,13 +61,14 @@ withoutAttributeGap h R (string n k s) = R (string n k s)
 withoutAttributeGap h R (gapFrom k n) = R (gapFrom k n)
 withoutAttributeGap h R (attributeGapFrom k n) = not (eqb k h) && R (attributeGapFrom k n)
 
--- One word gains the members of another.
-pub record JoinsWord (before : List ℕ) (i more : ℕ) (after : List ℕ) (changed : Bool) : Type 0 where
+-- One word gains the members of another: those that it lacked.
+pub record JoinsWord (before : List ℕ) (i more : ℕ) (after : List ℕ) (gained : ℕ) : Type 0 where
   pub word : ℕ
   pub word-fits : word < 2 ^ 64
   pub after-is : after ≡ set before i word
   pub either : (k : ℕ) → member word k ≡ (member (getD before i 0) k || member more k)
-  pub changes : changed ≡ not (eqb word (getD before i 0))
+  pub gained-fits : gained < 2 ^ 64
+  pub gains : (k : ℕ) → member gained k ≡ (member more k && not (member (getD before i 0) k))
 
 -- The graph holds what either held, and its words have grown.
 pub record Joins (before from after : List ℕ) (changed : Bool) : Type 0 where

@@ -1,8 +1,10 @@
 -- The bytes of a proposal in the order in which the code writes them: points, variables, sorts of items, places, members.
-use Prim.Native.Nat.{ℕ, _+_, _-_, _<_}
+use Prim.Native.Nat.{ℕ, _+_, _-_, _/_, _%_, _<_, _≤_}
+use mathlib.Core.Path.{_≡_}
 use mathlib.Core.List.{List, [], _∷_, _++_}
 use mathlib.Core.Bool.{Bool, cond, not, _&&_}
-use lib.Dec.{eqb, ltb}
+use lib.Dec.{ltb}
+use lib.ListN.{length, getD, take, drop}
 use Rattle.commands.specs.Commands.{strings}
 use Rattle.summaries.specs.Proposal.{root, edge, string, gapFrom, attributeGapFrom}
 use Rattle.summaries.specs.Summaries.{Summary, Strings, Environment}
@@ -36,10 +38,6 @@ abbrev pub listedOf : Strings → ℕ → Bool
 listedOf Y s = Y s && not (Y unlisted)
 
 -- ---- the items of a template variable, by their sort
-
--- The sorts in their order; `41` to `46`.
-abbrev pub sortOf : ℕ → Sort
-sortOf i = cond (eqb i 0) Roots (cond (eqb i 1) Edges (cond (eqb i 2) Listed (cond (eqb i 3) Any (cond (eqb i 4) Origins AttributeOrigins))))
 
 -- The items of a sort are told by a first operand, a second one and a member, as far as they have them: how many first operands there are,
 -- how many second ones, and below which number the members are.
@@ -112,12 +110,9 @@ module _ (templates : ℕ) (S : Summary) where
   unfolding each rowBytes
   sortBytes sort = each (firsts templates sort) (rowBytes sort)
 
-  abbrev pub sortBytesAt : ℕ → List ℕ
-  sortBytesAt i = sortBytes (sortOf i)
-
+  -- In the order of their commands, `41` to `46`.
   unfoldable pub templateBytes : List ℕ
-  unfolding each sortBytes
-  templateBytes = each 6 sortBytesAt
+  templateBytes = sortBytes Roots ++ sortBytes Edges ++ sortBytes Listed ++ sortBytes Any ++ sortBytes Origins ++ sortBytes AttributeOrigins
 
 -- ---- the items of a string variable
 
@@ -139,14 +134,39 @@ headBytes p v (b ∷ bs) = 0x40 ∷ p ∷ v ∷ b ∷ bs
 abbrev pub entryAt : List ℕ → ℕ → Environment
 entryAt work p = entriesIn (p + 1) work p
 
+-- Bytes that stand in a buffer and end at an offset, which is no later than another.
+pub record EndAt (out : List ℕ) (at end : ℕ) (bs : List ℕ) : Type 0 where
+  pub below : end ≤ at
+  pub long : length bs ≤ end
+  pub there : take (length bs) (drop (end - length bs) out) ≡ bs
+
+-- The entries one after another: entry 8 p + v is that of variable v at point p.
 module _ (templates : ℕ) (work : List ℕ) where
-  abbrev pub variableBytes : ℕ → ℕ → List ℕ
-  variableBytes p v = headBytes p v (entryBytes templates (entryAt work p) v)
+  abbrev pub itemsAt : ℕ → List ℕ
+  itemsAt i = entryBytes templates (entryAt work (i / 8)) (i % 8)
 
-  unfoldable pub pointBytes : ℕ → List ℕ
+  abbrev pub headedAt : ℕ → List ℕ
+  headedAt i = headBytes (i / 8) (i % 8) (itemsAt i)
+
+  unfoldable pub entriesBytes : ℕ → List ℕ
   unfolding each entryBytes
-  pointBytes p = each 8 (variableBytes p)
+  entriesBytes n = each n headedAt
 
-  unfoldable pub pointsBytes : ℕ → List ℕ
-  unfolding each pointBytes
-  pointsBytes points = each points pointBytes
+  -- The bytes of the items of each of the first n entries are told.
+  abbrev pub Counted : ℕ → List ℕ → Type 0
+  Counted n lengths = (i : ℕ) → i < n → getD lengths i 0 ≡ length (itemsAt i)
+
+  -- The items of each of the first n entries stand in a buffer below an offset, and end where a table tells.
+  abbrev pub Stand : ℕ → List ℕ → ℕ → List ℕ → Type 0
+  Stand n out at ends = (i : ℕ) → i < n → EndAt out at (getD ends i 0) (itemsAt i)
+
+-- A variable has the same entry as at the point before.
+abbrev pub Repeated : List ℕ → ℕ → ℕ → Type 0
+Repeated work p v = (0 < p) × ((templates : ℕ) → entryBytes templates (entryAt work p) v ≡ entryBytes templates (entryAt work (p - 1)) v)
+
+-- No entry has more bytes of items.
+abbrev pub entryMost : ℕ
+entryMost = 393216
+
+abbrev pub FewBytes : ℕ → List ℕ → Type 0
+FewBytes n lengths = (i : ℕ) → i < n → getD lengths i 0 ≤ entryMost

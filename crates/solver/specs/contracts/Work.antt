@@ -1,10 +1,10 @@
 -- What the code leaves in the work area: of its words, and of the entries of all points that they keep.
-use Prim.Native.Nat.{ℕ, _*_, _≤_, _<_}
+use Prim.Native.Nat.{ℕ, _-_, _*_, _≤_, _<_}
 use mathlib.Core.Path.{_≡_}
 use mathlib.Core.List.{List}
 use mathlib.Core.Logic.{_⊎_}
 use mathlib.Core.Bool.{Bool, true, false, _&&_}
-use lib.ListN.{length, getD}
+use lib.ListN.{length, getD, set}
 use lib.Dec.{ltb}
 use Rattle.sets.specs.Sets.{member}
 use Rattle.pages.specs.Items.{Items}
@@ -22,7 +22,8 @@ use Rattle.jobs.specs.contracts.ScriptTables.{NamesAre, ScriptTables}
 use Rattle.graphs.specs.contracts.Growth.{sum, Grows}
 use Rattle.states.specs.contracts.States.{pointWords, inWords, entriesIn}
 use Rattle.least_entries.specs.contracts.Order.{Below}
-use Rattle.solver.specs.contracts.Flows.{BelowAll, Leads, Joins, Flows, Starts, Settling}
+use Rattle.transfers.specs.contracts.Ways.{actSources, among, meets}
+use Rattle.solver.specs.contracts.Flows.{BelowAll, Leads, Joins, Flows, Takes, Starts, Settling}
 
 -- The entries after a step in which a variable gets what an environment holds of it at a point.
 pub record Entered (points : ℕ) (before : List ℕ) (p : ℕ) (v : Variable) (G : Environment) (after : List ℕ) (changed : Bool) : Type 0 where
@@ -49,10 +50,14 @@ pub record VariableFlows (before gaps : List ℕ) (a : Act) (p next : ℕ) (v : 
       → Entered points before next v (transfer φs a (entriesIn points before p)) after changed
   pub grows : Grows before after changed
 
--- A variable that no statement names is left.
-pub record NamedFlows (before gaps : List ℕ) (names : ℕ) (a : Act) (p next v : ℕ) (after : List ℕ) (changed : Bool) : Type 0 where
-  pub flows : member names v ≡ true → VariableFlows before gaps a p next (variableOf v) after changed
-  pub left : member names v ≡ false → (after ≡ before) × (changed ≡ false)
+-- Whether a variable is made anew: some statement names it, and the act makes it from a fresh one.
+abbrev pub anew : ℕ → ℕ → Act → ℕ → Bool
+anew names fresh a v = member names v && meets (among fresh) (actSources a (variableOf v))
+
+-- No other variable is looked at.
+pub record NeededFlows (before gaps : List ℕ) (names fresh : ℕ) (a : Act) (p next v : ℕ) (after : List ℕ) (changed : Bool) : Type 0 where
+  pub flows : anew names fresh a v ≡ true → VariableFlows before gaps a p next (variableOf v) after changed
+  pub left : anew names fresh a v ≡ false → (after ≡ before) × (changed ≡ false)
 
 -- All that has words and whose origins are templates. What covers a script need not hold more.
 abbrev pub inside : Claim → Bool
@@ -71,11 +76,15 @@ pub record StepStands (π : Script) (gaps : List ℕ) (names points p next : ℕ
   pub leads : Leads π p a next
   pub bounded : AllCovered π everything
 
--- The step from a point to a next point is taken, at all variables below v.
-pub record Flowed (v : ℕ) (before gaps : List ℕ) (names : ℕ) (a : Act) (p next : ℕ) (after : List ℕ) (changed : Bool) : Type 0 where
+-- Either the words have changed, so that their sum is higher, or they are as they were, and this holds.
+abbrev pub RisesOr : List ℕ → List ℕ → Type 0 → Type 0
+RisesOr before after Still = (sum before < sum after) ⊎ ((after ≡ before) × Still)
+
+-- The step from a point to a next point is taken, at all variables below v; `changed` are those whose entries have changed.
+pub record Flowed (v : ℕ) (before gaps : List ℕ) (names fresh : ℕ) (a : Act) (p next : ℕ) (after : List ℕ) (changed : ℕ) : Type 0 where
   pub flows : (π : Script) (points : ℕ) → StepStands π gaps names points p next a → BelowAll π (entriesIn points before)
-      → Flows π v (entriesIn points before) (entriesIn points after) p a next changed
-  pub grows : Grows before after changed
+      → Flows π v (entriesIn points before) (entriesIn points after) p a next (among fresh) (among changed)
+  pub rises : RisesOr before after ((k : ℕ) → member changed k ≡ false)
 
 -- The words of 32 points, as many as a script can have.
 abbrev pub mostPoints : ℕ
@@ -84,18 +93,57 @@ mostPoints = 32
 abbrev pub HasPoints : List ℕ → Type 0
 HasPoints work = mostPoints * pointWords ≤ length work
 
--- Either words have changed, so that their sum has risen, or no other point waits.
-abbrev pub Progress : List ℕ → ℕ → List ℕ → ℕ → Type 0
-Progress before rest after waiting = (sum before < sum after) ⊎ ((sum before ≤ sum after) × ((k : ℕ) → member waiting k ≡ member rest k))
+-- The variables that wait at each point: one set for each.
+abbrev pub waitsIn : List ℕ → ℕ → Variable → Bool
+waitsIn waiting p v = among (getD waiting p 0) v
 
--- The steps of a point are taken: it waits no longer, unless it has changed itself.
-pub record Settles (s before gaps : List ℕ) (names place p rest : ℕ) (after : List ℕ) (waiting : ℕ) : Type 0 where
+-- The step from a point to a next point is taken, and what has changed waits there.
+pub record StepTaken (before gaps : List ℕ) (names fresh : ℕ) (a : Act) (p next : ℕ) (waiting after waiting′ : List ℕ) : Type 0 where
+  pub takes : (π : Script) (points : ℕ) → StepStands π gaps names points p next a → BelowAll π (entriesIn points before)
+      → Takes π (entriesIn points before) (entriesIn points after) (waitsIn waiting) (waitsIn waiting′) p a next (among fresh)
+  pub elsewhere : (q : ℕ) → (q ≡ next → ⊥) → getD waiting′ q 0 ≡ getD waiting q 0
+  pub same-length : length waiting′ ≡ length waiting
+  pub rises : RisesOr before after (waiting′ ≡ waiting)
+
+-- The steps of a point are taken: no variable waits there, unless it has changed by them.
+pub record Settles (s before gaps : List ℕ) (names place p : ℕ) (waiting after waiting′ : List ℕ) : Type 0 where
   pub settling : (π : Script) (count : ℕ) (starts : List ℕ) (points : ℕ) (places : List ℕ) → ScriptTables π s count starts points places names → GapsTable gaps (π .templates)
-      → p < points → place ≡ getD places p 0 → (waited : ℕ) → Settling π (entriesIn points before) waited
-      → ((q : ℕ) → member rest q ≡ false → (q ≡ p → ⊥) → member waited q ≡ false) → Settling π (entriesIn points after) waiting
+      → p < points → place ≡ getD places p 0 → Settling π (entriesIn points before) (waitsIn waiting) → Settling π (entriesIn points after) (waitsIn waiting′)
   pub there : (π : Script) (count : ℕ) (starts : List ℕ) (points : ℕ) (places : List ℕ) → ScriptTables π s count starts points places names → GapsTable gaps (π .templates)
-      → p < points → place ≡ getD places p 0 → ((q : ℕ) → member rest q ≡ true → q < points) → (q : ℕ) → member waiting q ≡ true → q < points
-  pub progress : Progress before rest after waiting
+      → p < points → place ≡ getD places p 0 → (q : ℕ) → points ≤ q → getD waiting q 0 ≡ 0 → getD waiting′ q 0 ≡ 0
+  pub same-length : length waiting′ ≡ length waiting
+  pub progress : RisesOr before after (waiting′ ≡ set waiting p 0)
+
+-- The entries so far and the variables that wait, of a script with these tables; where it has no point, none waits.
+pub record Working (s gaps : List ℕ) (points : ℕ) (places : List ℕ) (names : ℕ) (work waiting : List ℕ) : Type 0 where
+  pub settling : (π : Script) (count : ℕ) (starts : List ℕ) → ScriptTables π s count starts points places names → GapsTable gaps (π .templates)
+      → Settling π (entriesIn points work) (waitsIn waiting)
+  pub there : (π : Script) (count : ℕ) (starts : List ℕ) → ScriptTables π s count starts points places names → GapsTable gaps (π .templates)
+      → (q : ℕ) → points ≤ q → getD waiting q 0 ≡ 0
+
+-- No variable waits then at these points, nor where none waited before.
+abbrev pub NoneWaits : (ℕ → Type 0) → List ℕ → List ℕ → Type 0
+NoneWaits Point waiting waiting′ = (q : ℕ) → (getD waiting q 0 ≡ 0) ⊎ Point q → getD waiting′ q 0 ≡ 0
+
+-- Points are visited: the steps of those at which some variable waits are taken.
+pub record Visited (Point : ℕ → Type 0) (s gaps places : List ℕ) (names : ℕ) (before waiting after waiting′ : List ℕ) : Type 0 where
+  pub working : (points : ℕ) → Working s gaps points places names before waiting → Working s gaps points places names after waiting′
+  pub same-length : length waiting′ ≡ length waiting
+  pub rises : RisesOr before after (NoneWaits Point waiting waiting′)
+
+-- The point that a sweep upwards or downwards visits at a turn, and so the turn at which it visits a point.
+abbrev pub turned : Bool → ℕ → ℕ
+turned true k = k
+turned false k = mostPoints - 1 - k
+
+-- All variables, as `40` numbers them.
+abbrev pub allVariables : ℕ
+allVariables = 255
+
+-- The first point at which some variable waits, or 32 where there is none.
+pub record FirstWaiting (waiting : List ℕ) (p : ℕ) : Type 0 where
+  pub waits : p < mostPoints → getD waiting p 0 ≡ 0 → ⊥
+  pub skips : (q : ℕ) → q < p → getD waiting q 0 ≡ 0
 
 -- A variable gets its start at point 0.
 abbrev pub VariableStarts : ℕ → List ℕ → List ℕ → Type 0

@@ -1,5 +1,5 @@
 -- 1 has the member 0, and 0 has none.
-use mathlib.Core.Path.{_≡_, refl, sym}
+use mathlib.Core.Path.{sym}
 use Rattle.sets.specs.Sets.{member}
 use Rattle.states.proofs.any_word.Statement.{statement}
 use Rattle.states.proofs.any_word.Tie as tie

@@ -3,37 +3,30 @@ use mathlib.Core.Path.{refl}
 use borrow.Author.Needs.{needs}
 use Rattle.states.proofs.join_word.Statement.{statement}
 use Rattle.states.proofs.join_word.Tie as tie
-use Rattle.states.proofs.join_word.Reads as reads
-use Rattle.states.proofs.join_word.Lts as lts
-use Rattle.sets.proofs.union.Reads as union-reads
 
--- src/lib.rt:69:18
 mul-before : tie.Need-mul-before
 mul-before c = search needs
 
--- src/lib.rt:69:18
 slice-read-before : tie.Need-slice-read-before
 slice-read-before c = search needs
 
--- src/lib.rt:70:9
 union-requires : tie.Need-union-requires
 union-requires c κs = search needs
 
--- src/lib.rt:71:5
 mul-work : tie.Need-mul-work
 mul-work c = search needs
 
--- src/lib.rt:71:5
 slice-write-work : tie.Need-slice-write-work
 slice-write-work c = search needs
 
--- src/lib.rt:65:1
+without-requires : tie.Need-without-requires
+without-requires c κs = search needs
+
 same-length : tie.Need-same-length
 same-length c = search needs
 
--- src/lib.rt:65:1
 returns : tie.Need-returns
-returns c = (record { word = c .union .result; word-fits = search needs; after-is = refl; either = c .union .ensures; changes = refl }, c .before .slice-known2 .given _ .fits)
+returns c = (record { word = c .before .union .result; word-fits = search needs; after-is = refl; either = c .before .union .ensures; gained-fits = search needs; gains = c .without .ensures }, c .before .before .slice-known2 .given _ .fits)
 
 pub join-word-spec : {M : Type 1} → statement M
 join-word-spec =
@@ -44,5 +37,6 @@ join-word-spec =
     union-requires
     mul-work
     slice-write-work
+    without-requires
     same-length
     returns)

@@ -1,10 +1,11 @@
 -- What the code over the work area promises: what it takes out, and what it changes.
-use Prim.Native.Nat.{ℕ, _+_, _*_, _^_, _<_, _≤_}
+use Prim.Native.Nat.{ℕ, _+_, _-_, _*_, _^_, _<_, _≤_}
 use mathlib.Core.Path.{_≡_}
 use mathlib.Core.List.{List}
-use mathlib.Core.Bool.{Bool, _&&_, _||_}
+use mathlib.Core.Bool.{Bool, true, _&&_, _||_}
 use lib.ListN.{length, getD, take, drop}
 use Rattle.sets.specs.Sets.{member}
+use Rattle.sets.specs.contracts.Promises.{MembersWithin}
 use Rattle.strings.specs.declared.Values.{Values}
 use Rattle.strings.specs.contracts.Promises.{setNumber, holdsValue}
 use Rattle.summaries.specs.Proposal.{Claim}
@@ -32,6 +33,10 @@ pub record ValuesTaken (work : List ℕ) (p y : ℕ) (values : Values) : Type 0 
   pub narrow : setNumber (values .named) < 2 ^ 64
   pub keeps : (points : ℕ) → p < points → (s : ℕ) → holdsValue values s ≡ entriesIn points work p .string y s
 
+-- The words of a graph, from a place on, lie within those of another.
+abbrev pub LiesWithin : List ℕ → ℕ → ℕ → Type 0
+LiesWithin work from first = (k : ℕ) → k < 544 → MembersWithin (getD work (from + k) 0) (getD work (first + k) 0) true
+
 -- The entry of a template variable holds what it held and what these words hold, every other entry is as it was, and the words have grown.
 pub record GraphJoined (work : List ℕ) (p x : ℕ) (from : List ℕ) (after : List ℕ) (changed : Bool) : Type 0 where
   pub here : (points : ℕ) → p < points → (c : Claim) → entriesIn points after p .template x c ≡ (entriesIn points work p .template x c || (inWords c && holds from c))
@@ -45,3 +50,8 @@ pub record ValuesJoined (work : List ℕ) (p y : ℕ) (values : Values) (after :
   pub others : (points q z : ℕ) → ((q ≡ p) × (z ≡ y) → ⊥) → (s : ℕ) → entriesIn points after q .string z s ≡ entriesIn points work q .string z s
   pub templates : (points q x : ℕ) → (c : Claim) → entriesIn points after q .template x c ≡ entriesIn points work q .template x c
   pub grows : Grows work after changed
+
+-- The entries of a variable at two points hold the same; variables from 4 on are string variables.
+pub record SameEntry (points : ℕ) (work : List ℕ) (p q v : ℕ) : Type 0 where
+  pub template : v < 4 → (c : Claim) → entriesIn points work p .template v c ≡ entriesIn points work q .template v c
+  pub string : 4 ≤ v → (s : ℕ) → entriesIn points work p .string (v - 4) s ≡ entriesIn points work q .string (v - 4) s

@@ -1,12 +1,13 @@
 -- The ways in which an act makes the values of variables, and what each way gives. The laws say that the transfer functions of the acts
 -- are these.
-use Prim.Native.Nat.{ℕ, _≤_, _<_}
+use Prim.Native.Nat.{ℕ, _+_, _≤_, _<_}
 use mathlib.Core.List.{List}
-use mathlib.Core.Bool.{true, cond}
-use lib.Dec.{eqb}
+use mathlib.Core.Bool.{Bool, true, cond, _&&_, _||_}
+use lib.Dec.{eqb, ltb}
+use Rattle.sets.specs.Sets.{member}
 use Rattle.commands.specs.Commands.{strings}
 use Rattle.pages.specs.Items.{Items}
-use Rattle.programs.specs.Program.{Act, copyTemplate, setTemplate, copyString, setString, anyString, plug, plugString, show, templateAt}
+use Rattle.programs.specs.Program.{Act, copyTemplate, setTemplate, copyString, setString, anyString, plug, plugString, show, templateAt, Variable, templateVariable, stringVariable}
 use Rattle.summaries.specs.Summaries.{Summary, Strings, Environment, fragment, plugSummary, plugStringSummary}
 use Rattle.transfers.specs.declared.Made.{Made}
 use Rattle.transfers.specs.declared.Made.the-variants.{Value, Template, Plugged, Filled}
@@ -70,3 +71,28 @@ MadeThere count (Value x) = Unit {0}
 MadeThere count (Template t) = t ≤ count
 MadeThere count (Plugged x g y) = Unit {0}
 MadeThere count (Filled x h y) = Unit {0}
+
+-- The variables that a value is made from: two, or one twice. A value that is made from none counts as made from the variable itself.
+abbrev pub sources : ℕ → Made → Variable × Variable
+sources x (Value z) = (templateVariable z, templateVariable z)
+sources x (Template t) = (templateVariable x, templateVariable x)
+sources x (Plugged z g y) = (templateVariable z, templateVariable y)
+sources x (Filled z h y) = (templateVariable z, stringVariable y)
+
+abbrev pub stringSources : ℕ → MadeString → Variable × Variable
+stringSources y (Strings.Value z) = (stringVariable z, stringVariable z)
+stringSources y (One s) = (stringVariable y, stringVariable y)
+stringSources y Any = (stringVariable y, stringVariable y)
+
+abbrev pub actSources : Act → Variable → Variable × Variable
+actSources a (templateVariable x) = sources x (madeBy a x)
+actSources a (stringVariable y) = stringSources y (stringMadeBy a y)
+
+-- Whether a variable is in a set of variables, as `40` numbers them.
+abbrev pub among : ℕ → Variable → Bool
+among set (templateVariable x) = ltb x 4 && member set x
+among set (stringVariable y) = ltb y 4 && member set (4 + y)
+
+-- Whether one of two variables passes a test.
+abbrev pub meets : (Variable → Bool) → Variable × Variable → Bool
+meets test vs = test (vs .0) || test (vs .1)
