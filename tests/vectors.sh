@@ -1,8 +1,11 @@
 #!/bin/sh
 # vectors.sh VECTORS: makes anew what the programs of the gate read and have to print. VECTORS is the folder of supplied vectors; the
-# random records and those at the limits come from tests/independent, always the same for these seeds.
+# random records and those at the limits come from tests/independent, always the same for these seeds. The records called blank have
+# much blank text.
 set -eu
 vectors=$(cd "$1" && pwd)
+# What the calls answer since the newest request; it takes the place of the folders of earlier ones.
+newest="$vectors/F-2"
 cd "$(dirname "$0")/.."
 : "${CARGO_TARGET_DIR:=$PWD/target/independent}"
 export CARGO_TARGET_DIR
@@ -15,6 +18,9 @@ make="$CARGO_TARGET_DIR/release"
 "$make/limits" "$made/limits.bin" "$made/limits.verdicts"
 "$make/job-limits" "$made/job-limits.bin" "$made/job-limits.verdicts"
 "$make/make-scripts" 1 1000 "$made/scripts.bin" "$made/scripts.lines"
+"$make/make-pages" 2 2000 "$made/blank-pages.bin" "$made/blank-pages.verdicts" blank
+"$make/make-jobs" 2 1000 "$made/blank-jobs.bin" "$made/blank-jobs.verdicts" blank
+"$make/make-scripts" 2 500 "$made/blank-scripts.bin" "$made/blank-scripts.lines" blank
 
 # length N: N as 32 bits, lowest byte first.
 length() {
@@ -35,14 +41,14 @@ echo '1 0 0 0' > crates/page_check/stdout
 
 # At the end a job that is too long, J1, and a byte of a length: no line is for that one.
 {
-    cat "$vectors"/jobs-*.bin "$vectors/F-1/job.bin" "$made/jobs.bin" "$made/job-limits.bin"
+    cat "$vectors"/jobs-*.bin "$newest/job.bin" "$made/jobs.bin" "$made/blank-jobs.bin" "$made/job-limits.bin"
     too_long examples/J1
     length 121
     cat examples/J1
     printf '\000'
 } > crates/check_records/stdin
 {
-    cat "$vectors"/jobs-*.verdicts "$vectors/F-1/job.lines" "$made/jobs.verdicts" "$made/job-limits.verdicts"
+    cat "$vectors"/jobs-*.verdicts "$newest/job.lines" "$made/jobs.verdicts" "$made/blank-jobs.verdicts" "$made/job-limits.verdicts"
     echo '1 0 0 0'
     echo '0 0 0 0'
 } > crates/check_records/stdout
@@ -51,7 +57,7 @@ echo '1 0 0 0' > crates/page_check/stdout
 head -c 23 examples/page.records | tail -c 19 > "$made/vocabulary"
 tail -c 8 examples/page.records > "$made/page"
 {
-    cat "$vectors/pages.bin" "$vectors/F-1/judge.bin" "$made/pages.bin" "$made/limits.bin"
+    cat "$vectors/pages.bin" "$newest/judge.bin" "$made/pages.bin" "$made/blank-pages.bin" "$made/limits.bin"
     too_long "$made/vocabulary"
     length 8
     cat "$made/page"
@@ -65,7 +71,7 @@ tail -c 8 examples/page.records > "$made/page"
     cat "$made/page"
 } > crates/judge_records/stdin
 {
-    cat "$vectors/pages.verdicts" "$vectors/F-1/judge.lines" "$made/pages.verdicts" "$made/limits.verdicts"
+    cat "$vectors/pages.verdicts" "$newest/judge.lines" "$made/pages.verdicts" "$made/blank-pages.verdicts" "$made/limits.verdicts"
     echo '1 0 0 0'
     echo '1 0 1 0'
     echo '0 0 0 0'
@@ -73,14 +79,14 @@ tail -c 8 examples/page.records > "$made/page"
 
 # At the end a script that is too long, J1's, and a byte of a length.
 {
-    cat "$vectors/F-1/infer.bin" "$made/scripts.bin"
+    cat "$newest/infer.bin" "$made/scripts.bin" "$made/blank-scripts.bin"
     too_long examples/J1.script
     length 56
     cat examples/J1.script
     printf '\000'
 } > crates/infer_records/stdin
 {
-    cat "$vectors/F-1/infer.lines" "$made/scripts.lines"
+    cat "$newest/infer.lines" "$made/scripts.lines" "$made/blank-scripts.lines"
     echo '1 0 0 0'
     echo "ok 65 $(tail -c 65 examples/J1 | od -An -v -tx1 | tr -d ' \n' | tr a-f A-F)"
 } > crates/infer_records/stdout

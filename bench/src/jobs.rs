@@ -5,13 +5,14 @@ use independent::least::with_least;
 
 type Maker = fn(usize) -> Vec<u8>;
 
-pub const GROWING: [(&str, Maker); 6] = [
+pub const GROWING: [(&str, Maker); 7] = [
     ("mostly proposal", proposal),
     ("31 templates, 28 shows", shows),
     ("many rounds, by templates", rounds),
     ("8 facts, by clauses", facts),
     ("thousands of clauses", clauses),
     ("thousands of gaps", gaps),
+    ("half blank text", blank),
 ];
 
 /// Document 01's J1.
@@ -156,10 +157,12 @@ fn clauses(quarters: usize) -> Vec<u8> {
     job(vocabulary(3, &clauses), templates, 1, &[[1, 0, 0], [1, 0, 2]])
 }
 
-fn gaps(quarters: usize) -> Vec<u8> {
+/// A template of many gaps, each with this after it.
+fn many_gaps(count: usize, after: &[u8]) -> Vec<u8> {
     let mut template = vec![0x23, 1];
-    for i in 0..7500 * quarters {
+    for i in 0..count {
         template.extend([0x22, (i % 8) as u8]);
+        template.extend(after);
     }
     template.push(0x26);
     let mut edges = Vec::new();
@@ -172,4 +175,12 @@ fn gaps(quarters: usize) -> Vec<u8> {
     }
     let order = vec![0x11, 0x16, 2, 3, 0x12, 0x16, 2, 3];
     job(vocabulary(9, &[eight(2), order]), templates, 1, &edges)
+}
+
+fn gaps(quarters: usize) -> Vec<u8> {
+    many_gaps(7500 * quarters, &[])
+}
+
+fn blank(quarters: usize) -> Vec<u8> {
+    many_gaps(3750 * quarters, &[0x29, 0x29])
 }

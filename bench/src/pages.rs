@@ -5,8 +5,13 @@ use crate::slices::slice;
 pub type Pair = (Vec<u8>, Vec<u8>);
 type Maker = fn(usize) -> Pair;
 
-pub const GROWING: [(&str, Maker); 4] =
-    [("wide", wide), ("nested", nested), ("many clauses", clauses), ("many clauses, shapes in turn", shapes)];
+pub const GROWING: [(&str, Maker); 5] = [
+    ("wide", wide),
+    ("nested", nested),
+    ("many clauses", clauses),
+    ("many clauses, shapes in turn", shapes),
+    ("half blank text", blank),
+];
 
 const MOST: usize = 65_535;
 
@@ -34,16 +39,30 @@ fn child(i: usize) -> [u8; 8] {
     [0x23, 2, 0x24, 3, 1 + (i % 7) as u8, 0x21, 0x26, 0x21]
 }
 
-/// One element around as many small ones as fit.
-fn wide(quarters: usize) -> Pair {
+/// The same, indented: half of it is blank text.
+fn indented(i: usize) -> [u8; 16] {
+    let string = 1 + (i % 7) as u8;
+    [0x29, 0x29, 0x23, 2, 0x24, 3, string, 0x29, 0x29, 0x29, 0x21, 0x29, 0x29, 0x26, 0x29, 0x21]
+}
+
+/// One element around as many small ones as fit, and `filling` in what is left.
+fn around<const N: usize>(child: fn(usize) -> [u8; N], filling: u8, quarters: usize) -> Pair {
     let size = MOST * quarters / 4;
     let mut page = vec![0x23, 1];
-    for i in 0..(size - 4) / child(0).len() {
+    for i in 0..(size - 4) / N {
         page.extend(child(i));
     }
-    page.extend(std::iter::repeat(0x21).take(size - page.len() - 2));
+    page.extend(std::iter::repeat(filling).take(size - page.len() - 2));
     page.extend([0x26, 0x27]);
     (rules(0), page)
+}
+
+fn wide(quarters: usize) -> Pair {
+    around(child, 0x21, quarters)
+}
+
+fn blank(quarters: usize) -> Pair {
+    around(indented, 0x29, quarters)
 }
 
 /// 1,024 elements in one another, each with text, so that the page has the full size.

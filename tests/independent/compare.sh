@@ -6,35 +6,62 @@ cd "$(dirname "$0")"
 : "${CARGO_TARGET_DIR:=target}"
 export CARGO_TARGET_DIR
 cargo build --release --offline --quiet
+programs="$CARGO_TARGET_DIR/release"
 work=$(mktemp -d)
 trap 'rm -rf "$work"' EXIT
 status=0
 
+# answer PROGRAM RECORDS LINES: leaves the numbers of the records with another line in $work/differing.
+answer() {
+    "$programs/$1" < "$2" > "$work/found"
+    name="$1 $(basename "$(dirname "$2")")/$(basename "$2")"
+    lines=$(wc -l < "$3")
+    awk 'NR == FNR { line[FNR] = $0; next } line[FNR] != $0 { print FNR } END { if (FNR != n) print "count" }' \
+        n="$lines" "$3" "$work/found" > "$work/differing"
+    differ=$(wc -l < "$work/differing")
+}
+
 # compare PROGRAM RECORDS LINES
 compare() {
-    "$CARGO_TARGET_DIR/release/$1" < "$2" > "$work/found"
-    if diff "$3" "$work/found" > "$work/differing"; then
-        echo "$1 $(basename "$2"): all $(wc -l < "$3") agree"
+    answer "$@"
+    if [ "$differ" -eq 0 ]; then
+        echo "$name: all $lines agree"
     else
-        echo "$1 $(basename "$2"): $(grep -c '^>' "$work/differing" || true) of $(wc -l < "$3") differ"
+        echo "$name: $differ of $lines differ"
         status=1
     fi
 }
 
+# compare_older PROGRAM RECORDS LINES SLICES: the lines are older than F-2. A `29` that the reading came to was refused
+# with 3 there; only such answers may have moved.
+compare_older() {
+    answer "$1" "$2" "$3"
+    "$programs/refused-at-blank" "$4" "$3" < "$2" > "$work/refused"
+    if grep -vxF -f "$work/refused" "$work/differing" > "$work/unexplained"; then
+        echo "$name: $(wc -l < "$work/unexplained") of $lines differ, not refused with 3 at a 29 before"
+        status=1
+    elif [ "$differ" -eq 0 ]; then
+        echo "$name: all $lines agree"
+    else
+        echo "$name: $((lines - differ)) of $lines agree, $differ moved, each refused with 3 at a 29 before"
+    fi
+}
+
 for records in "$vectors"/pages*.bin; do
-    compare judge-records "$records" "${records%.bin}.verdicts"
+    compare_older judge-records "$records" "${records%.bin}.verdicts" 2
 done
 for records in "$vectors"/jobs*.bin; do
     # A job refused by 9 to 12 reads.
     awk '{ print ($1 > 8) ? "0 0 0 0" : $0 }' "${records%.bin}.verdicts" > "$work/reading"
-    compare read-records "$records" "$work/reading"
-    compare check-records "$records" "${records%.bin}.verdicts"
+    compare_older read-records "$records" "$work/reading" 1
+    compare_older check-records "$records" "${records%.bin}.verdicts" 1
 done
-# Once request F-1 has landed.
-if [ -d "$vectors/F-1" ]; then
-    for kind in judge:judge check:job infer:infer; do
-        records="$vectors/F-1/${kind#*:}.bin"
-        compare "${kind%:*}-records" "$records" "${records%.bin}.lines"
-    done
-fi
+for kind in judge:judge:2 check:job:1 infer:infer:1 run:run:2; do
+    program="${kind%%:*}-records"
+    slices=${kind##*:}
+    kind=${kind#*:}
+    kind=${kind%:*}
+    compare_older "$program" "$vectors/F-1/$kind.bin" "$vectors/F-1/$kind.lines" "$slices"
+    compare "$program" "$vectors/F-2/$kind.bin" "$vectors/F-2/$kind.lines"
+done
 exit $status

@@ -1,9 +1,11 @@
 -- A page that is read holds no gap and no attribute gap: `22` and `25` may not stand in one.
 use Prim.Native.Nat.{ℕ, zero, suc, _+_}
 use mathlib.Core.Path.{_≡_, refl}
+use mathlib.Core.Logic.{inl, inr}
 use mathlib.Core.List.{List, [], _∷_}
 use mathlib.Core.Bool.{Bool, true, false, cond}
 use lib.Dec.{ltb, eqb}
+use borrow.Author.Tests.{eqb-false}
 use Rattle.sets.proofs.Booleans.{neither}
 use Rattle.commands.specs.declared.Context.the-variants.{PageItems, PageAttributes}
 use Rattle.commands.specs.Commands.{byte, allowed, strings}
@@ -13,7 +15,9 @@ use Rattle.pages.specs.declared.Kind.the-variants.{Page}
 use Rattle.pages.specs.Items.{string, open-gap, Attribute, Item, Items, gapIn, gapInItem, isOpenGap, openIn, attributeGapIn, attributeGapInItem}
 use Rattle.pages.specs.ItemReading.{nesting, valueAt, attributes, endOf, leafAt, items, item, pageSlice}
 use Rattle.pages.specs.RightPages.{Gapless}
-use Rattle.agreement.proofs.Readings.{Gives, gives, refuses, runs-out, given, gives-command, gives-when, gives-then, gives-alone, is-first, is-second}
+use Rattle.pages.proofs.Steps.{leaf-code}
+use Rattle.judging.proofs.AttributeLaws.{no-template}
+use Rattle.agreement.proofs.Readings.{Gives, gives, refuses, runs-out, given, gives-command, gives-when, gives-then, gives-alone, is-second}
 
 -- No gap at any depth, and no attribute gap.
 abbrev pub NoGap : Items → Type 0
@@ -26,10 +30,14 @@ record ClosedItem (i : Item) : Type 0 where
 abbrev ClosedAttributes : List Attribute → Type 0
 ClosedAttributes δ = (h : ℕ) → openIn δ h ≡ false
 
--- Of the two commands that may stand where a page's item begins, `21` is the one that is not `23`.
+-- Of the commands that may stand where a page's item begins, `21` and `29` are those that are not `23`.
 leaf-closed : (s : List ℕ) (at code : ℕ) → allowed PageItems code ≡ true → eqb code 0x23 ≡ false → ClosedItem (leafAt s at code)
 unfolding gapIn attributeGapIn allowed
-leaf-closed s at code m e = rw (is-first 0x21 0x23 code m e) (record { gaps = λ g. refl; attribute-gaps = λ h. refl })
+leaf-closed s at code m e = elim (leaf-code Page code m (eqb-false code 0x23 e)) [
+  | inl q ↦ rw q (record { gaps = λ g. refl; attribute-gaps = λ h. refl })
+  | inr (inl q) ↦ rw q (record { gaps = λ g. refl; attribute-gaps = λ h. refl })
+  | inr (inr q) ↦ no-template (q .1)
+]
 
 -- Neither of the two attributes of a page is a gap.
 value-closed : (s : List ℕ) (at code h : ℕ) → allowed PageAttributes code ≡ true → isOpenGap (valueAt s at code) h ≡ false

@@ -12,14 +12,14 @@ use Rattle.verdicts.specs.Printed.{prints}
 use Rattle.commands.specs.Reading.{whole, refused, enough}
 use Rattle.vocabularies.specs.Vocabulary.{declared}
 use Rattle.vocabularies.specs.VocabularyReading.{vocabulary}
-use Rattle.programs.specs.Program.{statementAt}
+use Rattle.programs.specs.Program.{statementAt, templateAt}
 use Rattle.programs.specs.ProgramReading.{program}
 use Rattle.summaries.specs.ProposalReading.{proposal}
 use Rattle.summaries.specs.Summaries.{Environment}
 use Rattle.jobs.specs.Job.{Script, Job, script, job}
 use Rattle.jobs.specs.JobVerdict.{StartHolds, StepHolds, StepsBefore, ShowHolds, NotRootAt, WrongIn, nextOf, ScriptVerdict, start-uncovered, step-uncovered, not-root, wrong-element, accepted, JobVerdict, unreadable, readable}
 use Rattle.agreement.proofs.Readings.{Gives, gives, given, gives-any, gives-then, gives-alone}
-use Rattle.agreement.proofs.Marks.{AllRise, templates-rise, one-template}
+use Rattle.agreement.proofs.Marks.{AllRise, Stands, templates-rise, one-template}
 use Rattle.agreement.proofs.Pages.{accepts-right}
 
 -- Two first places at which P fails are one.
@@ -69,25 +69,32 @@ in-order (not-root c shows n l) = all-starts (c .start) (all-steps (c .steps) (s
 in-order (wrong-element c shows n w l) = all-starts (c .start) (all-steps (c .steps) (show shows (wrong n w l)))
 in-order (accepted c shows) = all-starts (c .start) (all-steps (c .steps) (all-shows shows))
 
--- The marks of a script's templates rise.
-abbrev Marked : Script → Type 0
+-- A mark stands in one template only,
+abbrev pub Apart : Script → Type 0
+Apart π = (mark t t′ : ℕ) → Stands mark (templateAt (π .templates) t) → Stands mark (templateAt (π .templates) t′) → t ≡ t′
+
+-- as where the marks of a script's templates rise.
+abbrev pub Marked : Script → Type 0
 Marked π = (low : ℕ) × (high : ℕ) × AllRise low (π .templates) high
+
+pub marked-apart : (π : Script) → Marked π → Apart π
+marked-apart π m mark t t′ = one-template (π .templates) (m .0) (m .1) mark t t′ (m .2)
 
 module _ {π : Script} {E : ℕ → Environment} where
   show-fails : {p : ℕ} {a : Numbers} → ShowFails π E p a → ShowHolds π E p → ⊥
   show-fails (no-root {t = t} n l) h = n .other (h (n .graph) (n .shows) (n .page) (t, n .derived) .alone)
   show-fails (wrong {at = at} k w l) h = accepts-right (π .vocabulary) (w .page) at (h (w .graph) (w .shows) (w .page) (w .derived) .accepted) (w .wrong)
 
-  at-show : {p : ℕ} {a b : Numbers} → Marked π → ShowFails π E p a → ShowFails π E p b → a ≡ b
+  at-show : {p : ℕ} {a b : Numbers} → Apart π → ShowFails π E p a → ShowFails π E p b → a ≡ b
   at-show m (no-root {t = t} n l) (no-root {t = t′} n′ l′) =
       let e : t ≡ t′ = omega (arith, l t′ n′, l′ t n) in rw e
   at-show m (no-root {t = t} n l) (wrong k w l′) = absurd (k t n)
   at-show m (wrong k w l) (no-root {t = t} n l′) = absurd (k t n)
   at-show m (wrong {t = t} {at = at} k w l) (wrong {t = t′} {at = at′} k′ w′ l′) =
       let e : at ≡ at′ = omega (arith, l t′ at′ w′, l′ t at w) in
-      let d : t ≡ t′ = one-template (π .templates) (m .0) (m .1) at′ t t′ (m .2) (rw e at (w .stands)) (w′ .stands) in rw (e, d)
+      let d : t ≡ t′ = m at′ t t′ (rw e at (w .stands)) (w′ .stands) in rw (e, d)
 
-  of-shows : {a b : Numbers} → Marked π → OfShows π E a → OfShows π E b → a ≡ b
+  of-shows : {a b : Numbers} → Apart π → OfShows π E a → OfShows π E b → a ≡ b
   of-shows m (show {p = p} h f) (show {p = p′} h′ f′) =
       let e : p ≡ p′ = first-unique (ShowHolds π E) p p′ (show-fails f) h (show-fails f′) h′ in at-show m f (rw (← e) at f′)
   of-shows m (show {p = p} h f) (all-shows k) = absurd (show-fails f (k p))
@@ -112,7 +119,7 @@ module _ {π : Script} {E : ℕ → Environment} where
   same-variable {p} {second} {v} {v′} F F′ =
       first-unique (StepHolds π E p second) v v′ (F .uncovered) (F .before .variables) (F′ .uncovered) (F′ .before .variables)
 
-  of-steps : {a b : Numbers} → Marked π → OfSteps π E a → OfSteps π E b → a ≡ b
+  of-steps : {a b : Numbers} → Apart π → OfSteps π E a → OfSteps π E b → a ≡ b
   of-steps m (step p second v F) (step p′ second′ v′ F′) =
       let e : p ≡ p′ = same-point F F′ in
       let G : StepFails π E p second′ v′ = rw (← e) at F′ in
@@ -123,12 +130,16 @@ module _ {π : Script} {E : ℕ → Environment} where
   of-steps m (all-steps k o) (step p second v F) = absurd (F .uncovered (k p second v (F .small)))
   of-steps m (all-steps k o) (all-steps k′ o′) = of-shows m o o′
 
-  of-start : {a b : Numbers} → Marked π → OfStart π E a → OfStart π E b → a ≡ b
+  of-start : {a b : Numbers} → Apart π → OfStart π E a → OfStart π E b → a ≡ b
   of-start m (start v h n b) (start v′ h′ n′ b′) =
       let e : v ≡ v′ = first-unique (StartHolds π E) v v′ n b n′ b′ in rw e
   of-start m (start v h n b) (all-starts k o) = absurd (n (k v h))
   of-start m (all-starts k o) (start v h n b) = absurd (n (k v h))
   of-start m (all-starts k o) (all-starts k′ o′) = of-steps m o o′
+
+-- A script has at most one verdict.
+pub script-unique : {π : Script} {E : ℕ → Environment} {a b : Numbers} → Apart π → ScriptVerdict π E a → ScriptVerdict π E b → a ≡ b
+script-unique m o o′ = of-start m (in-order o) (in-order o′)
 
 -- The marks of a script that is read.
 script-marked : (s : List ℕ) → Gives (Unit {0}) (λ π end. Marked π) (script s)
@@ -138,17 +149,17 @@ script-marked s =
     gives-then (templates-rise (declared (D .rules)) s (enough s) 0 next) λ φs next′ r.
     gives-then (gives-any (program (enough s) (length φs) s next′)) λ ts end m″. gives (next, next′, r)
 
-job-marked : (s : List ℕ) → Gives (Unit {0}) (λ j end. Marked (j .script)) (job s)
+pub job-marked : (s : List ℕ) → Gives (Unit {0}) (λ j end. Marked (j .script)) (job s)
 unfolding job
 job-marked s = gives-alone s
     (gives-then (script-marked s) λ π next m.
     gives-then (gives-any (proposal (enough s) (length (π .templates)) (length (π .program)) s 0 next)) λ hs end n. gives m)
 
--- At most one verdict.
+-- So has a job.
 pub unique : {s : List ℕ} {a b : Numbers} → JobVerdict s a → JobVerdict s b → a ≡ b
 unique (unreadable {f = f} {at = at} e) (unreadable {f = f′} {at = at′} e′) =
     let F : f ≡ f′ = cc in let A : at ≡ at′ = cc in rw (F, A)
 unique (unreadable e) (readable e′ o) = let z : _≡_ {A = ℕ} 0 1 = cc in absurd (omega arith)
 unique (readable e o) (unreadable e′) = let z : _≡_ {A = ℕ} 0 1 = cc in absurd (omega arith)
 unique {s} (readable {j = j} e o) (readable {j = j′} e′ o′) =
-    let J : j ≡ j′ = cc in of-start (given (job-marked s) e) (in-order o) (in-order (rw (← J) at o′))
+    let J : j ≡ j′ = cc in script-unique (marked-apart (j .script) (given (job-marked s) e)) o (rw (← J) at o′)

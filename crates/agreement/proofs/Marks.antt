@@ -2,7 +2,7 @@
 -- lie between the offset where reading began and the one where it ended. So no two elements have one mark.
 use Prim.Native.Nat.{ℕ, zero, suc, _+_, _≤_, _<_}
 use native.Mathlib.Omega.{arith}
-use mathlib.Core.Path.{_≡_, refl, ap}
+use mathlib.Core.Path.{_≡_}
 use mathlib.Core.List.{List, [], _∷_}
 use mathlib.Core.Bool.{Bool, true, false, cond}
 use mathlib.Core.Logic.{inl, inr}
@@ -13,7 +13,7 @@ use Rattle.commands.specs.Reading.{whole, enough}
 use Rattle.vocabularies.specs.Vocabulary.{Vocabulary, declared, isIn}
 use Rattle.pages.specs.declared.Kind.{Kind}
 use Rattle.pages.specs.declared.Kind.the-variants.{Template, Page}
-use Rattle.pages.specs.Items.{Item, text, gap, element, Items, none, more}
+use Rattle.pages.specs.Items.{Item, text, blank, gap, element, Items, none, more}
 use Rattle.pages.specs.ItemReading.{itemContext, attributeContext, nesting, attributes, endOf, leafAt, items, item, pageSlice, mostTemplates, templates}
 use Rattle.pages.specs.RightPages.{SomeElement, SomeElementOf}
 use Rattle.programs.specs.Program.{templateAt}
@@ -27,6 +27,7 @@ unfoldable mutual
 
   pub RisesIn : ℕ → Item → ℕ → Type 0
   RisesIn low text high = low ≤ high
+  RisesIn low blank high = low ≤ high
   RisesIn low (gap g) high = low ≤ high
   RisesIn low (element e mark δ φ) high = (low ≤ mark) × Rises (mark + 1) φ high
 
@@ -39,6 +40,7 @@ mutual
 
   rises-in-le : (i : Item) (low high : ℕ) → RisesIn low i high → low ≤ high
   rises-in-le text low high r = r
+  rises-in-le blank low high r = r
   rises-in-le (gap g) low high r = r
   rises-in-le (element e mark δ φ) low high r = omega (arith, rises-le φ (mark + 1) high (r .1))
 
@@ -59,6 +61,7 @@ mutual
 
   pub within-item : (i : Item) (low high mark : ℕ) → RisesIn low i high → StandsIn mark i → (low ≤ mark) × (mark < high)
   within-item text low high mark r s = absurd s
+  within-item blank low high mark r s = absurd s
   within-item (gap g) low high mark r s = absurd s
   within-item (element e m δ φ) low high mark r (inl s) = omega (arith, r .0, rises-le φ (m + 1) high (r .1))
   within-item (element e m δ φ) low high mark r (inr s) = omega (arith, r .0, within φ (m + 1) high mark (r .1) s)
@@ -73,6 +76,7 @@ mutual
 
   rises-in-from : (i : Item) (low from high : ℕ) → low ≤ from → RisesIn from i high → RisesIn low i high
   rises-in-from text low from high h r = omega arith
+  rises-in-from blank low from high h r = omega arith
   rises-in-from (gap g) low from high h r = omega arith
   rises-in-from (element e mark δ φ) low from high h r = (omega (arith, r .0), r .1)
 
@@ -88,11 +92,12 @@ module _ (k : Kind) (s : List ℕ) where
 
 leaf-rises : (s : List ℕ) (at code low high : ℕ) → low ≤ high → RisesIn low (leafAt s at code) high
 unfolding Rises
-leaf-rises s at code low high h = cases (eqb code 0x21)
+leaf-rises s at code low high h = cases (eqb code 0x21) (eqb code 0x29)
   where
-    cases : (b : Bool) → RisesIn low (cond b text (gap (byte s (at + 1)))) high
-    cases true = h
-    cases false = h
+    cases : (a b : Bool) → RisesIn low (cond a text (cond b blank (gap (byte s (at + 1))))) high
+    cases true b = h
+    cases false true = h
+    cases false false = h
 
 module _ (k : Kind) (ruled : ℕ → Bool) (s : List ℕ) where
   mutual
@@ -160,18 +165,21 @@ within-all (φ ∷ φs) low high mark (suc zero) r s = within φ low (r .0) mark
 within-all (φ ∷ φs) low high mark (suc (suc t)) r s =
     omega (arith, rises-le φ low (r .0) (r .1), within-all φs (r .0) high mark (suc t) (r .2) s)
 
--- So an element's mark stands in one template only.
+-- A lower template has the lower marks,
+pub templates-in-order : (φs : List Items) (low high mark mark′ t t′ : ℕ) → AllRise low φs high → Stands mark (templateAt φs t)
+    → Stands mark′ (templateAt φs t′) → mark ≤ mark′ → t ≤ t′
+unfolding AllRise templateAt SomeElement
+templates-in-order [] low high mark mark′ t t′ r s s′ h = absurd s
+templates-in-order (φ ∷ φs) low high mark mark′ zero t′ r s s′ h = absurd s
+templates-in-order (φ ∷ φs) low high mark mark′ (suc t) zero r s s′ h = absurd s′
+templates-in-order (φ ∷ φs) low high mark mark′ (suc zero) (suc t′) r s s′ h = omega arith
+templates-in-order (φ ∷ φs) low high mark mark′ (suc (suc t)) (suc zero) r s s′ h =
+    absurd (omega (arith, within φ low (r .0) mark′ (r .1) s′, within-all φs (r .0) high mark (suc t) (r .2) s))
+templates-in-order (φ ∷ φs) low high mark mark′ (suc (suc t)) (suc (suc t′)) r s s′ h =
+    omega (arith, templates-in-order φs (r .0) high mark mark′ (suc t) (suc t′) (r .2) s s′ h)
+
+-- so an element's mark stands in one template only.
 pub one-template : (φs : List Items) (low high mark t t′ : ℕ) → AllRise low φs high → Stands mark (templateAt φs t)
     → Stands mark (templateAt φs t′) → t ≡ t′
-unfolding AllRise templateAt SomeElement
-one-template [] low high mark t t′ r s s′ = absurd s
-one-template (φ ∷ φs) low high mark zero t′ r s s′ = absurd s
-one-template (φ ∷ φs) low high mark (suc zero) zero r s s′ = absurd s′
-one-template (φ ∷ φs) low high mark (suc zero) (suc zero) r s s′ = refl
-one-template (φ ∷ φs) low high mark (suc zero) (suc (suc t′)) r s s′ =
-    absurd (omega (arith, within φ low (r .0) mark (r .1) s, within-all φs (r .0) high mark (suc t′) (r .2) s′))
-one-template (φ ∷ φs) low high mark (suc (suc t)) zero r s s′ = absurd s′
-one-template (φ ∷ φs) low high mark (suc (suc t)) (suc zero) r s s′ =
-    absurd (omega (arith, within φ low (r .0) mark (r .1) s′, within-all φs (r .0) high mark (suc t) (r .2) s))
-one-template (φ ∷ φs) low high mark (suc (suc t)) (suc (suc t′)) r s s′ =
-    ap suc (one-template φs (r .0) high mark (suc t) (suc t′) (r .2) s s′)
+one-template φs low high mark t t′ r s s′ =
+    omega (arith, templates-in-order φs low high mark mark t t′ r s s′ (omega arith), templates-in-order φs low high mark mark t′ t r s′ s (omega arith))

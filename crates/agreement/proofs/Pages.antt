@@ -10,7 +10,7 @@ use mathlib.Core.Logic.{_↔_, inl, inr}
 use borrow.Author.Tests.{eq-eqb}
 use Rattle.sets.proofs.Booleans.{or-neither}
 use Rattle.vocabularies.specs.Vocabulary.{Vocabulary}
-use Rattle.pages.specs.Items.{Attribute, Item, text, gap, element, Items, more, gapIn, gapInItem}
+use Rattle.pages.specs.Items.{Attribute, Item, text, blank, gap, element, Items, more, gapIn, gapInItem}
 use Rattle.pages.specs.Items as Items
 use Rattle.pages.specs.RightPages.{ElementRight, Way, ElementWrong, Accepts, AcceptsItem, SomeElement, SomeElementOf, WrongAt}
 use Rattle.judging.specs.contracts.Judgement.{orElse, firstWrong, firstWrongItem}
@@ -61,6 +61,7 @@ module _ (D : Vocabulary) where
 
     found-in : (i : Item) → FoundIn D i (firstWrongItem D i)
     found-in text = no-wrong-in (λ n. tt)
+    found-in blank = no-wrong-in (λ n. tt)
     found-in (gap g) = no-wrong-in (λ n. gap-gapless g n)
     found-in (element e mark δ φ) = found-element (decided-right D e δ φ) (found φ)
 
@@ -75,6 +76,7 @@ module _ (D : Vocabulary) where
 
     accepts-item-right : (i : Item) (mark : ℕ) → AcceptsItem D i → WrongItem D mark i → ⊥
     accepts-item-right text mark a w = w
+    accepts-item-right blank mark a w = w
     accepts-item-right (gap g) mark a w = w
     accepts-item-right (element e m δ φ) mark a (inl w) = wrong-iff D e δ φ .0 (w .1) (a .0)
     accepts-item-right (element e m δ φ) mark a (inr w) = accepts-right φ mark (a .1) w
@@ -107,6 +109,7 @@ mutual
 
   wrong-in-stands : (D : Vocabulary) (i : Item) (mark : ℕ) → WrongItem D mark i → StandsIn mark i
   wrong-in-stands D text mark w = w
+  wrong-in-stands D blank mark w = w
   wrong-in-stands D (gap g) mark w = w
   wrong-in-stands D (element e m δ φ) mark (inl w) = inl (w .0)
   wrong-in-stands D (element e m δ φ) mark (inr w) = inr (wrong-stands D φ mark w)
@@ -145,6 +148,7 @@ module _ (D : Vocabulary) (mark : ℕ) where
 
     found-in-by-then : (i : Item) (low high : ℕ) → RisesIn low i high → WrongItem D mark i → ByThen mark (firstWrongItem D i)
     found-in-by-then text low high r w = absurd w
+    found-in-by-then blank low high r w = absurd w
     found-in-by-then (gap g) low high r w = absurd w
     found-in-by-then (element e m δ φ) low high r (inl w) = at-element m (firstWrong D φ) (w .0) (wrong-iff D e δ φ .0 (w .1)) (decided-right D e δ φ)
     found-in-by-then (element e m δ φ) low high r (inr w) =

@@ -66,7 +66,7 @@ pageVerdict-is v p = of-vocabulary (vocabularySlice v) refl
 
 module _ {v p : List ℕ} where
   -- Of a page that can be read, the verdict is the judgement of that page.
-  judged-of : {D : Vocabulary} {page : Items} → Readable v p D page
+  pub judged-of : {D : Vocabulary} {page : Items} → Readable v p D page
       → pageVerdict v p ≡ cond (isAlone (D .root) page) (wrongVerdict (firstWrong D page)) (Refused (Refusals.Page (NotRoot 0 0)))
   unfolding pageVerdict
   judged-of R = rw (R .vocabulary-reads, R .page-reads)

@@ -105,6 +105,10 @@ module _ (x : Context) (s : List ℕ) (at : ℕ) (here : at < length s) where
   unfolding operandsOf
   text-moves code may = bare-moves 0x21 code may refl
 
+  pub blank-moves : byte s at ≡ 0x29 → allowed x 0x29 ≡ true → Moved 0x29 (record { at = at + 1 }) ≡ command x s at
+  unfolding operandsOf
+  blank-moves code may = bare-moves 0x29 code may refl
+
   pub element-moves : byte s at ≡ 0x23 → allowed x 0x23 ≡ true → at + 2 ≤ length s → between 1 63 (byte s (at + 1)) ≡ true
       → Moved 0x23 (record { at = at + 2 }) ≡ command x s at
   unfolding operandsOf allInRange inRange

@@ -1,3 +1,4 @@
 pub mod Operands
 pub mod Spelling
 pub mod Laws
+pub mod BlankText

@@ -1,6 +1,6 @@
--- The commands of document 01, "A job, command by command": which operands each has, the operands' ranges, where it may stand, and
--- what is read at an offset. A command's first byte is written as there, in hexadecimal. `04`, `26` and `27` have no operand and one
--- place each; they are told where clauses and items are read.
+-- The commands of document 01, "A job, command by command", and of document 02's F-2 (`29`): which operands each has, the operands'
+-- ranges, where it may stand, and what is read at an offset. A command's first byte is written as there, in hexadecimal. `04`, `26` and
+-- `27` have no operand and one place each; they are told where clauses and items are read.
 use Prim.Native.Nat.{ℕ, zero, suc, _+_, _*_}
 use mathlib.Core.List.{List, [], _∷_}
 use mathlib.Core.Bool.{Bool, true, cond, _&&_, _||_, not}
@@ -129,16 +129,16 @@ abbrev pub either : ℕ → ℕ → ℕ → Bool
 either a b c = eqb c a || eqb c b
 
 -- Which commands may stand at a place. An item may follow in an element as outside it; what ends a list of items is told apart
--- where lists are read. `28` stands in pages alone, `22` and `25` in templates alone.
+-- where lists are read. `28` stands in pages alone, `22` and `25` in templates alone; `29`, blank text (document 02, F-2), where `21` does.
 unfoldable pub allowed : Context → ℕ → Bool
 allowed Rules c = either 0x01 0x05 c
 allowed Attributes c = eqb c 0x02
 allowed Contents c = eqb c 0x03
 allowed Formulas c = between 0x10 0x17 c
 allowed Templates c = either 0x20 0x2F c
-allowed TemplateItems c = between 0x21 0x23 c
+allowed TemplateItems c = between 0x21 0x23 c || eqb c 0x29
 allowed TemplateAttributes c = either 0x24 0x25 c
-allowed PageItems c = either 0x21 0x23 c
+allowed PageItems c = either 0x21 0x23 c || eqb c 0x29
 allowed PageAttributes c = either 0x24 0x28 c
 allowed FirstStatement c = between 0x30 0x38 c
 allowed Statements c = between 0x30 0x38 c || eqb c 0x3F

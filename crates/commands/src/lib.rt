@@ -110,9 +110,9 @@ pub fn is_allowed(context: Context, code: u8) -> bool
         Context::Contents => code == 0x03,
         Context::Formulas => is_between(0x10, 0x17, code),
         Context::Templates => is_either(0x20, 0x2F, code),
-        Context::TemplateItems => is_between(0x21, 0x23, code),
+        Context::TemplateItems => is_between(0x21, 0x23, code) || code == 0x29,
         Context::TemplateAttributes => is_either(0x24, 0x25, code),
-        Context::PageItems => is_either(0x21, 0x23, code),
+        Context::PageItems => is_either(0x21, 0x23, code) || code == 0x29,
         Context::PageAttributes => is_either(0x24, 0x28, code),
         Context::FirstStatement => is_between(0x30, 0x38, code),
         Context::Statements => is_between(0x30, 0x38, code) || code == 0x3F,
@@ -276,9 +276,9 @@ impl Position {
         Decoded::Moved(code, Position { at: at + 1 + more })
     }
 
-    // The command here, where text and elements may stand: `21` and `23 e` are seen at once.
+    // The command here, where text and elements may stand: `21`, `29` and `23 e` are seen at once.
     pub fn item_command(self, s: &[u8], context: Context) -> Decoded
-        requires { ⌜ (allowed context 0x21 ≡ true) × (allowed context 0x23 ≡ true) ⌝ }
+        requires { ⌜ (allowed context 0x21 ≡ true) × (allowed context 0x29 ≡ true) × (allowed context 0x23 ≡ true) ⌝ }
         ensures { λ r. ⌜ r ≡ command context (now (s .entry)) (self .at) ⌝ }
     {
         let at = self.at;
@@ -288,6 +288,9 @@ impl Position {
         let code = s[at];
         if code == 0x21 {
             return Decoded::Moved(0x21, Position { at: at + 1 });
+        }
+        if code == 0x29 {
+            return Decoded::Moved(0x29, Position { at: at + 1 });
         }
         if code != 0x23 {
             return self.command(s, context);

@@ -5,6 +5,7 @@ use mathlib.Core.Path.{_≡_, refl, sym, ap, ap₂, subst, _∙_}
 use mathlib.Core.List.{List, []}
 use mathlib.Core.Bool.{Bool, true, false, not, _&&_, and-false, false≢true}
 use mathlib.Core.Logic.{inl, inr}
+use mathlib.Core.Option as Option
 use borrow.Author.Tests.{ne-eqb, eq-eqb}
 use Rattle.commands.specs.declared.Position.{Position}
 use Rattle.commands.specs.Reading.{whole}
@@ -12,13 +13,13 @@ use Rattle.vocabularies.specs.Vocabulary.{Formula}
 use Rattle.vocabularies.specs.Facts.{factsOf}
 use Rattle.pages.specs.declared.Kind.the-variants.{Template}
 use Rattle.pages.specs.declared.ItemHere.{ItemHere}
-use Rattle.pages.specs.declared.ItemHere.the-variants.{Text, Gap, Element, End}
+use Rattle.pages.specs.declared.ItemHere.the-variants.{Text, Gap, Element, Blank, End}
 use Rattle.pages.specs.Items.{Attribute, Item, Items}
 use Rattle.pages.specs.Items as Items
 use Rattle.pages.specs.ItemReading.{item, items}
 use Rattle.pages.specs.RightPages.{names}
 use Rattle.pages.specs.contracts.Steps.{itemHere}
-use Rattle.pages.proofs.Steps.{text-first, gap-first, element-first, end-first, element-item, no-attribute}
+use Rattle.pages.proofs.Steps.{LeafFirst, text-first, blank-first, gap-first, element-first, end-first, element-item, no-attribute}
 use Rattle.summaries.specs.Summaries.{Summary}
 use Rattle.patterns.specs.declared.Wrong.{Wrong}
 use Rattle.patterns.specs.declared.Wrong.the-variants.{Nowhere}
@@ -170,19 +171,27 @@ module _ (s : List ℕ) (c : Clause) (words : List ℕ) (takes : List (List ℕ)
         rw (F .no-more) (record { ends = F .after; finds = sym (lower-nowhere wrong) })
 
     module _ (after : Position) (found : Wrong) where
+      -- An item that is no element adds none.
+      adds-leaf : (i : Item) → ((p : ℕ → ℕ → List Attribute → Items → Bool) → lowestMarkIn p i ≡ Option.none) → (next : Position)
+          → ((ruled : ℕ → Bool) (f depth end : ℕ) (φ : Items) → items f Template ruled s depth at ≡ whole φ end → LeafFirst Template ruled s depth at i next φ end)
+          → Adds wrong (next .at) after found → Adds wrong at after found
+      unfolding lowestMark
+      adds-leaf i none-in next first A φs G ψ X S ruled f depth end φ e =
+          let F = first ruled f depth end φ e in
+          let a = A φs G ψ X S ruled (F .fuel) depth end (F .rest) (F .reads-rest) in
+          rw (F .is-more) (record { ends = a .ends; finds = rw (none-in (failsAt φs G ψ X n (c .element))) (a .finds) })
+
       pub adds-text : (next : Position) → h ≡ Text next → Adds wrong (next .at) after found → Adds wrong at after found
       unfolding lowestMark
-      adds-text next q A φs G ψ X S ruled f depth end φ e =
-          let F = text-first f Template ruled s depth at φ end e h is next q in
-          let a = A φs G ψ X S ruled (F .fuel) depth end (F .rest) (F .reads-rest) in
-          rw (F .is-more) (record { ends = a .ends; finds = a .finds })
+      adds-text next q = adds-leaf Items.text (λ p. refl) next λ ruled f depth end φ e. text-first f Template ruled s depth at φ end e h is next q
+
+      pub adds-blank : (next : Position) → h ≡ Blank next → Adds wrong (next .at) after found → Adds wrong at after found
+      unfolding lowestMark
+      adds-blank next q = adds-leaf Items.blank (λ p. refl) next λ ruled f depth end φ e. blank-first f Template ruled s depth at φ end e h is next q
 
       pub adds-gap : (g : ℕ) (next : Position) → h ≡ Gap g next → Adds wrong (next .at) after found → Adds wrong at after found
       unfolding lowestMark
-      adds-gap g next q A φs G ψ X S ruled f depth end φ e =
-          let F = gap-first f Template ruled s depth at φ end e h is g next q .leaf in
-          let a = A φs G ψ X S ruled (F .fuel) depth end (F .rest) (F .reads-rest) in
-          rw (F .is-more) (record { ends = a .ends; finds = a .finds })
+      adds-gap g next q = adds-leaf (Items.gap g) (λ p. refl) next λ ruled f depth end φ e. gap-first f Template ruled s depth at φ end e h is g next q .leaf
 
       pub adds-element : (e : ℕ) (start : Position) → h ≡ Element e start → (own : FoundElement) → SearchesElement s at e start c words takes n own
           → (wrong′ : Wrong) → wrong′ ≡ lowerWrong wrong (own .wrong) → Adds wrong′ (own .next .at) after found → Adds wrong at after found

@@ -226,6 +226,7 @@ fn search_items(
                 let longer = languages::with_element(scheme, line, e, found.yields);
                 line = longer;
             }
+            ItemHere::Blank(next) => here = next,
             ItemHere::End(next) => {
                 let set = line.set;
                 return FoundItems { set, wrong, next };

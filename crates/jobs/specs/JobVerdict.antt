@@ -47,7 +47,7 @@ module _ (π : Script) (E : ℕ → Environment) where
   ShowHolds p = (G : Summary) → graphShown (π .templates) (π .program) E p ≡ some G
       → (page : Items) → Language (π .templates) G page → Right (π .vocabulary) page
 
-  -- Some page of root template t is not exactly the root element.
+  -- Some page of root template t is not exactly the root element, blank text left out.
   pub record NotRootAt (p t : ℕ) : Type 0 where
     pub graph : Summary
     pub shows : graphShown (π .templates) (π .program) E p ≡ some graph

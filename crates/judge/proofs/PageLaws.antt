@@ -29,12 +29,12 @@ use Rattle.vocabularies.specs.contracts.Promises.{Describes, VocabularyReads}
 use Rattle.vocabularies.proofs.Laws.{agrees-whole, agrees-refused}
 use Rattle.pages.specs.declared.Kind.the-variants.{Page}
 use Rattle.pages.specs.declared.ItemHere.{ItemHere}
-use Rattle.pages.specs.declared.ItemHere.the-variants.{Text, Gap, Element, End}
-use Rattle.pages.specs.Items.{Items, none, more}
+use Rattle.pages.specs.declared.ItemHere.the-variants.{Text, Gap, Element, Blank, End}
+use Rattle.pages.specs.Items.{Items, none, more, _⋈_, withoutBlank}
 use Rattle.pages.specs.ItemReading.{items, pageSlice}
 use Rattle.pages.specs.contracts.Steps.{itemHere}
 use Rattle.pages.proofs.Whole.{never-unfinished, items-whole}
-use Rattle.pages.proofs.Steps.{ElementFirst, text-first, gap-first, element-first, end-first}
+use Rattle.pages.proofs.Steps.{ElementFirst, text-first, blank-first, gap-first, element-first, end-first}
 use Rattle.judging.specs.declared.Judged.{Judged}
 use Rattle.pages.specs.PageVerdict.{PageVerdict}
 use Rattle.judging.specs.contracts.Judgement.{firstWrong, isNone, isAlone, wrongVerdict, judged, pageVerdict}
@@ -43,7 +43,8 @@ use Rattle.judging.specs.contracts.Promises.{markOf, JudgesItem}
 use Rattle.judging.proofs.Booleans.{by-test}
 use Rattle.judging.proofs.AttributeLaws.{no-template}
 use Rattle.judging.proofs.ItemLaws.{or-none}
-use Rattle.judge.specs.contracts.Answers.{notRoot, firstRefusal, JudgesRead, JudgesPage}
+use Rattle.judge.specs.contracts.Answers.{notRoot, firstRefusal, Solid, AfterBlank, JudgesRead, JudgesPage}
+use Rattle.judge.proofs.BlankLaws.{none-left}
 
 is-none : (φ : Items) → isNone φ ≡ true → φ ≡ none
 is-none none e = refl
@@ -58,65 +59,80 @@ ends-there (suc f) ruled p at φ end e = elim (items-whole f Page ruled p 0 at �
   | inr r ↦ rw (r .is-more, ne-eqb (byte p at) 0x27 (r .not-ended))
 ]
 
-module _ (D : Vocabulary) (p : List ℕ) (f : ℕ) (φ : Items) (end : ℕ) (reads : items f Page (declared (D .rules)) p 0 0 ≡ whole φ end)
-    (h : ItemHere) (is : h ≡ itemHere p 0) where
+-- What is left of a page behind its first blank text, by what stands there.
+module _ (D : Vocabulary) (p : List ℕ) (φ : Items) (at end : ℕ) (S : Solid (declared (D .rules)) p φ at end) (h : ItemHere) (is : h ≡ itemHere p at) where
   abbrev ruled : ℕ → Bool
   ruled = declared (D .rules)
 
   -- What does not begin with an element is not the root alone.
   no-element : (e : ℕ) → ((x : ℕ) (next : Position) → h ≡ Element x next → ⊥) → isAlone e φ ≡ false
+  unfolding withoutBlank _⋈_
   no-element e other = elim h as (λ x. h ≡ x → isAlone e φ ≡ false) [
-    | Text next ↦ λ q. rw (text-first f Page ruled p 0 0 φ end reads h is next q .is-more)
-    | Gap g next ↦ λ q. no-template (gap-first f Page ruled p 0 0 φ end reads h is g next q .in-template)
+    | Text next ↦ λ q. rw (S .same, text-first (S .fuel) Page ruled p 0 at (S .left) end (S .reads) h is next q .is-more)
+    | Gap g next ↦ λ q. no-template (gap-first (S .fuel) Page ruled p 0 at (S .left) end (S .reads) h is g next q .in-template)
     | Element x next ↦ λ q. absurd (other x next q)
-    | End next ↦ λ q. rw (end-first f Page ruled p 0 0 φ end reads h is next q .no-more)
+    | Blank next ↦ λ q. let w = blank-first (S .fuel) Page ruled p 0 at (S .left) end (S .reads) h is next q in absurd (S .begins (w .rest) (w .is-more))
+    | End next ↦ λ q. rw (S .same, end-first (S .fuel) Page ruled p 0 at (S .left) end (S .reads) h is next q .no-more)
   ] refl
 
   module _ (x : ℕ) (start : Position) (opens : h ≡ Element x start) where
-    abbrev first : ElementFirst Page ruled p 0 0 x start φ end
-    first = element-first f Page ruled p 0 0 φ end reads h is x start opens
+    abbrev first : ElementFirst Page ruled p 0 at x start (S .left) end
+    first = element-first (S .fuel) Page ruled p 0 at (S .left) end (S .reads) h is x start opens
 
     -- Nor is another element.
     other-element : (e : ℕ) → (x ≡ e → ⊥) → isAlone e φ ≡ false
-    other-element e other = rw (first .is-more, ne-eqb x e other)
+    unfolding withoutBlank _⋈_
+    other-element e other = rw (S .same, first .is-more, ne-eqb x e other)
 
-    module _ (r : Judged) (J : JudgesItem D p 0 r) where
+    module _ (r : Judged) (J : JudgesItem D p at r) (last : Position) (B : AfterBlank p (r .next .at) last) where
+      -- What is left behind the element and the blank text after it.
+      behind : Solid ruled p (first .rest) (last .at) end
+      behind =
+          let j = J (first .fuel) 0 (first .middle) _ (first .reads-first) in
+          B ruled (first .fuel) end (first .rest) (rw (j .ends) (first .reads-rest))
+
+      ends-behind : isNone (withoutBlank (first .rest)) ≡ eqb (byte p (last .at)) 0x27
+      ends-behind =
+          let b = behind in
+          rw (b .same) (none-left (b .left) (b .begins) ∙ ends-there (b .fuel) ruled p (last .at) (b .left) end (b .reads))
+
       -- The root is alone, if the page ends after it; and what is wrong is wrong in it.
-      alone-if : (e : ℕ) → x ≡ e → isAlone e φ ≡ eqb (byte p (r .next .at)) 0x27
-      alone-if e root =
-          let j = J (first .fuel) 0 (first .middle) _ (first .reads-first) in
-          rw (first .is-more, eq-eqb x e root, j .ends) (ends-there (first .fuel) ruled p (first .middle) (first .rest) end (first .reads-rest))
+      alone-if : (e : ℕ) → x ≡ e → isAlone e φ ≡ eqb (byte p (last .at)) 0x27
+      unfolding withoutBlank _⋈_
+      alone-if e root = rw (S .same, first .is-more, eq-eqb x e root) ends-behind
 
-      wrong-in : byte p (r .next .at) ≡ 0x27 → firstWrong D φ ≡ markOf (r .wrong)
+      wrong-in : byte p (last .at) ≡ 0x27 → firstWrong D φ ≡ markOf (r .wrong)
       unfolding firstWrong
-      wrong-in last =
+      wrong-in at-end =
+          let b = behind in
           let j = J (first .fuel) 0 (first .middle) _ (first .reads-first) in
-          let n : isNone (first .rest) ≡ true = ends-there (first .fuel) ruled p (first .middle) (first .rest) end (first .reads-rest) ∙ eq-eqb _ 0x27 (rw (j .ends) at last) in
-          rw (first .is-more, is-none (first .rest) n) (or-none _ ∙ sym (j .finds))
+          let n : b .left ≡ none = is-none (b .left) (ends-there (b .fuel) ruled p (last .at) (b .left) end (b .reads) ∙ eq-eqb _ 0x27 at-end) in
+          rw (S .finds D, first .is-more, b .finds D, n) (or-none _ ∙ sym (j .finds))
 
 abbrev unreadable : Form → ℕ → ℕ → Verdict
 unreadable f at slice = Refused (Refusals.Form f (record { at = at; slice = slice }))
 
 -- ---- a page that was read
 
-module _ (v p : List ℕ) (t : Tables) (r : Verdict) where
-  module _ (h : ItemHere) (first-is : h ≡ itemHere p 0) where
+module _ (v p : List ℕ) (t : Tables) (r : Verdict) (at : Position) (A : AfterBlank p 0 at) where
+  module _ (h : ItemHere) (first-is : h ≡ itemHere p (at .at)) where
     pub no-element-first : r ≡ notRoot → ((x : ℕ) (next : Position) → h ≡ Element x next → ⊥) → JudgesRead v p t r
-    no-element-first is other D H φ end reads = is ∙ rw (no-element D p (enough p) φ end reads h first-is (D .root) other)
+    no-element-first is other D H φ end reads = is ∙ rw (no-element D p φ (at .at) end (A _ (enough p) end φ reads) h first-is (D .root) other)
 
     module _ (x : ℕ) (start : Position) (opens : h ≡ Element x start) where
       pub other-root-first : r ≡ notRoot → (x ≡ t .root → ⊥) → JudgesRead v p t r
       other-root-first is other D H φ end reads =
-          is ∙ rw (other-element D p (enough p) φ end reads h first-is x start opens (D .root) (λ q. other (q ∙ sym (H .names-root))))
+          is ∙ rw (other-element D p φ (at .at) end (A _ (enough p) end φ reads) h first-is x start opens (D .root) (λ q. other (q ∙ sym (H .names-root))))
 
-      module _ (i : Judged) (J : (D : Vocabulary) → Describes v D t → JudgesItem D p 0 i) where
+      module _ (i : Judged) (J : (D : Vocabulary) → Describes v D t → JudgesItem D p (at .at) i) (last : Position) (B : AfterBlank p (i .next .at) last) where
         -- 11 by what follows the root, before 12.
-        pub root-judged : x ≡ t .root → r ≡ firstRefusal (cond (eqb (byte p (i .next .at)) 0x27) Accepted notRoot) (wrongVerdict (markOf (i .wrong)))
+        pub root-judged : x ≡ t .root → r ≡ firstRefusal (cond (eqb (byte p (last .at)) 0x27) Accepted notRoot) (wrongVerdict (markOf (i .wrong)))
             → JudgesRead v p t r
         root-judged root is D H φ end reads =
-            let a = alone-if D p (enough p) φ end reads h first-is x start opens i (J D H) (D .root) (root ∙ H .names-root) in
-            is ∙ by-test (eqb (byte p (i .next .at)) 0x27)
-            (λ e. rw (a, e, wrong-in D p (enough p) φ end reads h first-is x start opens i (J D H) (eqb-true (byte p (i .next .at)) 0x27 e)))
+            let S = A _ (enough p) end φ reads in
+            let a = alone-if D p φ (at .at) end S h first-is x start opens i (J D H) last B (D .root) (root ∙ H .names-root) in
+            is ∙ by-test (eqb (byte p (last .at)) 0x27)
+            (λ e. rw (a, e, wrong-in D p φ (at .at) end S h first-is x start opens i (J D H) last B (eqb-true (byte p (last .at)) 0x27 e)))
             (λ e. rw (a, e))
 
 -- ---- a page under a vocabulary that was read

@@ -8,7 +8,7 @@ ghost use Rattle.commands.specs.Commands.{byte};
 ghost use Rattle.pages.specs.PageVerdict.{PageVerdict};
 ghost use Rattle.judging.specs.contracts.Judgement.{wrongVerdict};
 ghost use Rattle.judging.specs.contracts.Promises.{markOf};
-ghost use Rattle.judge.specs.contracts.Answers.{notRoot, firstRefusal, JudgesRead, JudgesPage};
+ghost use Rattle.judge.specs.contracts.Answers.{notRoot, firstRefusal, AfterBlank, JudgesRead, JudgesPage};
 use commands::Part;
 use commands::Past;
 use commands::Position;
@@ -53,6 +53,20 @@ fn wrong_element(wrong: FirstWrong) -> Verdict
     Verdict::Refused(Refusal::Page(element))
 }
 
+// The position after the blank text here, outside all elements.
+fn after_blank(page: &[u8], here: Position) -> Position
+    ensures { λ r. ⌜ AfterBlank (now (page .entry)) (here .at) r ⌝ }
+{
+    let mut p = here;
+    loop {
+        let item = pages::item_here(page, p);
+        let ItemHere::Blank(next) = item else {
+            return p;
+        };
+        p = next;
+    }
+}
+
 // 11, unless the page ends here.
 fn page_end(page: &[u8], here: Position) -> Verdict
     ensures { λ r. ⌜ r ≡ cond (eqb (byte (now (page .entry)) (here .at)) 0x27) Verdict.Accepted notRoot ⌝ }
@@ -73,11 +87,11 @@ fn first_refusal(first: Verdict, second: Verdict) -> Verdict
     first
 }
 
-// 11, unless the page is exactly one element, the root; then 12.
+// 11, unless the page is exactly one element, the root, and blank text; then 12.
 fn judge_read(vocabulary: &[u8], tables: Tables, page: &[u8]) -> Verdict
     ensures { λ r. ⌜ JudgesRead (now (vocabulary .entry)) (now (page .entry)) tables r ⌝ }
 {
-    let start = Position::new(0);
+    let start = after_blank(page, Position::new(0));
     let first = pages::item_here(page, start);
     let ItemHere::Element(e, _) = first else {
         return not_root();
@@ -100,7 +114,8 @@ fn judge_read(vocabulary: &[u8], tables: Tables, page: &[u8]) -> Verdict
     );
     let next = root.next;
     let wrong = root.wrong;
-    let alone = page_end(page, next);
+    let last = after_blank(page, next);
+    let alone = page_end(page, last);
     let right = wrong_element(wrong);
     first_refusal(alone, right)
 }

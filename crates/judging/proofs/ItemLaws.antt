@@ -1,5 +1,5 @@
 -- Items and lists of items: what the judgement of the parts says of the whole.
-use Prim.Native.Nat.{ℕ, _+_, _≤_}
+use Prim.Native.Nat.{ℕ, _+_, _≤_, _<_}
 use mathlib.Core.Path.{_≡_, refl, sym, ap, subst, _∙_}
 use mathlib.Core.Logic.{_⊎_, inl, inr}
 use mathlib.Core.List.{List, [], _∷_, _++_, append-assoc, append-nil}
@@ -8,18 +8,20 @@ use mathlib.Core.Option.{Option, some, none}
 use native.Mathlib.Numerals.{add-one}
 use native.Mathlib.Omega.{arith}
 use lib.ListN.{length}
+use lib.Dec.{eqb}
+use borrow.Author.Tests.{eqb-false}
 use Rattle.commands.specs.declared.Position.{Position}
 use Rattle.commands.specs.Reading.{whole}
 use Rattle.vocabularies.specs.Vocabulary.{Vocabulary, ruleOf, declared, isSome}
 use Rattle.vocabularies.specs.Vocabulary as Vocabularies
 use Rattle.pages.specs.declared.Kind.the-variants.{Page}
 use Rattle.pages.specs.declared.ItemHere.{ItemHere}
-use Rattle.pages.specs.declared.ItemHere.the-variants.{Text, Gap, Element, End}
-use Rattle.pages.specs.Items.{Item, text, element, Items, more}
+use Rattle.pages.specs.declared.ItemHere.the-variants.{Text, Gap, Element, Blank, End}
+use Rattle.pages.specs.Items.{Item, text, blank, element, Items, more}
 use Rattle.pages.specs.ItemReading.{item, items}
 use Rattle.pages.specs.RightPages.{word, wordItem}
 use Rattle.pages.specs.contracts.Steps.{itemHere}
-use Rattle.pages.proofs.Steps.{no-attribute, text-first, gap-first, element-first, end-first, text-item, gap-item, element-item, no-item}
+use Rattle.pages.proofs.Steps.{no-attribute, text-first, blank-first, gap-first, element-first, end-first, text-item, blank-item, gap-item, element-item, no-item}
 use Rattle.judging.specs.declared.Contents.{Contents}
 use Rattle.judging.specs.declared.FirstWrong.{FirstWrong}
 use Rattle.judging.specs.declared.FirstWrong.the-variants.{Nowhere, At}
@@ -41,11 +43,17 @@ or-or (some n) b c = refl
 pub found-at : (at : ℕ) → wrongOf (at + 1) ≡ some at
 found-at at = rw (add-one at)
 
--- The variant's number is none of the others'.
-pub no-tag : (_≡_ {A = ℕ} 2 0) ⊎ ((_≡_ {A = ℕ} 2 1) ⊎ (_≡_ {A = ℕ} 2 3)) → ⊥
-no-tag (inl e) = omega (arith, e)
-no-tag (inr (inl e)) = omega (arith, e)
-no-tag (inr (inr e)) = omega (arith, e)
+-- A variant's number is none of the others'.
+pub no-tag : (n a b c d : ℕ) → (eqb n a ≡ false) × (eqb n b ≡ false) × (eqb n c ≡ false) × (eqb n d ≡ false)
+    → (n ≡ a) ⊎ ((n ≡ b) ⊎ ((n ≡ c) ⊎ (n ≡ d))) → ⊥
+no-tag n a b c d h (inl e) = eqb-false n a (h .0) e
+no-tag n a b c d h (inr (inl e)) = eqb-false n b (h .1) e
+no-tag n a b c d h (inr (inr (inl e))) = eqb-false n c (h .2) e
+no-tag n a b c d h (inr (inr (inr e))) = eqb-false n d (h .3) e
+
+-- What has another number is no element.
+pub no-element-tag : (_≡_ {A = ℕ} 2 0) ⊎ ((_≡_ {A = ℕ} 2 1) ⊎ ((_≡_ {A = ℕ} 2 3) ⊎ (_≡_ {A = ℕ} 2 4))) → ⊥
+no-element-tag = no-tag 2 0 1 3 4 (refl, refl, refl, refl)
 
 first-marked : (a b : FirstWrong) → markOf (firstMark a b) ≡ orElse (markOf a) (markOf b)
 first-marked Nowhere b = refl
@@ -66,13 +74,14 @@ module _ (D : Vocabulary) (p : List ℕ) where
   -- ---- an item
 
   module _ (at : ℕ) (h : ItemHere) (is : h ≡ itemHere p at) where
-    -- What is no element is text.
+    -- What is no element is text or blank text.
     pub leaf-judged : ((e : ℕ) (next : Position) → h ≡ Element e next → ⊥) → JudgesItem D p at (record { next = stepNext h; wrong = Nowhere })
     unfolding firstWrongItem
     leaf-judged other f depth end i reads = elim h as (λ x. h ≡ x → ItemJudged D i end (record { next = stepNext x; wrong = Nowhere })) [
       | Text next ↦ λ q. let t = text-item f Page ruled p depth at i end reads h is next q in rw (t .0) (record { ends = t .1; finds = refl })
       | Gap g next ↦ λ q. no-template (gap-item f Page ruled p depth at i end reads h is g next q .in-template)
       | Element e next ↦ λ q. absurd (other e next q)
+      | Blank next ↦ λ q. let t = blank-item f Page ruled p depth at i end reads h is next q in rw (t .0) (record { ends = t .1; finds = refl })
       | End next ↦ λ q. no-item f Page ruled p depth at i end reads h is next q
     ] refl
 
@@ -129,21 +138,21 @@ module _ (D : Vocabulary) (p : List ℕ) where
             finds = sym (L .finds ∙ rw (E .no-more) (or-none (markOf wrong)));
           }
 
-      -- One content more.
-      module _ (c : ℕ) (r : Contents) (last : List (List ℕ)) (next : ℕ)
-          (one : (w : List ℕ) → Containing w (inside .set) order (inside .count) → Containing (w ++ (c ∷ [])) (r .set) last (r .count)) where
-        item-left : (fuel : ℕ) (i : Item) (rest : Items) → J .left .left ≡ more i rest → ((w : List ℕ) → wordItem i w ≡ c ∷ w)
+      -- An item more, with its contents: one, or none.
+      module _ (cs : List ℕ) (r : Contents) (last : List (List ℕ)) (next : ℕ)
+          (add : (w : List ℕ) → Containing w (inside .set) order (inside .count) → Containing (w ++ cs) (r .set) last (r .count)) where
+        item-left : (fuel : ℕ) (i : Item) (rest : Items) → J .left .left ≡ more i rest → ((w : List ℕ) → wordItem i w ≡ cs ++ w)
             → items fuel Page ruled p depth next ≡ whole rest end → (w : FirstWrong) → orElse (markOf wrong) (firstWrongItem D i) ≡ markOf w → Judging last next r w
         unfolding word firstWrong
-        item-left fuel i rest is-more is-c reads w found = record {
-          before = J .before ++ (c ∷ []);
-          contains = one (J .before) (J .contains);
+        item-left fuel i rest is-more is-cs reads w found = record {
+          before = J .before ++ cs;
+          contains = add (J .before) (J .contains);
           left = record {
             fuel = fuel;
             left = rest;
             reads = reads;
-            is = J .left .is ∙ ap (λ (x : Items). J .before ++ word x) is-more ∙ ap (λ (x : List ℕ). J .before ++ x) (is-c (word rest))
-                ∙ sym (append-assoc (J .before) (c ∷ []) (word rest));
+            is = J .left .is ∙ ap (λ (x : Items). J .before ++ word x) is-more ∙ ap (λ (x : List ℕ). J .before ++ x) (is-cs (word rest))
+                ∙ sym (append-assoc (J .before) cs (word rest));
             finds = J .left .finds ∙ ap (λ (x : Items). orElse (markOf wrong) (firstWrong D x)) is-more
                 ∙ sym (or-or (markOf wrong) (firstWrongItem D i) (firstWrong D rest)) ∙ ap (λ (o : Option ℕ). orElse o (firstWrong D rest)) found;
           };
@@ -155,7 +164,14 @@ module _ (D : Vocabulary) (p : List ℕ) where
       text-more next e r last one =
           let L = J .left in
           let F = text-first (L .fuel) Page ruled p depth at (L .left) end (L .reads) h is next e in
-          item-left 0 r last (next .at) one (F .fuel) text (F .rest) (F .is-more) (λ w. refl) (F .reads-rest) wrong (or-none (markOf wrong))
+          item-left (0 ∷ []) r last (next .at) one (F .fuel) text (F .rest) (F .is-more) (λ w. refl) (F .reads-rest) wrong (or-none (markOf wrong))
+
+      blank-more : (next : Position) → h ≡ Blank next → Judging order (next .at) inside wrong
+      unfolding wordItem firstWrongItem
+      blank-more next e =
+          let L = J .left in
+          let F = blank-first (L .fuel) Page ruled p depth at (L .left) end (L .reads) h is next e in
+          item-left [] inside order (next .at) (λ w C. rw (append-nil w) C) (F .fuel) blank (F .rest) (F .is-more) (λ w. refl) (F .reads-rest) wrong (or-none (markOf wrong))
 
       pub gap-more : {A : Type 0} (g : ℕ) (next : Position) → h ≡ Gap g next → A
       gap-more g next e =
@@ -170,7 +186,7 @@ module _ (D : Vocabulary) (p : List ℕ) where
           let L = J .left in
           let F = element-first (L .fuel) Page ruled p depth at (L .left) end (L .reads) h is x start e in
           let j = judges (F .fuel) depth (F .middle) _ (F .reads-first) in
-          item-left x r last (i .next .at) one (F .fuel) _ (F .rest) (F .is-more) (λ w. refl) (rw (j .ends) (F .reads-rest)) (firstMark wrong (i .wrong))
+          item-left (x ∷ []) r last (i .next .at) one (F .fuel) _ (F .rest) (F .is-more) (λ w. refl) (rw (j .ends) (F .reads-rest)) (firstMark wrong (i .wrong))
           (rw (← j .finds) (sym (first-marked wrong (i .wrong))))
 
 -- The state of the walk over a list.
@@ -181,3 +197,15 @@ pub record Going (v attributes contents clauses p : List ℕ) (at₀ : ℕ) (ord
   pub remembered : Remembered v shapes
   pub judging : (D : Vocabulary) → Tabled v D attributes contents clauses → (f depth : ℕ) (φ : Items) (end : ℕ) → items f Page (declared (D .rules)) p depth at₀ ≡ whole φ end
       → Judging D p depth φ end order at inside wrong
+
+-- Over blank text nothing else changes.
+pub going-blank : (v attributes contents clauses p : List ℕ) (at₀ : ℕ) (order shapes : List (List ℕ)) (at : ℕ) (inside : Contents) (wrong : FirstWrong)
+    → Going v attributes contents clauses p at₀ order shapes at inside wrong → (h : ItemHere) → h ≡ itemHere p at → (next : Position) → h ≡ Blank next → at < next .at
+    → Going v attributes contents clauses p at₀ order shapes (next .at) inside wrong
+going-blank v attributes contents clauses p at₀ order shapes at inside wrong g h is next e on = record {
+  forward = omega (arith, g .forward);
+  room = g .room;
+  counted = g .counted;
+  remembered = g .remembered;
+  judging = λ D T f depth φ end reads. blank-more D p depth φ end order at inside wrong (g .judging D T f depth φ end reads) h is next e;
+}

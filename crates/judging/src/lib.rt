@@ -452,6 +452,7 @@ fn judge_leaf(item: ItemHere) -> Judged
         ItemHere::Text(next) => Judged { next, wrong },
         ItemHere::Gap(_, next) => Judged { next, wrong },
         ItemHere::Element(_, next) => Judged { next, wrong },
+        ItemHere::Blank(next) => Judged { next, wrong },
         ItemHere::End(next) => Judged { next, wrong },
     }
 }
@@ -537,6 +538,9 @@ fn judge_items(
                 let later = judged.wrong;
                 wrong = wrong.or(later);
                 place = judged.next;
+            }
+            ItemHere::Blank(next) => {
+                place = next;
             }
             ItemHere::End(next) => {
                 return Listed {

@@ -1,23 +1,24 @@
 -- The gaps of templates that were read are 0 to 7.
 use Prim.Native.Nat.{ℕ, zero, suc, _+_, _<_, _≤_}
-use mathlib.Core.Path.{_≡_, refl, subst}
+use mathlib.Core.Path.{_≡_, subst}
 use mathlib.Core.List.{List, [], _∷_}
-use mathlib.Core.Bool.{Bool, true, false, cond, false≢true}
+use mathlib.Core.Bool.{Bool, true, false, false≢true}
 use mathlib.Core.Logic.{inl, inr, ⊎-elim}
 use native.Mathlib.Omega.{arith}
 use lib.ListN.{length, getD}
-use lib.Dec.{eqb, leb}
-use borrow.Author.Tests.{eqb-true, eqb-false, leb-true}
+use lib.Dec.{leb}
+use borrow.Author.Tests.{eqb-true, leb-true}
 use Rattle.commands.specs.declared.Context.the-variants.{TemplateItems}
 use Rattle.commands.specs.Commands.{byte, allowed, operandsOf, inRange, allInRange}
 use Rattle.commands.specs.Reading.{whole}
 use Rattle.commands.proofs.Laws.{moved}
 use Rattle.pages.specs.declared.Kind.the-variants.{Template}
-use Rattle.pages.specs.Items.{Item, text, gap, Items, gapIn, gapInItem}
+use Rattle.pages.specs.Items.{Item, Items, gapIn, gapInItem}
 use Rattle.pages.specs.ItemReading.{leafAt, items, item}
 use Rattle.pages.proofs.Whole.{never-unfinished, items-whole, item-whole}
+use Rattle.pages.proofs.Steps.{leaf-code}
 use Rattle.programs.specs.Program.{templateAt}
-use Rattle.sets.proofs.Booleans.{or-cases, and-left, and-right}
+use Rattle.sets.proofs.Booleans.{or-cases, and-left}
 use Rattle.pages.specs.contracts.Gaps.{StartsAt}
 
 gap-range : (s : List ℕ) (at : ℕ) → allInRange (operandsOf (byte s at)) s (at + 1) ≡ true → byte s at ≡ 0x22 → byte s (at + 1) < 8
@@ -27,23 +28,15 @@ gap-range s at ranges code =
     let l = leb-true (byte s (at + 1)) 7 (and-left (leb (byte s (at + 1)) 7) true range) in
     omega arith
 
--- What is neither text nor an element is a gap.
-gap-code : (c : ℕ) → allowed TemplateItems c ≡ true → (c ≡ 0x21 → ⊥) → (c ≡ 0x23 → ⊥) → c ≡ 0x22
-unfolding allowed
-gap-code c a t e =
-    let l = leb-true 0x21 c (and-left (leb 0x21 c) (leb c 0x23) a) in
-    let h = leb-true c 0x23 (and-right (leb 0x21 c) (leb c 0x23) a) in
-    omega arith
-
 module _ (s : List ℕ) (ruled : ℕ → Bool) where
   leaf-low : (at g : ℕ) → allowed TemplateItems (byte s at) ≡ true → allInRange (operandsOf (byte s at)) s (at + 1) ≡ true → (byte s at ≡ 0x23 → ⊥)
       → gapInItem (leafAt s at (byte s at)) g ≡ true → g < 8
   unfolding gapIn
-  leaf-low at g permitted ranges no-element p = go (eqb (byte s at) 0x21) (λ e. eqb-false (byte s at) 0x21 e) p
-    where
-      go : (t : Bool) → (t ≡ false → byte s at ≡ 0x21 → ⊥) → gapInItem (cond t text (gap (byte s (at + 1)))) g ≡ true → g < 8
-      go true other q = absurd (false≢true q)
-      go false other q = subst (λ (k : ℕ). k < 8) (eqb-true (byte s (at + 1)) g q) (gap-range s at ranges (gap-code (byte s at) permitted (other refl) no-element))
+  leaf-low at g permitted ranges no-element p = elim (leaf-code Template (byte s at) permitted no-element) [
+    | inl q ↦ absurd (false≢true (rw q at p))
+    | inr (inl q) ↦ absurd (false≢true (rw q at p))
+    | inr (inr q) ↦ subst (λ (k : ℕ). k < 8) (eqb-true (byte s (at + 1)) g (rw (q .0) at p)) (gap-range s at ranges (q .0))
+  ]
 
   mutual
     unfolding items gapIn

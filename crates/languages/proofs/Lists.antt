@@ -10,13 +10,13 @@ use Rattle.commands.specs.declared.Position.{Position}
 use Rattle.commands.specs.Reading.{whole}
 use Rattle.pages.specs.declared.Kind.the-variants.{Template}
 use Rattle.pages.specs.declared.ItemHere.{ItemHere}
-use Rattle.pages.specs.declared.ItemHere.the-variants.{Text, Gap, Element, End}
+use Rattle.pages.specs.declared.ItemHere.the-variants.{Text, Gap, Element, Blank, End}
 use Rattle.pages.specs.declared.AttributeHere.{AttributeHere}
 use Rattle.pages.specs.declared.AttributeHere.the-variants.{Fixed, Open, Done}
-use Rattle.pages.specs.Items.{open-gap, Attribute, Item, text, gap, element, Items, more}
+use Rattle.pages.specs.Items.{open-gap, Attribute, Item, text, blank, gap, element, Items, more}
 use Rattle.pages.specs.ItemReading.{attributes, item, items}
 use Rattle.pages.specs.contracts.Steps.{itemHere, attributeHere}
-use Rattle.pages.proofs.Steps.{text-first, gap-first, element-first, end-first, fixed-first, open-first, none-first}
+use Rattle.pages.proofs.Steps.{text-first, blank-first, gap-first, element-first, end-first, fixed-first, open-first, none-first}
 use Rattle.summaries.specs.Summaries.{Summary}
 use Rattle.patterns.specs.contracts.Morphisms.{Morphism}
 use Rattle.patterns.specs.contracts.Rounds.{Set, Sets, only, anyBelow, valueTakes, attributesTake, allTake, itemTakes, product, patterns, itemPatterns}
@@ -218,6 +218,14 @@ module _ (s : List ℕ) (r : Scheme) (graph : List ℕ) (n : ℕ) (takes : List 
         let (lent, sets) = given φs G M X known in
         let q = text-first f Template ruled s depth at φ end reads h is next e in
         (text, q .rest, q .fuel, q .is-more, q .reads-rest, W M (lent .reads) (lent .used) takes A l))
+
+    -- Blank text has the empty word's pattern alone, the unit.
+    pub list-blank : (next : Position) → h ≡ Blank next → at < next .at → ListTo start line (next .at)
+    unfolding patterns
+    list-blank next e on = further line (next .at) (omega arith) (λ φs G M X known A l ruled f depth end φ reads.
+        let q = blank-first f Template ruled s depth at φ end reads h is next e in
+        let same = product-unit-right M (monoid (given φs G M X known .0 .used)) A in
+        (blank, q .rest, q .fuel, q .is-more, q .reads-rest, line-as takes line A _ l (λ x k. sym (same x k))))
 
     pub list-gap : (g : ℕ) (next : Position) → h ≡ Gap g next → at < next .at → (longer : Line) → LineWithGap r takes line g longer → ListTo start longer (next .at)
     unfolding patterns

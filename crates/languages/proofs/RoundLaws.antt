@@ -11,7 +11,7 @@ use lib.ListN.{length, getD}
 use lib.Dec.{eqb}
 use Rattle.sets.specs.Sets.{member}
 use Rattle.sets.proofs.Laws.{member-zero}
-use Rattle.pages.specs.Items.{Item, text, gap, Items, gapIn, gapInItem}
+use Rattle.pages.specs.Items.{Item, text, blank, gap, Items, gapIn, gapInItem}
 use Rattle.pages.specs.Items as Items
 use Rattle.programs.specs.Program.{templateAt}
 use Rattle.summaries.specs.Proposal.{edge}
@@ -80,6 +80,7 @@ module _ (φs : List Items) (G : Summary) (M : Morphism) (lawful : Lawful M) (mo
 
     item-same : (i : Item) → ((g : ℕ) → gapInItem i g ≡ true → GapSame g) → (z : ℕ) → z < M .size → itemPatterns φs G M X n i z ≡ itemPatterns φs G M Y n i z
     item-same text same z l = refl
+    item-same blank same z l = refl
     item-same (gap g) same z l = same g (eqb-same g) z l
     item-same (Items.element e mark δ φ) same z l = ap (λ (t : Bool). attributesTake G n δ && t && only (M .of (e ∷ [])) z)
         (takes-same φ (λ x h. items-same φ same x h))

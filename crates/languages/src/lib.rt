@@ -253,6 +253,7 @@ fn list_patterns(
                     line = longer;
                 }
             }
+            ItemHere::Blank(next) => here = next,
             ItemHere::End(next) => {
                 let set = line.set;
                 return Patterned { set, next };

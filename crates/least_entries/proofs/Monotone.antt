@@ -11,7 +11,7 @@ use Rattle.programs.specs.Program.{Act, copyTemplate, setTemplate, copyString, 
 use Rattle.programs.specs.Runs.{closing}
 use Rattle.summaries.specs.Proposal.{root, edge, string, gapFrom, attributeGapFrom}
 use Rattle.summaries.specs.Summaries.{Summary, Strings, Environment, Within, plugSummary, plugStringSummary, transfer}
-use Rattle.summaries.specs.Languages.{isTaken, closedSummary, AttributesDerive, no-attribute, fixed, filled, Derives, nothing, item-then, ItemDerives, text-stays, gap-takes, element-keeps, Language, summaryShown, closedIfShown, statementGraph, graphShown}
+use Rattle.summaries.specs.Languages.{isTaken, closedSummary, AttributesDerive, no-attribute, fixed, filled, Derives, nothing, item-then, ItemDerives, text-stays, blank-stays, gap-takes, element-keeps, Language, summaryShown, closedIfShown, statementGraph, graphShown}
 use Rattle.jobs.specs.Job.{Script}
 use Rattle.jobs.specs.JobVerdict.{ShowHolds}
 use Rattle.least_entries.specs.contracts.Order.{Below}
@@ -105,6 +105,7 @@ module _ (φs : List Items) (G G′ : Summary) (w : Within G G′) where
 
     item-grows : {n : ℕ} {i : Item} {v : Items} → ItemDerives φs G n i v → ItemDerives φs G′ n i v
     item-grows text-stays = text-stays
+    item-grows blank-stays = blank-stays
     item-grows (gap-takes m e d) = gap-takes m (w _ e) (derived-grows d)
     item-grows (element-keeps a d) = element-keeps (attributes-grow a) (derived-grows d)
 

@@ -10,7 +10,7 @@ use lib.Dec.{eqb, leb, ltb}
 use borrow.Author.Tests.{eqb-true, ltb-true, lt-ltb, le-leb}
 use Rattle.vocabularies.specs.Vocabulary.{Vocabulary}
 use Rattle.pages.specs.declared.Kind.the-variants.{Template}
-use Rattle.pages.specs.Items.{Value, open-gap, Attribute, Item, text, gap, element, Items, none, more, gapIn, gapInItem, isOpenGap, openIn, attributeGapIn, attributeGapInItem}
+use Rattle.pages.specs.Items.{Value, open-gap, Attribute, Item, text, blank, gap, element, Items, none, more, gapIn, gapInItem, isOpenGap, openIn, attributeGapIn, attributeGapInItem}
 use Rattle.pages.specs.Items as Items
 use Rattle.programs.specs.Program.{Act, copyTemplate, setTemplate, copyString, setString, anyString, plug, plugString, show, Statement, step, statementAt, Variable, templateVariable, stringVariable, named, templateAt}
 use Rattle.summaries.specs.Proposal.{Claim, root, edge, string, gapFrom, attributeGapFrom}
@@ -73,6 +73,7 @@ module _ (ruled : ℕ → Bool) where
 
     item-gap-low : (j : Item) → ItemInRange Template ruled j → (g : ℕ) → gapInItem j g ≡ true → g < 8
     item-gap-low text i g e = absurd (false≢true e)
+    item-gap-low blank i g e = absurd (false≢true e)
     item-gap-low (gap k) i g e = let same = eqb-true k g e in omega arith
     item-gap-low (element n mark δ φ) i g e = gap-low φ (i .4) g e
 
@@ -85,6 +86,7 @@ module _ (ruled : ℕ → Bool) where
 
     item-attribute-gap-low : (j : Item) → ItemInRange Template ruled j → (h : ℕ) → attributeGapInItem j h ≡ true → h < 8
     item-attribute-gap-low text i h e = absurd (false≢true e)
+    item-attribute-gap-low blank i h e = absurd (false≢true e)
     item-attribute-gap-low (gap k) i h e = absurd (false≢true e)
     item-attribute-gap-low (element n mark δ φ) i h e = ⊎-elim (open-low δ (i .2) h) (λ q. attribute-gap-low φ (i .4) h q) (or-cases (openIn δ h) (attributeGapIn φ h) e)
 

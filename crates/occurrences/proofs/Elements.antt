@@ -10,7 +10,7 @@ use lib.Seq.{getD-set-same, getD-set-other}
 use lib.Dec.{eqb}
 use borrow.Author.Tests.{eq-eqb, eqb-true, eqb-false}
 use Rattle.sets.specs.Sets.{member}
-use Rattle.pages.specs.Items.{Attribute, Item, text, gap, element, Items, none, more}
+use Rattle.pages.specs.Items.{Attribute, Item, text, blank, gap, element, Items, none, more}
 use Rattle.pages.specs.RightPages.{SomeElement, SomeElementOf}
 use Rattle.sets.proofs.Booleans.{or-left, or-right}
 use Rattle.patterns.proofs.Standing.{Saying}
@@ -26,6 +26,7 @@ module _ (P Q : Saying) (to : (e mark : ℕ) (δ : List Attribute) (φ : Items) 
 
     all-into-of : (i : Item) → AllElementsOf P i → AllElementsOf Q i
     all-into-of text h = tt
+    all-into-of blank h = tt
     all-into-of (gap g) h = tt
     all-into-of (element e mark δ φ) h = (to e mark δ φ (h .0), all-into φ (h .1))
 
@@ -41,6 +42,7 @@ module _ (P Q : Saying) (R : Type 0) (met : (e mark : ℕ) (δ : List Attribute)
 
     all-met-of : (i : Item) → AllElementsOf P i → SomeElementOf Q i → R
     all-met-of text h s = absurd s
+    all-met-of blank h s = absurd s
     all-met-of (gap g) h s = absurd s
     all-met-of (element e mark δ φ) h (inl s) = met e mark δ φ (h .0) s
     all-met-of (element e mark δ φ) h (inr s) = all-met φ (h .1) s

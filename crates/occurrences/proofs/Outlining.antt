@@ -1,5 +1,5 @@
 -- The items of a template, one after the other, with the table that tells of their elements.
-use Prim.Native.Nat.{ℕ, _+_, _≤_}
+use Prim.Native.Nat.{ℕ, _+_, _≤_, _<_}
 use mathlib.Core.Path.{_≡_, refl, sym, subst, _∙_}
 use mathlib.Core.List.{List, []}
 use mathlib.Core.Bool.{Bool, _||_}
@@ -10,15 +10,15 @@ use Rattle.commands.specs.declared.Position.{Position}
 use Rattle.commands.specs.Reading.{whole}
 use Rattle.pages.specs.declared.Kind.the-variants.{Template}
 use Rattle.pages.specs.declared.ItemHere.{ItemHere}
-use Rattle.pages.specs.declared.ItemHere.the-variants.{Text, Gap, Element, End}
-use Rattle.pages.specs.Items.{Items}
+use Rattle.pages.specs.declared.ItemHere.the-variants.{Text, Gap, Element, Blank, End}
+use Rattle.pages.specs.Items.{Item, Items}
 use Rattle.pages.specs.Items as Items
 use Rattle.pages.specs.ItemReading.{items}
 use Rattle.pages.specs.contracts.Steps.{itemHere, AfterAttributes}
-use Rattle.pages.proofs.Steps.{text-first, gap-first, element-first, end-first, element-item, no-attribute}
-use Rattle.reach.proofs.Outlining.{Outlined, outlined-none, outlined-all, outlined-text, outlined-gap, outlined-element}
+use Rattle.pages.proofs.Steps.{LeafFirst, text-first, blank-first, gap-first, element-first, end-first, element-item, no-attribute}
+use Rattle.reach.proofs.Outlining.{Outlined, outlined-none, outlined-all, outlined-text, outlined-blank, outlined-gap, outlined-element}
 use Rattle.occurrences.specs.declared.Outer.{Outer}
-use Rattle.occurrences.specs.contracts.Occurrences.{AllElements, Stands, AllTold, Keeps}
+use Rattle.occurrences.specs.contracts.Occurrences.{AllElements, AllElementsOf, Stands, AllTold, Keeps}
 use Rattle.occurrences.specs.contracts.Promises.{TellsElement, TellsItems}
 use Rattle.occurrences.proofs.Elements.{still-told}
 
@@ -61,30 +61,33 @@ module _ (s : List ℕ) (n : ℕ) where
         rw (F .no-more) (record { ends = F .after; outlined = outlined-none contents gaps; tells = tt })
 
     module _ (r : Outer) (table : List ℕ) where
+      -- An item that is no element, by what it adds to the outline.
+      list-leaf : (i : Item) → AllElementsOf (λ e mark δ χ. Stands table n e) i → (next : Position) (contents′ gaps′ : ℕ)
+          → ((φ : Items) (contents″ gaps″ : ℕ) → Outlined contents′ gaps′ φ contents″ gaps″ → Outlined contents gaps (Items.more i φ) contents″ gaps″)
+          → ((ruled : ℕ → Bool) (f depth end : ℕ) (φ : Items) → items f Template ruled s depth at ≡ whole φ end → LeafFirst Template ruled s depth at i next φ end)
+          → Adds contents′ gaps′ (next .at) r table → Adds contents gaps at r table
+      unfolding AllElements
+      list-leaf i told next contents′ gaps′ outline first A ruled f depth end φ e =
+          let F = first ruled f depth end φ e in
+          let a = A ruled (F .fuel) depth end (F .rest) (F .reads-rest) in
+          rw (F .is-more) (record { ends = a .ends; outlined = outline (F .rest) (r .contents) (r .gaps) (a .outlined); tells = (told, a .tells) })
+
       pub list-text : (next : Position) → h ≡ Text next → (contents′ : ℕ) → ((k : ℕ) → member contents′ k ≡ (eqb k 0 || member contents k))
           → Adds contents′ gaps (next .at) r table → Adds contents gaps at r table
       unfolding AllElements
-      list-text next q contents′ is-contents A ruled f depth end φ e =
-          let F = text-first f Template ruled s depth at φ end e h is next q in
-          let a = A ruled (F .fuel) depth end (F .rest) (F .reads-rest) in
-          rw (F .is-more) (record {
-            ends = a .ends;
-            outlined = outlined-text contents gaps (F .rest) (r .contents) (r .gaps) contents′ is-contents (a .outlined);
-            tells = (tt, a .tells);
-          })
+      list-text next q contents′ is-contents = list-leaf Items.text tt next contents′ gaps (λ φ x y. outlined-text contents gaps φ x y contents′ is-contents)
+          λ ruled f depth end φ e. text-first f Template ruled s depth at φ end e h is next q
 
-      pub list-gap : (g : ℕ) (next : Position) → h ≡ Gap g next → (gaps′ : ℕ) → ((k : ℕ) → member gaps′ k ≡ (eqb k g || member gaps k))
+      pub list-blank : (next : Position) → h ≡ Blank next → Adds contents gaps (next .at) r table → Adds contents gaps at r table
+      unfolding AllElements
+      list-blank next q = list-leaf Items.blank tt next contents gaps (outlined-blank contents gaps)
+          λ ruled f depth end φ e. blank-first f Template ruled s depth at φ end e h is next q
+
+      pub list-gap : (g : ℕ) → g < 8 → (next : Position) → h ≡ Gap g next → (gaps′ : ℕ) → ((k : ℕ) → member gaps′ k ≡ (eqb k g || member gaps k))
           → Adds contents gaps′ (next .at) r table → Adds contents gaps at r table
       unfolding AllElements
-      list-gap g next q gaps′ is-gaps A ruled f depth end φ e =
-          let K = gap-first f Template ruled s depth at φ end e h is g next q in
-          let F = K .leaf in
-          let a = A ruled (F .fuel) depth end (F .rest) (F .reads-rest) in
-          rw (F .is-more) (record {
-            ends = a .ends;
-            outlined = outlined-gap contents gaps (F .rest) (r .contents) (r .gaps) g gaps′ (K .small) is-gaps (a .outlined);
-            tells = (tt, a .tells);
-          })
+      list-gap g small next q gaps′ is-gaps = list-leaf (Items.gap g) tt next contents gaps′ (λ φ x y. outlined-gap contents gaps φ x y g gaps′ small is-gaps)
+          λ ruled f depth end φ e. gap-first f Template ruled s depth at φ end e h is g next q .leaf
 
       pub list-element : (e : ℕ) (start : Position) → h ≡ Element e start → (contents′ : ℕ) → ((k : ℕ) → member contents′ k ≡ (eqb k e || member contents k))
           → (next : Position) (middle : List ℕ) → Keeps middle table → TellsElement s start e n next middle

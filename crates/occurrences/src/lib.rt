@@ -63,6 +63,7 @@ fn outline_items(s: &[u8], start: Position, n: u8, table: &mut [u64; 64]) -> Out
                 contents = sets::with(contents, e);
                 here = outline_element(s, first, e, n, table);
             }
+            ItemHere::Blank(next) => here = next,
             ItemHere::End(next) => {
                 return Outer {
                     contents,

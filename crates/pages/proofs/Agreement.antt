@@ -134,10 +134,10 @@ module _ (k : Kind) (x : Context) (is : x ≡ itemContext k) (ruled : ℕ → Bo
               let n = attributes-move f k s [] (next .at) δ (inside .at) (m .inside) e in
               made _ (items f k ruled s (depth + 1) (inside .at)) r (goes f (omega arith)))
 
-pub item-permitted : (k : Kind) → (allowed (itemContext k) 0x21 ≡ true) × (allowed (itemContext k) 0x23 ≡ true)
+pub item-permitted : (k : Kind) → (allowed (itemContext k) 0x21 ≡ true) × (allowed (itemContext k) 0x29 ≡ true) × (allowed (itemContext k) 0x23 ≡ true)
 unfolding allowed
-item-permitted Template = (refl, refl)
-item-permitted Page = (refl, refl)
+item-permitted Template = (refl, refl, refl)
+item-permitted Page = (refl, refl, refl)
 
 pub string-permitted : (k : Kind) → allowed (attributeContext k) 0x24 ≡ true
 unfolding allowed

@@ -15,17 +15,17 @@ use Rattle.commands.specs.Reading.{whole}
 use Rattle.vocabularies.specs.Vocabulary.{isIn}
 use Rattle.pages.specs.declared.Kind.{Kind}
 use Rattle.pages.specs.declared.ItemHere.{ItemHere}
-use Rattle.pages.specs.declared.ItemHere.the-variants.{Text, Gap, Element, End}
+use Rattle.pages.specs.declared.ItemHere.the-variants.{Text, Gap, Element, Blank, End}
 use Rattle.pages.specs.declared.AttributeHere.{AttributeHere}
 use Rattle.pages.specs.declared.AttributeHere.the-variants.{Fixed, Open, Done}
 use Rattle.pages.specs.declared.Named.{Named}
 use Rattle.pages.specs.declared.GapsFound.{GapsFound}
-use Rattle.pages.specs.Items.{Attribute, Items, none, templateAt, gapIn, openIn, attributeGapIn}
-use Rattle.pages.specs.ItemReading.{attributes}
+use Rattle.pages.specs.Items.{Attribute, Item, Items, none, templateAt, gapIn, gapInItem, openIn, attributeGapIn, attributeGapInItem}
+use Rattle.pages.specs.ItemReading.{attributes, items}
 use Rattle.pages.specs.RightPages.{names}
 use Rattle.pages.specs.contracts.Steps.{itemHere, ItemMoves, attributeHere, AttributeMoves, NamesAt}
 use Rattle.pages.specs.contracts.Gaps.{hasGap, hasAttributeGap, GapsAre, ItemsStand, StartsAt, GapsAdded, AttributeGaps, ElementGaps, ItemsGaps}
-use Rattle.pages.proofs.Steps.{AttributeFirst, fixed-first, open-first, none-first, fixed-moves, open-moves, text-first, gap-first, element-first, end-first, text-moves, gap-moves, element-moves, no-attribute}
+use Rattle.pages.proofs.Steps.{AttributeFirst, LeafFirst, fixed-first, open-first, none-first, fixed-moves, open-moves, text-first, blank-first, gap-first, element-first, end-first, text-moves, blank-moves, gap-moves, element-moves, no-attribute}
 
 -- What a walk that has come from an offset to another, and has gathered so much, has still to find.
 pub record Onto {R : Type 0} (Found : ℕ → ℕ → R → Type 0) (at₀ set₀ at set : ℕ) : Type 0 where
@@ -164,15 +164,28 @@ module _ (s : List ℕ) (at : ℕ) (h : AttributeHere) (is : h ≡ attributeHere
   )
 
 module _ (s : List ℕ) (at : ℕ) (h : ItemHere) (is : h ≡ itemHere s at) (moves : ItemMoves s at h) (at₀ word₀ word : ℕ) (walk : Onto (ItemsGaps s) at₀ word₀ at word) where
+  -- An item that has no gap adds none.
+  gapless : (i : Item) → ((g : ℕ) → gapInItem i g ≡ false) → ((a : ℕ) → attributeGapInItem i a ≡ false) → (next : Position) → at < next .at
+      → ((k : Kind) (ruled : ℕ → Bool) (f depth end : ℕ) (φ : Items) → items f k ruled s depth at ≡ whole φ end → LeafFirst k ruled s depth at i next φ end)
+      → Onto (ItemsGaps s) at₀ word₀ (next .at) word
+  unfolding gapIn attributeGapIn
+  gapless i no-gap no-open next l first = record {
+    forward = omega (arith, walk .forward);
+    goes = λ r rest. walk .goes r λ k ruled f depth end φ reads.
+        let w = first k ruled f depth end φ reads in
+        let n = rest k ruled (w .fuel) depth end (w .rest) (w .reads-rest) in
+        (n .0, rw (w .is-more) (record { gaps = λ g. rw (no-gap g) (n .1 .gaps g); attributes = λ a. rw (no-open a) (n .1 .attributes a) }));
+  }
+
   pub text-gaps : (next : Position) → h ≡ Text next → Onto (ItemsGaps s) at₀ word₀ (next .at) word
   unfolding gapIn attributeGapIn
-  text-gaps next e = record {
-    forward = omega (arith, walk .forward, text-moves s at h moves next e .forward);
-    goes = λ r rest. walk .goes r λ k ruled f depth end φ reads.
-        let w = text-first f k ruled s depth at φ end reads h is next e in
-        let n = rest k ruled (w .fuel) depth end (w .rest) (w .reads-rest) in
-        (n .0, rw (w .is-more) (n .1));
-  }
+  text-gaps next e =
+      gapless _ (λ g. refl) (λ a. refl) next (text-moves s at h moves next e .forward) λ k ruled f depth end φ reads. text-first f k ruled s depth at φ end reads h is next e
+
+  pub blank-gaps : (next : Position) → h ≡ Blank next → Onto (ItemsGaps s) at₀ word₀ (next .at) word
+  unfolding gapIn attributeGapIn
+  blank-gaps next e =
+      gapless _ (λ g. refl) (λ a. refl) next (blank-moves s at h moves next e .forward) λ k ruled f depth end φ reads. blank-first f k ruled s depth at φ end reads h is next e
 
   pub gap-gaps : (g : ℕ) (next : Position) → h ≡ Gap g next → (more : ℕ) → ((k : ℕ) → member more k ≡ (eqb k g || member word k)) → Onto (ItemsGaps s) at₀ word₀ (next .at) more
   unfolding gapIn attributeGapIn

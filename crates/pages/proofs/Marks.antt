@@ -5,13 +5,13 @@ use mathlib.Core.List.{List}
 use mathlib.Core.Logic.{inl, inr}
 use native.Mathlib.Omega.{arith}
 use Rattle.vocabularies.specs.Vocabulary.{Formula, conj, disj, neg, truth, attr, content, order, value, Vocabulary}
-use Rattle.pages.specs.Items.{Attribute, Item, text, gap, element, Items, none, more, gapIn, gapInItem, attributeGapIn, attributeGapInItem}
+use Rattle.pages.specs.Items.{Attribute, Item, text, blank, gap, element, Items, none, more, one, _⋈_, withoutBlank, withoutBlankItem, gapIn, gapInItem, attributeGapIn, attributeGapInItem}
 use Rattle.pages.specs.RightPages.{word, wordItem, Meets, ElementRight, Accepts, AcceptsItem, RootAlone, Right}
 use Rattle.pages.specs.Written.{written-items, written-item, written-attributes, remarked, remarked-item}
 
 -- What a formula says of contents goes by their word.
 module _ (δ : List Attribute) (φ φ′ : Items) (same : word φ ≡ word φ′) where
-  meets-there : (ψ : Formula) → (Meets δ φ ψ → Meets δ φ′ ψ) × (Meets δ φ′ ψ → Meets δ φ ψ)
+  pub meets-there : (ψ : Formula) → (Meets δ φ ψ → Meets δ φ′ ψ) × (Meets δ φ′ ψ → Meets δ φ ψ)
   unfolding Meets
   meets-there (conj ψ₁ ψ₂) =
       let a = meets-there ψ₁ in
@@ -28,7 +28,7 @@ module _ (δ : List Attribute) (φ φ′ : Items) (same : word φ ≡ word φ′
   meets-there (order c₁ c₂) = (λ h. rw same at h, λ h. rw same h)
   meets-there (value a m) = (λ h. h, λ h. h)
 
-  element-there : (D : Vocabulary) (e : ℕ) → ElementRight D e δ φ → ElementRight D e δ φ′
+  pub element-there : (D : Vocabulary) (e : ℕ) → ElementRight D e δ φ → ElementRight D e δ φ′
   element-there D e r = record {
     rule = r .rule;
     declares = r .declares;
@@ -42,6 +42,7 @@ module _ (m : ℕ → ℕ) where
   unfolding word wordItem remarked
   remarked-word none = refl
   remarked-word (more text φ) = rw (remarked-word φ)
+  remarked-word (more blank φ) = remarked-word φ
   remarked-word (more (gap g) φ) = remarked-word φ
   remarked-word (more (element e mark δ χ) φ) = rw (remarked-word φ)
 
@@ -54,6 +55,7 @@ module _ (m : ℕ → ℕ) where
 
     remarked-item-gaps : (i : Item) (g : ℕ) → gapInItem (remarked-item m i) g ≡ gapInItem i g
     remarked-item-gaps text g = refl
+    remarked-item-gaps blank g = refl
     remarked-item-gaps (gap k) g = refl
     remarked-item-gaps (element e mark δ φ) g = remarked-gaps φ g
 
@@ -66,6 +68,7 @@ module _ (m : ℕ → ℕ) where
 
     remarked-item-attribute-gaps : (i : Item) (h : ℕ) → attributeGapInItem (remarked-item m i) h ≡ attributeGapInItem i h
     remarked-item-attribute-gaps text h = refl
+    remarked-item-attribute-gaps blank h = refl
     remarked-item-attribute-gaps (gap k) h = refl
     remarked-item-attribute-gaps (element e mark δ φ) h = rw (remarked-attribute-gaps φ h)
 
@@ -79,8 +82,28 @@ module _ (m : ℕ → ℕ) where
 
     remarked-item-written : (i : Item) → written-item (remarked-item m i) ≡ written-item i
     remarked-item-written text = refl
+    remarked-item-written blank = refl
     remarked-item-written (gap g) = refl
     remarked-item-written (element e mark δ φ) = rw (remarked-written φ)
+
+  pub remarked-append : (φ ψ : Items) → remarked m (φ ⋈ ψ) ≡ remarked m φ ⋈ remarked m ψ
+  unfolding remarked _⋈_
+  remarked-append none ψ = refl
+  remarked-append (more i φ) ψ = rw (remarked-append φ ψ)
+
+  mutual
+    unfolding withoutBlank remarked _⋈_
+
+    -- Blank text has no mark.
+    pub remarked-solid : (φ : Items) → withoutBlank (remarked m φ) ≡ remarked m (withoutBlank φ)
+    remarked-solid none = refl
+    remarked-solid (more i φ) = rw (remarked-item-solid i, remarked-solid φ) (sym (remarked-append (withoutBlankItem i) (withoutBlank φ)))
+
+    remarked-item-solid : (i : Item) → withoutBlankItem (remarked-item m i) ≡ remarked m (withoutBlankItem i)
+    remarked-item-solid text = refl
+    remarked-item-solid blank = refl
+    remarked-item-solid (gap g) = refl
+    remarked-item-solid (element e mark δ φ) = rw (remarked-solid φ)
 
   module _ (D : Vocabulary) where
     mutual
@@ -92,6 +115,7 @@ module _ (m : ℕ → ℕ) where
 
       remarked-item-accepted : (i : Item) → AcceptsItem D i → AcceptsItem D (remarked-item m i)
       remarked-item-accepted text h = h
+      remarked-item-accepted blank h = h
       remarked-item-accepted (gap g) h = h
       remarked-item-accepted (element e mark δ φ) h =
           (element-there δ φ (remarked m φ) (sym (remarked-word φ)) D e (h .0), remarked-accepted φ (h .1))
@@ -105,29 +129,34 @@ module _ (m : ℕ → ℕ) where
 
       accepted-item-remarked : (i : Item) → AcceptsItem D (remarked-item m i) → AcceptsItem D i
       accepted-item-remarked text h = h
+      accepted-item-remarked blank h = h
       accepted-item-remarked (gap g) h = h
       accepted-item-remarked (element e mark δ φ) h =
           (element-there δ (remarked m φ) φ (remarked-word φ) D e (h .0), accepted-remarked φ (h .1))
 
     remarked-alone : (φ : Items) → RootAlone D φ → RootAlone D (remarked m φ)
     unfolding remarked
-    remarked-alone φ h = (m (h .0), h .1, remarked m (h .2), rw (h .3))
+    remarked-alone φ h = (m (h .0), h .1, remarked m (h .2), remarked-solid φ ∙ rw (h .3))
 
     none-remarked : (φ : Items) → remarked m φ ≡ none → φ ≡ none
     unfolding remarked
     none-remarked none e = refl
     none-remarked (more i φ) e = absurd (let z : _≡_ {A = ℕ} 0 1 = cc in omega arith)
 
-    alone-remarked : (φ : Items) → RootAlone D (remarked m φ) → RootAlone D φ
+    root-remarked : (φ : Items) (mark : ℕ) (δ : List Attribute) (contents : Items) → remarked m φ ≡ one (element (D .root) mark δ contents)
+        → (mark : ℕ) × (δ : List Attribute) × (contents : Items) × (φ ≡ one (element (D .root) mark δ contents))
     unfolding remarked
-    alone-remarked none h = absurd (let e = h .3 in let z : _≡_ {A = ℕ} 0 1 = cc in omega arith)
-    alone-remarked (more text φ) h = absurd (let e = h .3 in let z : _≡_ {A = ℕ} 0 1 = cc in omega arith)
-    alone-remarked (more (gap g) φ) h = absurd (let e = h .3 in let z : _≡_ {A = ℕ} 0 1 = cc in omega arith)
-    alone-remarked (more (element e mark δ χ) φ) h =
-        let q = h .3 in
+    root-remarked none mark δ contents q = absurd (let z : _≡_ {A = ℕ} 0 1 = cc in omega arith)
+    root-remarked (more text φ) mark δ contents q = absurd (let z : _≡_ {A = ℕ} 0 1 = cc in omega arith)
+    root-remarked (more blank φ) mark δ contents q = absurd (let z : _≡_ {A = ℕ} 0 1 = cc in omega arith)
+    root-remarked (more (gap g) φ) mark δ contents q = absurd (let z : _≡_ {A = ℕ} 0 1 = cc in omega arith)
+    root-remarked (more (element e k δ′ χ) φ) mark δ contents q =
         let root : e ≡ D .root = cc in
         let rest : remarked m φ ≡ none = cc in
-        (mark, δ, χ, rw (root, none-remarked φ rest))
+        (k, δ′, χ, rw (root, none-remarked φ rest))
+
+    alone-remarked : (φ : Items) → RootAlone D (remarked m φ) → RootAlone D φ
+    alone-remarked φ h = root-remarked (withoutBlank φ) (h .0) (h .1) (h .2) (sym (remarked-solid φ) ∙ h .3)
 
     pub remarked-right : (φ : Items) → Right D φ → Right D (remarked m φ)
     remarked-right φ r = record {

@@ -112,7 +112,8 @@ module _ (s t : List ℕ) (n low high : ℕ) (shifted : Shifted s t n low high) 
       let m : MovedOver (itemContext k) s at (byte s at) (r .next) = moved _ s at _ (r .next) (r .stands) in
       elim (leaf-code k (byte s at) (m .permitted) (r .no-element)) [
         | inl q ↦ rw (r .is-leaf, q, r .after)
-        | inr q ↦
+        | inr (inl q) ↦ rw (r .is-leaf, q, r .after)
+        | inr (inr q) ↦
             let w : operandBytes (byte s at) ≡ 1 = rw (q .0) in
             let b₁ : byte t (at + n + 1) ≡ byte s (at + 1) = same-at (at + 1) (at + n + 1) (omega arith) (omega arith) (omega (arith, m .after, w, r .after)) in
             rw (r .is-leaf, q .0, b₁, r .after)

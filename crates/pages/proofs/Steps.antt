@@ -11,17 +11,17 @@ use lib.ListN.{length}
 use lib.Dec.{eqb, leb, lit<}
 use borrow.Author.Tests.{leb-true, ltb-true, lt-ltb, le-ltb, eqb-true, eqb-false, ne-eqb}
 use Rattle.commands.specs.declared.Position.{Position}
-use Rattle.commands.specs.Commands.{byte, strings, operandsOf, operandBytes, allInRange, inRange, allowed}
+use Rattle.commands.specs.Commands.{byte, strings, operandsOf, operandBytes, allInRange, inRange, between, either, allowed}
 use Rattle.commands.specs.Reading.{whole}
 use Rattle.commands.proofs.Laws.{MovedOver, moved}
 use Rattle.vocabularies.specs.Vocabulary.{isIn}
 use Rattle.pages.specs.declared.Kind.{Kind}
 use Rattle.pages.specs.declared.Kind.the-variants.{Template, Page}
 use Rattle.pages.specs.declared.ItemHere.{ItemHere}
-use Rattle.pages.specs.declared.ItemHere.the-variants.{Text, Gap, Element, End}
+use Rattle.pages.specs.declared.ItemHere.the-variants.{Text, Gap, Element, Blank, End}
 use Rattle.pages.specs.declared.AttributeHere.{AttributeHere}
 use Rattle.pages.specs.declared.AttributeHere.the-variants.{Fixed, Open, Done}
-use Rattle.pages.specs.Items.{string, open-gap, Attribute, Item, text, gap, element, Items, none, more}
+use Rattle.pages.specs.Items.{string, open-gap, Attribute, Item, text, blank, gap, element, Items, none, more}
 use Rattle.pages.specs.ItemReading.{itemContext, attributeContext, nesting, valueAt, attributes, items, item}
 use Rattle.pages.specs.contracts.Steps.{itemHere, Steps, ItemMoves, attributeHere, AttributeMoves}
 use Rattle.pages.proofs.Whole.{never-unfinished, LeafRead, ElementRead, AttributeMore, ItemsEnd, ItemsMore, attributes-whole, items-whole, item-whole}
@@ -52,9 +52,13 @@ module _ (s : List ℕ) (at : ℕ) where
     unfolding itemHere
     is-element e = rw (lt-ltb at (length s) here, e)
 
-    pub is-end : (byte s at ≡ 0x21 → ⊥) → (byte s at ≡ 0x22 → ⊥) → (byte s at ≡ 0x23 → ⊥) → itemHere s at ≡ End (record { at = at + 1 })
+    pub is-blank : byte s at ≡ 0x29 → itemHere s at ≡ Blank (record { at = at + 1 })
     unfolding itemHere
-    is-end a b c = rw (lt-ltb at (length s) here, ne-eqb (byte s at) 0x21 a, ne-eqb (byte s at) 0x22 b, ne-eqb (byte s at) 0x23 c)
+    is-blank e = rw (lt-ltb at (length s) here, e)
+
+    pub is-end : (byte s at ≡ 0x21 → ⊥) → (byte s at ≡ 0x22 → ⊥) → (byte s at ≡ 0x23 → ⊥) → (byte s at ≡ 0x29 → ⊥) → itemHere s at ≡ End (record { at = at + 1 })
+    unfolding itemHere
+    is-end a b c d = rw (lt-ltb at (length s) here, ne-eqb (byte s at) 0x21 a, ne-eqb (byte s at) 0x22 b, ne-eqb (byte s at) 0x23 c, ne-eqb (byte s at) 0x29 d)
 
     pub is-named : byte s at ≡ 0x24 → attributeHere s at ≡ Fixed (byte s (at + 1) % 32) (byte s (at + 2) % 64) (record { at = at + 3 })
     unfolding attributeHere
@@ -94,10 +98,14 @@ module _ (s : List ℕ) (at : ℕ) where
     unfolding ItemMoves
     text-step e p q = (rw q (sym (is-text s at here (first ∙ e))), stepped 1 p (lit< tt) q)
 
-    pub end-step : (code ≡ 0x21 → ⊥) → (code ≡ 0x22 → ⊥) → (code ≡ 0x23 → ⊥) → (p : Position) → p ≡ record { at = at + 1 } → (End p ≡ itemHere s at) × ItemMoves s at (End p)
+    pub blank-step : code ≡ 0x29 → (p : Position) → p ≡ record { at = at + 1 } → (Blank p ≡ itemHere s at) × ItemMoves s at (Blank p)
     unfolding ItemMoves
-    end-step a b c p q =
-        (rw q (sym (is-end s at here (λ e. a (sym first ∙ e)) (λ e. b (sym first ∙ e)) (λ e. c (sym first ∙ e)))), rw q (omega arith))
+    blank-step e p q = (rw q (sym (is-blank s at here (first ∙ e))), stepped 1 p (lit< tt) q)
+
+    pub end-step : (code ≡ 0x21 → ⊥) → (code ≡ 0x22 → ⊥) → (code ≡ 0x23 → ⊥) → (code ≡ 0x29 → ⊥) → (p : Position) → p ≡ record { at = at + 1 } → (End p ≡ itemHere s at) × ItemMoves s at (End p)
+    unfolding ItemMoves
+    end-step a b c d p q =
+        (rw q (sym (is-end s at here (λ e. a (sym first ∙ e)) (λ e. b (sym first ∙ e)) (λ e. c (sym first ∙ e)) (λ e. d (sym first ∙ e)))), rw q (omega arith))
 
     pub done-step : (code ≡ 0x24 → ⊥) → (code ≡ 0x25 → ⊥) → (code ≡ 0x28 → ⊥) → (Done ≡ attributeHere s at) × AttributeMoves s at Done
     unfolding AttributeMoves
@@ -156,6 +164,7 @@ abbrev pub ItemFrom : Kind → (ℕ → Bool) → List ℕ → ℕ → ℕ → I
 ItemFrom k ruled s depth at i end (Text next) = (i ≡ text) × (next .at ≡ end)
 ItemFrom k ruled s depth at i end (Gap g next) = GapAt k g next i end
 ItemFrom k ruled s depth at i end (Element e next) = ElementAt k ruled s depth at e next i end
+ItemFrom k ruled s depth at i end (Blank next) = (i ≡ blank) × (next .at ≡ end)
 ItemFrom k ruled s depth at i end (End next) = ⊥
 
 between-of : (c : ℕ) → (leb 0x21 c && leb c 0x23) ≡ true → (c ≡ 0x23 → ⊥) → (c ≡ 0x21) ⊎ (c ≡ 0x22)
@@ -170,10 +179,17 @@ between-of c e n =
         let m : c ≡ 0x21 → ⊥ = eqb-false c 0x21 q in
         inr (omega (arith, m, n))
 
-pub leaf-code : (k : Kind) (c : ℕ) → allowed (itemContext k) c ≡ true → (c ≡ 0x23 → ⊥) → (c ≡ 0x21) ⊎ ((c ≡ 0x22) × (k ≡ Template))
+-- What is allowed among items and opens no element: `21`, `29`, and in templates `22`.
+pub leaf-code : (k : Kind) (c : ℕ) → allowed (itemContext k) c ≡ true → (c ≡ 0x23 → ⊥) → (c ≡ 0x21) ⊎ (c ≡ 0x29) ⊎ ((c ≡ 0x22) × (k ≡ Template))
 unfolding allowed
-leaf-code Template c e n = elim (between-of c e n) [ inl q ↦ inl q | inr q ↦ inr (q, refl) ]
-leaf-code Page c e n = elim (or-cases (eqb c 0x21) (eqb c 0x23) e) [ inl q ↦ inl (eqb-true c 0x21 q) | inr q ↦ absurd (n (eqb-true c 0x23 q)) ]
+leaf-code Template c e n = elim (or-cases (between 0x21 0x23 c) (eqb c 0x29) e) [
+  | inl p ↦ elim (between-of c p n) [ inl q ↦ inl q | inr q ↦ inr (inr (q, refl)) ]
+  | inr q ↦ inr (inl (eqb-true c 0x29 q))
+]
+leaf-code Page c e n = elim (or-cases (either 0x21 0x23 c) (eqb c 0x29) e) [
+  | inl p ↦ elim (or-cases (eqb c 0x21) (eqb c 0x23) p) [ inl q ↦ inl (eqb-true c 0x21 q) | inr q ↦ absurd (n (eqb-true c 0x23 q)) ]
+  | inr q ↦ inr (inl (eqb-true c 0x29 q))
+]
 
 module _ (f : ℕ) (k : Kind) (ruled : ℕ → Bool) (s : List ℕ) (depth at : ℕ) (i : Item) (end : ℕ) where
   leaf-from : LeafRead k s at i end → ItemFrom k ruled s depth at i end (itemHere s at)
@@ -185,7 +201,10 @@ module _ (f : ℕ) (k : Kind) (ruled : ℕ → Bool) (s : List ℕ) (depth at : 
         | inl q ↦
             let w : operandBytes (byte s at) ≡ 0 = rw q in
             rw (is-text s at here q) (rw q at (r .is-leaf), omega (arith, r .after, m .after, w))
-        | inr q ↦
+        | inr (inl q) ↦
+            let w : operandBytes (byte s at) ≡ 0 = rw q in
+            rw (is-blank s at here q) (rw q at (r .is-leaf), omega (arith, r .after, m .after, w))
+        | inr (inr q) ↦
             let w : operandBytes (byte s at) ≡ 1 = rw (q .0) in
             let g : byte s (at + 1) ≤ 7 = leb-true _ _ (and-left _ _ (rw (q .0) at (m .ranges))) in
             let l : byte s (at + 1) % 8 ≡ byte s (at + 1) = mod-eq-of-lt (omega arith) in
@@ -235,7 +254,7 @@ pub record EndFirst (φ : Items) (end : ℕ) (next : Position) : Type 0 where
   pub no-more : φ ≡ none
   pub after : next .at ≡ end
 
--- Text or a gap, and the list after it.
+-- Text, blank text or a gap, and the list after it.
 pub record LeafFirst (k : Kind) (ruled : ℕ → Bool) (s : List ℕ) (depth at : ℕ) (i : Item) (next : Position) (φ : Items) (end : ℕ) : Type 0 where
   pub fuel : ℕ
   pub rest : Items
@@ -273,21 +292,26 @@ abbrev pub ItemsFrom : Kind → (ℕ → Bool) → List ℕ → ℕ → ℕ → 
 ItemsFrom k ruled s depth at φ end (Text next) = LeafFirst k ruled s depth at text next φ end
 ItemsFrom k ruled s depth at φ end (Gap g next) = GapFirst k ruled s depth at g next φ end
 ItemsFrom k ruled s depth at φ end (Element e next) = ElementFirst k ruled s depth at e next φ end
+ItemsFrom k ruled s depth at φ end (Blank next) = LeafFirst k ruled s depth at blank next φ end
 ItemsFrom k ruled s depth at φ end (End next) = EndFirst φ end next
 
--- Where items stand, no attribute does: an item begins with a lower byte, and an end is another.
-item-low : (f : ℕ) (k : Kind) (ruled : ℕ → Bool) (s : List ℕ) (depth at : ℕ) (i : Item) (end : ℕ) → item f k ruled s depth at ≡ whole i end
-    → (at < length s) × (byte s at ≤ 0x23)
+-- Where items stand, no attribute does: an item begins with a lower byte or with `29`, and an end is another.
+item-byte : (f : ℕ) (k : Kind) (ruled : ℕ → Bool) (s : List ℕ) (depth at : ℕ) (i : Item) (end : ℕ) → item f k ruled s depth at ≡ whole i end
+    → (at < length s) × ((byte s at ≤ 0x23) ⊎ (byte s at ≡ 0x29))
 unfolding items
-item-low zero k ruled s depth at i end e = never-unfinished e
-item-low (suc f) k ruled s depth at i end e = elim (item-whole f k ruled s depth at i end e) [
+item-byte zero k ruled s depth at i end e = never-unfinished e
+item-byte (suc f) k ruled s depth at i end e = elim (item-whole f k ruled s depth at i end e) [
   | inl r ↦
       let m : MovedOver (itemContext k) s at (byte s at) (r .next) = moved _ s at _ (r .next) (r .stands) in
-      (omega (arith, m .forward, m .inside), elim (leaf-code k (byte s at) (m .permitted) (r .no-element)) [ inl q ↦ omega (arith, q) | inr q ↦ omega (arith, q .0) ])
+      (omega (arith, m .forward, m .inside), elim (leaf-code k (byte s at) (m .permitted) (r .no-element)) [ inl q ↦ inl (omega (arith, q)) | inr (inl q) ↦ inr q | inr (inr q) ↦ inl (omega (arith, q .0)) ])
   | inr r ↦
       let m : MovedOver (itemContext k) s at (byte s at) (r .next) = moved _ s at _ (r .next) (r .stands) in
-      (omega (arith, m .forward, m .inside), omega (arith, r .opens))
+      (omega (arith, m .forward, m .inside), inl (omega (arith, r .opens)))
 ]
+
+no-item-byte : (c n : ℕ) → (c ≤ 0x23) ⊎ (c ≡ 0x29) → 0x24 ≤ n → n ≤ 0x28 → c ≡ n → ⊥
+no-item-byte c n (inl l) least most e = omega arith
+no-item-byte c n (inr q) least most e = omega arith
 
 ends-item : (t : Bool) (c n : ℕ) → c ≡ cond t 0x27 0x26 → (n ≡ 0x26 → ⊥) → (n ≡ 0x27 → ⊥) → c ≡ n → ⊥
 ends-item true c n e l m q = m (sym q ∙ e)
@@ -303,8 +327,9 @@ module _ (f : ℕ) (k : Kind) (ruled : ℕ → Bool) (s : List ℕ) (depth at : 
       is-done s at (ended-inside s depth at (r .ended)) (ended-not r 0x24 (λ q. omega arith) (λ q. omega arith))
       (ended-not r 0x25 (λ q. omega arith) (λ q. omega arith)) (ended-not r 0x28 (λ q. omega arith) (λ q. omega arith))
   none-at-items (inr r) =
-      let l = item-low f k ruled s depth at (r .first) (r .next) (r .reads-first) in
-      is-done s at (l .0) (λ q. omega arith) (λ q. omega arith) (λ q. omega arith)
+      let l = item-byte f k ruled s depth at (r .first) (r .next) (r .reads-first) in
+      is-done s at (l .0) (no-item-byte (byte s at) 0x24 (l .1) (omega arith) (omega arith)) (no-item-byte (byte s at) 0x25 (l .1) (omega arith) (omega arith))
+      (no-item-byte (byte s at) 0x28 (l .1) (omega arith) (omega arith))
 
 pub no-attribute : (f : ℕ) (k : Kind) (ruled : ℕ → Bool) (s : List ℕ) (depth at : ℕ) (φ : Items) (end : ℕ) → items f k ruled s depth at ≡ whole φ end
     → attributeHere s at ≡ Done
@@ -345,12 +370,14 @@ module _ (f : ℕ) (k : Kind) (ruled : ℕ → Bool) (s : List ℕ) (depth at : 
     reads-contents = w .reads-contents;
     reads-rest = r .reads-rest;
   }
+  first-from r (Blank next) w = leaf-first r blank next (w .0) (w .1)
   first-from r (End next) w = absurd w
 
   ended-from : ItemsEnd s depth at φ end → ItemsFrom k ruled s depth at φ end (itemHere s at)
   ended-from r =
       rw (is-end s at (ended-inside s depth at (r .ended)) (ended-not f k ruled s depth at φ end r 0x21 (λ q. omega arith) (λ q. omega arith))
-      (ended-not f k ruled s depth at φ end r 0x22 (λ q. omega arith) (λ q. omega arith)) (ended-not f k ruled s depth at φ end r 0x23 (λ q. omega arith) (λ q. omega arith)))
+      (ended-not f k ruled s depth at φ end r 0x22 (λ q. omega arith) (λ q. omega arith)) (ended-not f k ruled s depth at φ end r 0x23 (λ q. omega arith) (λ q. omega arith))
+      (ended-not f k ruled s depth at φ end r 0x29 (λ q. omega arith) (λ q. omega arith)))
       (record { no-more = r .no-more; after = sym (r .after) })
 
 pub items-here : (f : ℕ) (k : Kind) (ruled : ℕ → Bool) (s : List ℕ) (depth at : ℕ) (φ : Items) (end : ℕ) → items f k ruled s depth at ≡ whole φ end
@@ -447,6 +474,9 @@ module _ (f : ℕ) (k : Kind) (ruled : ℕ → Bool) (s : List ℕ) (depth at : 
   pub text-first : (next : Position) → h ≡ Text next → LeafFirst k ruled s depth at text next φ end
   text-first next e = rw e at (items-here f k ruled s depth at φ end reads h is)
 
+  pub blank-first : (next : Position) → h ≡ Blank next → LeafFirst k ruled s depth at blank next φ end
+  blank-first next e = rw e at (items-here f k ruled s depth at φ end reads h is)
+
   pub gap-first : (g : ℕ) (next : Position) → h ≡ Gap g next → GapFirst k ruled s depth at g next φ end
   gap-first g next e = rw e at (items-here f k ruled s depth at φ end reads h is)
 
@@ -460,6 +490,9 @@ module _ (f : ℕ) (k : Kind) (ruled : ℕ → Bool) (s : List ℕ) (depth at : 
     (h : ItemHere) (is : h ≡ itemHere s at) where
   pub text-item : (next : Position) → h ≡ Text next → (i ≡ text) × (next .at ≡ end)
   text-item next e = rw e at (item-here f k ruled s depth at i end reads h is)
+
+  pub blank-item : (next : Position) → h ≡ Blank next → (i ≡ blank) × (next .at ≡ end)
+  blank-item next e = rw e at (item-here f k ruled s depth at i end reads h is)
 
   pub gap-item : (g : ℕ) (next : Position) → h ≡ Gap g next → GapAt k g next i end
   gap-item g next e = rw e at (item-here f k ruled s depth at i end reads h is)
@@ -487,6 +520,10 @@ module _ (s : List ℕ) (at : ℕ) (h : ItemHere) (moves : ItemMoves s at h) whe
   pub text-moves : (next : Position) → h ≡ Text next → Steps s at (next .at)
   unfolding ItemMoves
   text-moves next e = rw e at moves
+
+  pub blank-moves : (next : Position) → h ≡ Blank next → Steps s at (next .at)
+  unfolding ItemMoves
+  blank-moves next e = rw e at moves
 
   pub gap-moves : (g : ℕ) (next : Position) → h ≡ Gap g next → Steps s at (next .at) × (g < 8)
   unfolding ItemMoves

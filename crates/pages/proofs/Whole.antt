@@ -133,7 +133,7 @@ items-whole f k ruled s depth at φ end e = elim (when-cases (eqb (byte s at) (e
       })
 ]
 
--- An item: text or a gap, or an element.
+-- An item: text, blank text or a gap, or an element.
 pub record LeafRead (k : Kind) (s : List ℕ) (at : ℕ) (i : Item) (end : ℕ) : Type 0 where
   pub next : Position
   pub stands : command (itemContext k) s at ≡ Moved (byte s at) next

@@ -1,5 +1,6 @@
 -- Reading items: the templates of a job, and a page (document 01, "A job, command by command", Templates; "Verdicts",
--- Judge a page). The two differ in which commands may stand, in how deep elements may nest, and in what ends them; one definition reads both.
+-- Judge a page; document 02, F-2, for `29`). The two differ in which commands may stand, in how deep elements may nest, and in what ends
+-- them; one definition reads both.
 use Prim.Native.Nat.{ℕ, zero, suc, _+_}
 use mathlib.Core.List.{List, [], _∷_}
 use mathlib.Core.Bool.{Bool, cond}
@@ -13,7 +14,7 @@ use Rattle.vocabularies.specs.Vocabulary.{Vocabulary, declared, isIn}
 use Rattle.vocabularies.specs.VocabularyReading.{alone}
 use Rattle.pages.specs.declared.Kind.{Kind}
 use Rattle.pages.specs.declared.Kind.the-variants.{Template, Page}
-use Rattle.pages.specs.Items.{Value, string, open-gap, Attribute, Item, text, gap, element, Items, none, more}
+use Rattle.pages.specs.Items.{Value, string, open-gap, Attribute, Item, text, blank, gap, element, Items, none, more}
 
 abbrev pub itemContext : Kind → Context
 itemContext Template = TemplateItems
@@ -51,9 +52,9 @@ attributes (suc f) k s before at = when (allowed (attributeContext k) (byte s at
 abbrev pub endOf : ℕ → ℕ
 endOf depth = cond (eqb depth 0) 0x27 0x26
 
--- `21` and `22 g`.
+-- `21`, `29` and `22 g`.
 abbrev pub leafAt : List ℕ → ℕ → ℕ → Item
-leafAt s at code = cond (eqb code 0x21) text (gap (byte s (at + 1)))
+leafAt s at code = cond (eqb code 0x21) text (cond (eqb code 0x29) blank (gap (byte s (at + 1))))
 
 -- A list of items below `depth` open elements, up to and with what ends it; `ruled` says which elements have a rule.
 unfoldable mutual

@@ -1,6 +1,9 @@
 -- Templates as trees (source 000, section 2, "XML Templates"). Templates, the values of a run and pages are all lists of items; a
 -- page has no gap left. An element keeps its mark, the offset of its `23`: no step of a run and no derivation changes it, and it gives
 -- verdict 12 its place.
+--
+-- Blank text (document 02, F-2) is an item that source 000's grammar does not have. The source's functions read it as no content: it has
+-- no gap, its word is empty, and there is nothing in it to accept; a derivation and a run copy it.
 use Prim.Native.Nat.{ℕ, zero, suc}
 use mathlib.Core.List.{List, [], _∷_}
 use mathlib.Core.Bool.{Bool, false, _||_}
@@ -18,6 +21,7 @@ pub record Attribute : Type 0 where
 mutual
   pub data Item : Type 0 where
     text : Item
+    blank : Item
     gap : ℕ → Item
     element : ℕ → ℕ → List Attribute → Items → Item
 
@@ -41,6 +45,20 @@ unfoldable pub _⋈_ : Items → Items → Items
 none ⋈ js = js
 more i is ⋈ js = more i (is ⋈ js)
 
+-- Items without blank text: none is left among them, nor in an element at any depth.
+unfoldable mutual
+  unfolding _⋈_
+
+  pub withoutBlank : Items → Items
+  withoutBlank none = none
+  withoutBlank (more i φ) = withoutBlankItem i ⋈ withoutBlank φ
+
+  pub withoutBlankItem : Item → Items
+  withoutBlankItem text = one text
+  withoutBlankItem blank = none
+  withoutBlankItem (gap g) = one (gap g)
+  withoutBlankItem (element e mark δ φ) = one (element e mark δ (withoutBlank φ))
+
 -- Section 2's gaps: the template gaps of a list of items, at any depth.
 unfoldable mutual
   pub gapIn : Items → ℕ → Bool
@@ -49,6 +67,7 @@ unfoldable mutual
 
   pub gapInItem : Item → ℕ → Bool
   gapInItem text g = false
+  gapInItem blank g = false
   gapInItem (gap k) g = eqb k g
   gapInItem (element e mark δ φ) g = gapIn φ g
 
@@ -70,5 +89,6 @@ unfoldable mutual
 
   pub attributeGapInItem : Item → ℕ → Bool
   attributeGapInItem text h = false
+  attributeGapInItem blank h = false
   attributeGapInItem (gap k) h = false
   attributeGapInItem (element e mark δ φ) h = openIn δ h || attributeGapIn φ h

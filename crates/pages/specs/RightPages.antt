@@ -1,4 +1,5 @@
--- Right pages: the acceptance relation and the language of source 000, section 6, and document 01's "exactly one element, the root".
+-- Right pages: the acceptance relation and the language of source 000, section 6, and document 01's "exactly one element, the root", beside
+-- which blank text may stand (document 02, F-2).
 -- The relation is written as functions into types and as records; how it is decided is another matter.
 use Prim.Native.Nat.{ℕ, _≤_, _<_}
 use mathlib.Core.Path.{_≡_}
@@ -10,7 +11,7 @@ use mathlib.Core.Bool.{true, false}
 use lib.ListN.{length, getD}
 use Rattle.sets.specs.Sets.{member}
 use Rattle.vocabularies.specs.Vocabulary.{Formula, conj, disj, neg, truth, attr, content, order, value, Rule, Vocabulary, ruleOf}
-use Rattle.pages.specs.Items.{string, Attribute, Item, text, gap, element, Items, none, more, one, gapIn, attributeGapIn}
+use Rattle.pages.specs.Items.{string, Attribute, Item, text, blank, gap, element, Items, none, more, one, withoutBlank, gapIn, attributeGapIn}
 
 abbrev pub _∈_ : {A : Type 0} → A → List A → Type 0
 _∈_ a l = List·Memᴰ a l
@@ -20,9 +21,11 @@ infix 30 _∈_
 abbrev pub names : List Attribute → List ℕ
 names δ = map (λ a. a .name) δ
 
--- word(φ): the contents in their order, 0 for character data. set(φ) has the members of word(φ): the two have the same equations.
+-- word(φ): the contents in their order, 0 for character data, and nothing for blank text. set(φ) has the members of word(φ): the two
+-- have the same equations.
 unfoldable pub wordItem : Item → List ℕ → List ℕ
 wordItem text w = 0 ∷ w
+wordItem blank w = w
 wordItem (gap g) w = w
 wordItem (element e mark δ φ) w = e ∷ w
 
@@ -58,7 +61,7 @@ pub record ElementRight (D : Vocabulary) (e : ℕ) (δ : List Attribute) (φ : I
   pub contents : (c : ℕ) → c ∈ word φ → c ∈ rule .contents
   pub clauses : (ψ : Formula) → ψ ∈ rule .clauses → Meets δ φ ψ
 
--- D ⊨ φ. A gap has no rule in section 6: a page has none left.
+-- D ⊨ φ. A gap has no rule in section 6: a page has none left. Blank text has none either: it is accepted as text is.
 unfoldable mutual
   pub Accepts : Vocabulary → Items → Type 0
   Accepts D none = Unit {0}
@@ -66,20 +69,21 @@ unfoldable mutual
 
   pub AcceptsItem : Vocabulary → Item → Type 0
   AcceptsItem D text = Unit {0}
+  AcceptsItem D blank = Unit {0}
   AcceptsItem D (gap g) = ⊥
   AcceptsItem D (element e mark δ φ) = ElementRight D e δ φ × Accepts D φ
 
--- Exactly one element, the root.
+-- Exactly one element, the root, blank text left out (document 02, F-2: it counts as no content beside the root).
 abbrev pub RootAlone : Vocabulary → Items → Type 0
-RootAlone D φ = (mark : ℕ) × (δ : List Attribute) × (contents : Items) × (φ ≡ one (element (D .root) mark δ contents))
+RootAlone D φ = (mark : ℕ) × (δ : List Attribute) × (contents : Items) × (withoutBlank φ ≡ one (element (D .root) mark δ contents))
 
 -- gaps(φ) = ∅, at any depth, of gaps and of attribute gaps.
 pub record Gapless (φ : Items) : Type 0 where
   pub gaps : (g : ℕ) → gapIn φ g ≡ false
   pub attribute-gaps : (h : ℕ) → attributeGapIn φ h ≡ false
 
--- 𝓛(D): the root element alone, accepted, with no gap left, in the root's own attributes as well, of which section 6's formula says
--- nothing.
+-- 𝓛(D): the root element alone, but for blank text, accepted, with no gap left, in the root's own attributes as well, of which section 6's
+-- formula says nothing.
 pub record Right (D : Vocabulary) (φ : Items) : Type 0 where
   pub alone : RootAlone D φ
   pub accepted : Accepts D φ
@@ -93,6 +97,7 @@ unfoldable mutual
 
   pub SomeElementOf : (ℕ → ℕ → List Attribute → Items → Type 0) → Item → Type 0
   SomeElementOf P text = ⊥
+  SomeElementOf P blank = ⊥
   SomeElementOf P (gap g) = ⊥
   SomeElementOf P (element e mark δ φ) = P e mark δ φ ⊎ SomeElement P φ
 

@@ -1,12 +1,12 @@
 -- Items written out as bytes, with what ends them (document 01, "A job, command by command", Templates; "Verdicts", Judge a
--- page). Marks are not written, and all strings outside the named ones are written alike.
+-- page; document 02, F-2, for `29`). Marks are not written, and all strings outside the named ones are written alike.
 use Prim.Native.Nat.{ℕ, _+_}
 use mathlib.Core.List.{List, [], _∷_, _++_}
 use mathlib.Core.Bool.{cond}
 use lib.ListN.{length}
 use lib.Dec.{ltb}
 use Rattle.commands.specs.Commands.{strings}
-use Rattle.pages.specs.Items.{Value, string, open-gap, Attribute, Item, text, gap, element, Items, none, more}
+use Rattle.pages.specs.Items.{Value, string, open-gap, Attribute, Item, text, blank, gap, element, Items, none, more}
 
 -- `24 a s`, or in pages `28 a` for a string outside the named ones; an attribute gap, `25 a h`, stands in templates alone.
 abbrev pub written-value : ℕ → Value → List ℕ
@@ -17,7 +17,7 @@ unfoldable pub written-attributes : List Attribute → List ℕ
 written-attributes [] = []
 written-attributes (a ∷ δ) = written-value (a .name) (a .value) ++ written-attributes δ
 
--- `21`, `22 g` (in templates alone), and `23 e` with its attributes and items, up to `26`.
+-- `21`, `29`, `22 g` (in templates alone), and `23 e` with its attributes and items, up to `26`.
 unfoldable mutual
   unfolding written-attributes
 
@@ -27,6 +27,7 @@ unfoldable mutual
 
   pub written-item : Item → List ℕ
   written-item text = 0x21 ∷ []
+  written-item blank = 0x29 ∷ []
   written-item (gap g) = 0x22 ∷ g ∷ []
   written-item (element e mark δ φ) = 0x23 ∷ e ∷ written-attributes δ ++ written-items φ ++ 0x26 ∷ []
 
@@ -44,6 +45,7 @@ unfoldable mutual
 
   pub marked-item : ℕ → Item → Item
   marked-item at text = text
+  marked-item at blank = blank
   marked-item at (gap g) = gap g
   marked-item at (element e mark δ φ) = element e at δ (marked (at + 2 + length (written-attributes δ)) φ)
 
@@ -55,5 +57,6 @@ unfoldable mutual
 
   pub remarked-item : (ℕ → ℕ) → Item → Item
   remarked-item m text = text
+  remarked-item m blank = blank
   remarked-item m (gap g) = gap g
   remarked-item m (element e mark δ φ) = element e (m mark) δ (remarked m φ)

@@ -44,6 +44,7 @@ pub enum ItemHere {
     Text(Position),
     Gap(u8, Position),
     Element(u8, Position),
+    Blank(Position),
     End(Position),
 }
 
@@ -125,6 +126,7 @@ pub fn item_here(s: &[u8], here: Position) -> ItemHere
         0x21 => ItemHere::Text(here.on(1)),
         0x22 => ItemHere::Gap(here.operand(s, 1) % 8, here.on(2)),
         0x23 => ItemHere::Element(here.operand(s, 1) % 64, here.on(2)),
+        0x29 => ItemHere::Blank(here.on(1)),
         _ => ItemHere::End(here.on(1)),
     }
 }
@@ -262,6 +264,7 @@ fn items_gaps(s: &[u8], here: Position, gaps: u64) -> GapsFound
                 all = inside.gaps;
                 p = inside.next;
             }
+            ItemHere::Blank(next) => p = next,
             ItemHere::End(next) => return GapsFound { gaps: all, next },
         }
     }
@@ -309,7 +312,7 @@ fn read_items(kind: Kind, declared: u64, s: &[u8], here: Position, depth: usize)
     }
 }
 
-// Text, a gap, or an element with its attributes and contents.
+// Text, blank text, a gap, or an element with its attributes and contents.
 fn read_item(kind: Kind, declared: u64, s: &[u8], here: Position, depth: usize) -> Part
     ensures { λ r. ⌜ ItemRead kind (member declared) (now (s .entry)) depth (here .at) r ⌝ }
 {

@@ -7,7 +7,7 @@ use Rattle.sets.proofs.Booleans.{neither}
 use Rattle.pages.specs.Items.{Attribute, Item, element, Items, none, more, one, _⋈_, gapIn, gapInItem, openIn, attributeGapIn, attributeGapInItem}
 use Rattle.pages.specs.RightPages.{Gapless}
 use Rattle.summaries.specs.Summaries.{Summary}
-use Rattle.summaries.specs.Languages.{AttributesDerive, no-attribute, fixed, filled, Derives, ItemDerives, nothing, item-then, text-stays, gap-takes, element-keeps}
+use Rattle.summaries.specs.Languages.{AttributesDerive, no-attribute, fixed, filled, Derives, ItemDerives, nothing, item-then, text-stays, blank-stays, gap-takes, element-keeps}
 use Rattle.agreement.proofs.Gaps.{NoGap}
 
 gap-append : (u v : Items) (g : ℕ) → gapIn (u ⋈ v) g ≡ (gapIn u g || gapIn v g)
@@ -30,6 +30,7 @@ module _ (φs : List Items) (G : Summary) where
 
     item-no-gap : {n : ℕ} {i : Item} {u : Items} → ItemDerives φs G n i u → NoGap u
     item-no-gap text-stays g = refl
+    item-no-gap blank-stays g = refl
     item-no-gap (gap-takes m e d) g = derived-no-gap d g
     item-no-gap (element-keeps {e = e} {mark = mark} {δ′ = δ′} {φ′ = φ′} a d) g = no-gap-one (element e mark δ′ φ′) g (derived-no-gap d g)
 
@@ -59,6 +60,7 @@ module _ (φs : List Items) (G : Summary) where
 
     item-filled : {n : ℕ} {i : Item} {u : Items} → ItemDerives φs G n i u → (h : ℕ) → attributeGapIn u h ≡ false
     item-filled text-stays h = refl
+    item-filled blank-stays h = refl
     item-filled (gap-takes m e d) h = derived-filled d h
     item-filled (element-keeps {e = e} {mark = mark} {δ′ = δ′} {φ′ = φ′} a d) h =
         none-open (element e mark δ′ φ′) h (neither (openIn δ′ h) (attributeGapIn φ′ h) (attributes-filled a h) (derived-filled d h))

@@ -14,7 +14,7 @@ use Rattle.pages.specs.RightPages.{word, wordItem, SomeElement, SomeElementOf}
 use Rattle.programs.specs.Program.{templateAt}
 use Rattle.summaries.specs.Proposal.{edge}
 use Rattle.summaries.specs.Summaries.{Summary}
-use Rattle.summaries.specs.Languages.{Derives, ItemDerives, nothing, item-then, text-stays, gap-takes, element-keeps}
+use Rattle.summaries.specs.Languages.{Derives, ItemDerives, nothing, item-then, text-stays, blank-stays, gap-takes, element-keeps}
 use Rattle.patterns.specs.contracts.Given.{Bounded, contents, NamesInRange}
 use Rattle.patterns.specs.contracts.Rounds.{Set, Sets, iterate}
 use Rattle.patterns.specs.contracts.Reached.{Yields, contentsOf, itemContents, contentRound, contentRounds}
@@ -60,6 +60,7 @@ module _ (φs : List Items) (G : Summary) (named : NamesInRange φs) where
     item-occurs-small : {n : ℕ} {i : Item} {u : Items} → ItemDerives φs G n i u → ((c : ℕ) → SomeElementOf (λ e mark δ χ. e ≡ c) i → c < contents)
         → (c : ℕ) → isIn c (word u) ≡ true → c < contents
     item-occurs-small text-stays small c h = let z : c ≡ 0 = eqb-true c 0 (one-in (eqb c 0) h) in omega arith
+    item-occurs-small blank-stays small c h = absurd (false≢true h)
     item-occurs-small (gap-takes m e d) small c h = occurs-small d (named m) c h
     item-occurs-small (element-keeps {e = e} a d) small c h = small c (inl (sym (eqb-true c e (one-in (eqb c e) h))))
 
@@ -82,6 +83,7 @@ module _ (φs : List Items) (G : Summary) (bounded : Bounded φs G) where
 
       item-occurs-found : {n : ℕ} {i : Item} {u : Items} → ItemDerives φs G n i u → (c : ℕ) → isIn c (word u) ≡ true → itemContents φs G C n i c ≡ true
       item-occurs-found text-stays c h = one-in (eqb c 0) h
+      item-occurs-found blank-stays c h = absurd (false≢true h)
       item-occurs-found (gap-takes {n = n} {g = g} {φ′ = φ′} m e d) c h =
           any-below (suc (length φs)) (λ m′. G (edge n g m′) && C m′ c) m
           (let le : m ≤ length φs = bounded .edges n g m e in omega arith)
@@ -103,6 +105,7 @@ module _ (φs : List Items) (G : Summary) (bounded : Bounded φs G) where
       item-occurs-made : {n : ℕ} {i : Item} {u : Items} → ItemDerives φs G n i u → (c : ℕ) → itemContents φs G C n i c ≡ true
           → (u′ : Items) × ItemDerives φs G n i u′ × (isIn c (word u′) ≡ true)
       item-occurs-made text-stays c e = (one text, text-stays, or-left (eqb c 0) false e)
+      item-occurs-made blank-stays c e = absurd (false≢true e)
       item-occurs-made (gap-takes {n = n} {g = g} m e′ d) c e =
           let (m′, h, p) = below-any (suc (length φs)) (λ k. G (edge n g k) && C k c) e in
           let (page, d′, q) = sound m′ c (omega arith) (and-right (G (edge n g m′)) (C m′ c) p) in

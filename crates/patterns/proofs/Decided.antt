@@ -14,7 +14,7 @@ use Rattle.pages.specs.Items.{Attribute, Item, Items}
 use Rattle.pages.specs.RightPages.{ElementRight, Way, ElementWrong, Accepts, RootAlone, Right, SomeElement, SomeElementOf, WrongAt}
 use Rattle.programs.specs.Program.{templateAt}
 use Rattle.summaries.specs.Summaries.{Summary}
-use Rattle.summaries.specs.Languages.{AttributesDerive, Derives, ItemDerives, Language, DerivedFrom, nothing, item-then, text-stays, gap-takes, element-keeps}
+use Rattle.summaries.specs.Languages.{AttributesDerive, Derives, ItemDerives, Language, DerivedFrom, nothing, item-then, text-stays, blank-stays, gap-takes, element-keeps}
 use Rattle.agreement.proofs.Deciding.{Decided, holds, fails}
 use Rattle.agreement.proofs.Elements.{wrong-iff}
 use Rattle.agreement.proofs.Roots.{decided-alone}
@@ -58,6 +58,7 @@ module _ (φs : List Items) (G : Summary) where
       item-some-map : {n : ℕ} {i : Item} {u : Items} → ItemDerives φs G n i u
           → ((c : ℕ) → SomeElementOf (λ e mark ε χ. e ≡ c) i → c < contents) → SomeElementOf (P n) i → SomeElementOf (Q n) i
       item-some-map text-stays small s = s
+      item-some-map blank-stays small s = s
       item-some-map (gap-takes m e d) small s = absurd s
       item-some-map (element-keeps {n = n} {e = e} {mark = mark} {δ = δ} {δ′ = δ′} {φ = φ} {φ′ = φ′} a d) small (inl s) =
           inl (each n e mark δ φ (record { attributes = δ′; inside = φ′; attributes-fill = a; inside-fills = d; small = λ c t. small c (inr t) }) s)

@@ -10,12 +10,12 @@ use mathlib.Core.Bool.{true, _&&_, false≢true}
 use mathlib.Core.Logic.{_↔_}
 use lib.ListN.{length}
 use borrow.Author.Tests.{eqb-true, eq-eqb}
-use Rattle.pages.specs.Items.{Item, text, gap, element, Items, none, more, one, _⋈_}
+use Rattle.pages.specs.Items.{Item, text, blank, gap, element, Items, none, more, one, _⋈_}
 use Rattle.pages.specs.RightPages.{word}
 use Rattle.programs.specs.Program.{templateAt}
 use Rattle.summaries.specs.Proposal.{edge}
 use Rattle.summaries.specs.Summaries.{Summary}
-use Rattle.summaries.specs.Languages.{Derives, ItemDerives, nothing, item-then, text-stays, gap-takes, element-keeps}
+use Rattle.summaries.specs.Languages.{Derives, ItemDerives, nothing, item-then, text-stays, blank-stays, gap-takes, element-keeps}
 use Rattle.patterns.specs.contracts.Morphisms.{Morphism}
 use Rattle.patterns.specs.contracts.Given.{Bounded}
 use Rattle.patterns.specs.contracts.Rounds.{Set, Sets, only, anyBelow, iterate, attributesTake, allTake, itemTakes, product, patterns, itemPatterns, round, rounds, Settled}
@@ -77,6 +77,7 @@ module _ (φs : List Items) (G : Summary) (bounded : Bounded φs G) (R : Morphis
 
     item-pattern-takes : (i : Item) (X : Sets) (n x : ℕ) → x < R .size → itemPatterns φs G R X n i x ≡ true → itemTakes φs G R X n i ≡ true
     item-pattern-takes text X n x h e = refl
+    item-pattern-takes blank X n x h e = refl
     item-pattern-takes (gap g) X n x h e =
         let (m, hm, p) = below-any (suc (length φs)) (λ m. G (edge n g m) && X m x) e in
         any-below (suc (length φs)) (λ m′. G (edge n g m′) && anyBelow (R .size) (X m′)) m hm
@@ -97,6 +98,7 @@ module _ (φs : List Items) (G : Summary) (bounded : Bounded φs G) (R : Morphis
 
       found-item : {n : ℕ} {i : Item} {u : Items} → ItemDerives φs G n i u → itemPatterns φs G R X n i (R .of (word u)) ≡ true
       found-item text-stays = eqb-same (R .of (0 ∷ []))
+      found-item blank-stays = eqb-same (R .of [])
       found-item (gap-takes {n = n} {g = g} {φ′ = φ′} m e d) =
           any-below (suc (length φs)) (λ m′. G (edge n g m′) && X m′ (R .of (word φ′))) m
           (let h : m ≤ length φs = bounded .edges n g m e in omega arith)
@@ -118,6 +120,7 @@ module _ (φs : List Items) (G : Summary) (bounded : Bounded φs G) (R : Morphis
 
       filled-item : (i : Item) (n : ℕ) → itemTakes φs G R X n i ≡ true → (u : Items) × ItemDerives φs G n i u
       filled-item text n e = (one text, text-stays)
+      filled-item blank n e = (one blank, blank-stays)
       filled-item (gap g) n e =
           let (m, hm, p) = below-any (suc (length φs)) (λ m′. G (edge n g m′) && anyBelow (R .size) (X m′)) e in
           let (x, hx, q) = below-any (R .size) (X m) (and-right (G (edge n g m)) (anyBelow (R .size) (X m)) p) in
@@ -145,6 +148,7 @@ module _ (φs : List Items) (G : Summary) (bounded : Bounded φs G) (R : Morphis
       made-item : (i : Item) (n x : ℕ) → itemPatterns φs G R X n i x ≡ true
           → (u : Items) × ItemDerives φs G n i u × (R .of (word u) ≡ x)
       made-item text n x e = (one text, text-stays, sym (eqb-true x (R .of (0 ∷ [])) e))
+      made-item blank n x e = (one blank, blank-stays, sym (eqb-true x (R .of []) e))
       made-item (gap g) n x e =
           let (m, hm, p) = below-any (suc (length φs)) (λ m′. G (edge n g m′) && X m′ x) e in
           let (page, d, q) = sound m x (omega arith) (and-right (G (edge n g m)) (X m x) p) in

@@ -6,7 +6,7 @@ use mathlib.Core.List.{List, [], _∷_}
 use mathlib.Core.Bool.{Bool, true, _&&_, _||_}
 use mathlib.Core.Logic.{⊎-elim}
 use lib.ListN.{length}
-use Rattle.pages.specs.Items.{Item, text, gap, element, Items, none, more}
+use Rattle.pages.specs.Items.{Item, text, blank, gap, element, Items, none, more}
 use Rattle.programs.specs.Program.{templateAt}
 use Rattle.summaries.specs.Proposal.{root, edge}
 use Rattle.summaries.specs.Summaries.{Summary}
@@ -42,6 +42,7 @@ module _ (φs : List Items) (G : Summary) (R : Morphism) where
 
       item-takes-more : (i : Item) (n : ℕ) → itemTakes φs G R X n i ≡ true → itemTakes φs G R Y n i ≡ true
       item-takes-more text n e = refl
+      item-takes-more blank n e = refl
       item-takes-more (gap g) n e = gap-takes-more n g e
       item-takes-more (element e′ mark δ φ) n e = and-both _ _
           (and-left (attributesTake G n δ) (allTake φs G R X n φ) e)
@@ -59,6 +60,7 @@ module _ (φs : List Items) (G : Summary) (R : Morphism) where
 
       item-patterns-more : (i : Item) (n x : ℕ) → x < R .size → itemPatterns φs G R X n i x ≡ true → itemPatterns φs G R Y n i x ≡ true
       item-patterns-more text n x h e = e
+      item-patterns-more blank n x h e = e
       item-patterns-more (gap g) n x h e =
           let (m, hm, p) = below-any (suc (length φs)) (λ k. G (edge n g k) && X k x) e in
           any-below (suc (length φs)) (λ k. G (edge n g k) && Y k x) m hm
@@ -94,6 +96,7 @@ module _ (φs : List Items) (G : Summary) (Y : Set) where
 
       item-contents-more : (i : Item) (n c : ℕ) → c < M → itemContents φs G C n i c ≡ true → itemContents φs G E n i c ≡ true
       item-contents-more text n c h e = e
+      item-contents-more blank n c h e = e
       item-contents-more (gap g) n c h e =
           let (m, hm, p) = below-any (suc (length φs)) (λ k. G (edge n g k) && C k c) e in
           any-below (suc (length φs)) (λ k. G (edge n g k) && E k c) m hm

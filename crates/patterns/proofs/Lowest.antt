@@ -8,7 +8,7 @@ use mathlib.Core.Option.{Option, some, none}
 use mathlib.Core.Logic.{_↔_, _⊎_, inl, inr, ⊎-elim}
 use lib.Dec.{leb, eqb}
 use borrow.Author.Tests.{leb-true, leb-false, eqb-true, eqb-false}
-use Rattle.pages.specs.Items.{Attribute, Item, text, gap, element, Items, more}
+use Rattle.pages.specs.Items.{Attribute, Item, text, blank, gap, element, Items, more}
 use Rattle.pages.specs.Items as Items
 use Rattle.pages.specs.RightPages.{SomeElement, SomeElementOf}
 use Rattle.patterns.specs.contracts.Shows.{Least, nowhere, least, lower, onlyIf, lowestOver, lowestMark, lowestMarkIn}
@@ -85,5 +85,6 @@ module _ (p : ℕ → ℕ → List Attribute → Items → Bool) where
 
     least-mark-in : (i : Item) → Least (λ at. SomeElementOf (λ e mark δ χ. (mark ≡ at) × (p e mark δ χ ≡ true)) i) (lowestMarkIn p i)
     least-mark-in text = nowhere (λ n h. h)
+    least-mark-in blank = nowhere (λ n h. h)
     least-mark-in (gap g) = nowhere (λ n h. h)
     least-mark-in (element e mark δ φ) = least-lower (least-test (p e mark δ φ) mark) (least-mark φ)

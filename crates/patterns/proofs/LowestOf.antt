@@ -203,6 +203,7 @@ mutual
 
   none-some-of : (i : Item) → SomeElementOf (λ e mark δ χ. ⊥) i → ⊥
   none-some-of Items.text h = h
+  none-some-of Items.blank h = h
   none-some-of (Items.gap g) h = h
   none-some-of (Items.element e mark δ φ) (inl h) = h
   none-some-of (Items.element e mark δ φ) (inr h) = none-some φ h

@@ -4,14 +4,14 @@ use Prim.Native.Nat.{ℕ, zero, suc, _<_}
 use native.Mathlib.Omega.{arith}
 use mathlib.Core.Path.{_≡_, refl, sym, ap, subst, _∙_}
 use mathlib.Core.List.{List, [], _∷_}
-use mathlib.Core.Bool.{Bool, true, false, cond, _||_, and-true, and-false, true≢false}
+use mathlib.Core.Bool.{Bool, true, false, cond, _&&_, _||_, and-true, and-false, true≢false}
 use mathlib.Core.Logic.{_↔_, _⊎_, inl, inr, ⊎-elim}
 use lib.Dec.{eqb}
 use borrow.Author.Tests.{ne-eqb}
 use Rattle.vocabularies.specs.Vocabulary.{Vocabulary}
-use Rattle.pages.specs.Items.{Item, text, gap, element, Items, none, more, gapIn, gapInItem}
+use Rattle.pages.specs.Items.{Item, text, blank, gap, element, Items, none, more, _⋈_, withoutBlank, gapIn, gapInItem}
 use Rattle.pages.specs.RightPages.{word, wordItem, RootAlone}
-use Rattle.judging.specs.contracts.Judgement.{isAlone}
+use Rattle.judging.specs.contracts.Judgement.{isNone, isAlone}
 use Rattle.summaries.specs.Proposal.{root}
 use Rattle.summaries.specs.Summaries.{Summary}
 use Rattle.summaries.specs.Languages.{DerivedFrom}
@@ -37,13 +37,6 @@ rest-no-gap : (i : Item) (φ : Items) → NoGap (more i φ) → NoGap φ
 unfolding gapIn
 rest-no-gap i φ h g = or-neither (gapInItem i g) (gapIn φ g) (h g) .1
 
--- Two items that are no gaps are two contents, which is another class.
-two-contents : (top c : ℕ) (j : Item) (φ : Items) → NoGap (more j φ) → classOf top (c ∷ word (more j φ)) ≡ other
-unfolding word wordItem classOf
-two-contents top c text φ h = refl
-two-contents top c (gap g) φ h = absurd (true≢false (sym (gap-found g φ) ∙ h g))
-two-contents top c (element e mark δ χ) φ h = refl
-
 one-content : (top c : ℕ) → eqb (classOf top (c ∷ [])) alone ≡ eqb c top
 unfolding classOf
 one-content top c = go (eqb c top)
@@ -52,17 +45,32 @@ one-content top c = go (eqb c top)
     go true = refl
     go false = refl
 
+abbrev isNil : List ℕ → Bool
+isNil [] = true
+isNil (c ∷ w) = false
+
+first-content : (top c : ℕ) (w : List ℕ) → eqb (classOf top (c ∷ w)) alone ≡ (eqb c top && isNil w)
+unfolding classOf
+first-content top c [] = one-content top c ∙ sym (and-true (eqb c top))
+first-content top c (d ∷ w) = sym (and-false (eqb c top))
+
+-- Items that are no gaps and no blank text are contents.
+no-content : (φ : Items) → NoGap φ → isNone (withoutBlank φ) ≡ isNil (word φ)
+unfolding withoutBlank _⋈_ word wordItem
+no-content none h = refl
+no-content (more text φ) h = refl
+no-content (more blank φ) h = no-content φ (rest-no-gap blank φ h)
+no-content (more (gap g) φ) h = absurd (true≢false (sym (gap-found g φ) ∙ h g))
+no-content (more (element e mark δ χ) φ) h = refl
+
 -- Of a page without gaps the class tells whether it is exactly the root element.
 pub class-alone : (top : ℕ) → (top ≡ 0 → ⊥) → (φ : Items) → NoGap φ → isAlone top φ ≡ eqb (classOf top (word φ)) alone
-unfolding word wordItem classOf
+unfolding withoutBlank _⋈_ word wordItem classOf
 class-alone top pos none h = refl
-class-alone top pos (more text none) h = sym (one-content top 0 ∙ ne-eqb 0 top (λ e. pos (sym e)))
-class-alone top pos (more text (more j φ)) h =
-    ap (λ (k : ℕ). eqb k alone) (sym (two-contents top 0 j φ (rest-no-gap text (more j φ) h)))
+class-alone top pos (more text φ) h = sym (first-content top 0 (word φ) ∙ rw (ne-eqb 0 top (λ e. pos (sym e))))
+class-alone top pos (more blank φ) h = class-alone top pos φ (rest-no-gap blank φ h)
 class-alone top pos (more (gap g) φ) h = absurd (true≢false (sym (gap-found g φ) ∙ h g))
-class-alone top pos (more (element e mark δ χ) none) h = and-true (eqb e top) ∙ sym (one-content top e)
-class-alone top pos (more (element e mark δ χ) (more j φ)) h =
-    and-false (eqb e top) ∙ ap (λ (k : ℕ). eqb k alone) (sym (two-contents top e j φ (rest-no-gap (element e mark δ χ) (more j φ) h)))
+class-alone top pos (more (element e mark δ χ) φ) h = rw (no-content φ (rest-no-gap (element e mark δ χ) φ h)) (sym (first-content top e (word φ)))
 
 not-alone : (k : ℕ) → k < 3 → eqb k alone ≡ false → (k ≡ empty) ⊎ (k ≡ other)
 not-alone zero h e = inl refl

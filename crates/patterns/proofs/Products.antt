@@ -10,7 +10,7 @@ use lib.Dec.{eqb, eqb·suc-zero}
 use borrow.Author.Tests.{eqb-true}
 use Rattle.vocabularies.specs.Vocabulary.{Formula, isIn}
 use Rattle.vocabularies.specs.Facts.{Fact, present, ordered, valued, isAmong, factsOf}
-use Rattle.pages.specs.Items.{Item, text, gap, element, Items, none, more}
+use Rattle.pages.specs.Items.{Item, text, blank, gap, element, Items, none, more}
 use Rattle.judging.specs.contracts.Judgement.{precedes, holdsValue}
 use Rattle.summaries.specs.Proposal.{edge}
 use Rattle.summaries.specs.Summaries.{Summary}
@@ -204,6 +204,7 @@ module _ (φs : List Items) (G : Summary) (bounded : Bounded φs G) (R : Morphis
     item-takes-pattern : (i : Item) (X : Sets) (n : ℕ) → itemTakes φs G R X n i ≡ true
         → (x : ℕ) × (x < R .size) × (itemPatterns φs G R X n i x ≡ true)
     item-takes-pattern text X n e = (R .of (0 ∷ []), lawful .below (0 ∷ []), eqb-same (R .of (0 ∷ [])))
+    item-takes-pattern blank X n e = (R .of [], lawful .below [], eqb-same (R .of []))
     item-takes-pattern (gap g) X n e =
         let (m, hm, p) = below-any (suc (length φs)) (λ k. G (edge n g k) && anyBelow (R .size) (X k)) e in
         let (x, hx, q) = below-any (R .size) (X m) (and-right (G (edge n g m)) (anyBelow (R .size) (X m)) p) in

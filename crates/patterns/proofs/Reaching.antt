@@ -7,7 +7,7 @@ use mathlib.Core.Bool.{Bool, true, _&&_, _||_, false≢true}
 use mathlib.Core.Logic.{⊎-elim}
 use lib.ListN.{length}
 use borrow.Author.Tests.{eqb-true}
-use Rattle.pages.specs.Items.{Item, text, gap, element, Items, none, more, gapIn, gapInItem}
+use Rattle.pages.specs.Items.{Item, text, blank, gap, element, Items, none, more, gapIn, gapInItem}
 use Rattle.pages.specs.RightPages.{word}
 use Rattle.programs.specs.Program.{templateAt}
 use Rattle.summaries.specs.Proposal.{root, edge}
@@ -49,6 +49,7 @@ module _ (G : Summary) (n m : ℕ) where
 
     item-leads : (i : Item) → itemLeadsTo G n m i ≡ true → (g : ℕ) × (gapInItem i g ≡ true) × (G (edge n g m) ≡ true)
     item-leads text e = absurd (false≢true e)
+    item-leads blank e = absurd (false≢true e)
     item-leads (gap g) e = (g, eqb-same g, e)
     item-leads (element e′ mark δ φ) e = leads φ e
 
@@ -64,6 +65,7 @@ module _ (G : Summary) (n m : ℕ) where
 
     item-gap-leads : (i : Item) (g : ℕ) → gapInItem i g ≡ true → G (edge n g m) ≡ true → itemLeadsTo G n m i ≡ true
     item-gap-leads text g h e = absurd (false≢true h)
+    item-gap-leads blank g h e = absurd (false≢true h)
     item-gap-leads (gap k) g h e = subst (λ (j : ℕ). G (edge n j m) ≡ true) (sym (eqb-true k g h)) e
     item-gap-leads (element e′ mark δ φ) g h e = gap-leads φ g h e
 

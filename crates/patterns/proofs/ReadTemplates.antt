@@ -13,7 +13,7 @@ use Rattle.commands.specs.Commands.{byte, operandsOf, inRange, allInRange}
 use Rattle.commands.specs.Commands as Commands
 use Rattle.pages.specs.declared.Kind.{Kind}
 use Rattle.pages.specs.declared.Kind.the-variants.{Template}
-use Rattle.pages.specs.Items.{Attribute, Item, text, gap, element, Items, none, more}
+use Rattle.pages.specs.Items.{Attribute, Item, text, blank, gap, element, Items, none, more}
 use Rattle.pages.specs.RightPages.{SomeElement, SomeElementOf}
 use Rattle.pages.specs.ItemReading.{itemContext, nesting, attributes, endOf, leafAt, items, item, mostTemplates, templates}
 use Rattle.programs.specs.Program.{templateAt}
@@ -45,11 +45,12 @@ element-in-range e mark δ φ h k c (inr s) = k c s
 
 leaf-in-range : (s : List ℕ) (at code : ℕ) → ItemInRange (leafAt s at code)
 unfolding SomeElement
-leaf-in-range s at code = cases (eqb code 0x21)
+leaf-in-range s at code = cases (eqb code 0x21) (eqb code 0x29)
   where
-    cases : (b : Bool) → ItemInRange (cond b text (gap (byte s (at + 1))))
-    cases true c t = absurd t
-    cases false c t = absurd t
+    cases : (a b : Bool) → ItemInRange (cond a text (cond b blank (gap (byte s (at + 1)))))
+    cases true b c t = absurd t
+    cases false true c t = absurd t
+    cases false false c t = absurd t
 
 -- `23 e` has an element, 63 at most.
 element-ranged : (x : Context) (s : List ℕ) (at code : ℕ) → Ranged x s at code → eqb code 0x23 ≡ true → byte s (at + 1) < contents

@@ -7,12 +7,12 @@ use mathlib.Core.List.{List}
 use mathlib.Core.Bool.{true, false≢true}
 use mathlib.Core.Logic.{_↔_, _⊎_, inl, inr, ⊎-elim}
 use borrow.Author.Tests.{eqb-true}
-use Rattle.pages.specs.Items.{Attribute, Item, text, gap, element, Items, none, more, one, _⋈_, gapIn, gapInItem}
+use Rattle.pages.specs.Items.{Attribute, Item, text, blank, gap, element, Items, none, more, one, _⋈_, gapIn, gapInItem}
 use Rattle.pages.specs.RightPages.{SomeElement, SomeElementOf}
 use Rattle.programs.specs.Program.{templateAt}
 use Rattle.summaries.specs.Proposal.{edge}
 use Rattle.summaries.specs.Summaries.{Summary}
-use Rattle.summaries.specs.Languages.{Derives, ItemDerives, Language, nothing, item-then, text-stays, gap-takes, element-keeps}
+use Rattle.summaries.specs.Languages.{Derives, ItemDerives, Language, nothing, item-then, text-stays, blank-stays, gap-takes, element-keeps}
 use Rattle.patterns.specs.contracts.Reached.{Yields, Reached, from-root, through-gap, CanBe}
 use Rattle.patterns.proofs.Tests.{eqb-same}
 use Rattle.sets.proofs.Booleans.{or-left, or-right, or-cases}
@@ -50,6 +50,7 @@ module _ (P Q : Saying) where
 
     item-some-either : (i : Item) → SomeElementOf (λ e mark δ χ. P e mark δ χ ⊎ Q e mark δ χ) i → SomeElementOf P i ⊎ SomeElementOf Q i
     item-some-either text s = absurd s
+    item-some-either blank s = absurd s
     item-some-either (gap g) s = absurd s
     item-some-either (element e mark δ φ) (inl (inl p)) = inl (inl p)
     item-some-either (element e mark δ φ) (inl (inr q)) = inr (inl q)
@@ -66,6 +67,7 @@ module _ (P Q : Saying) (to : (e mark : ℕ) (δ : List Attribute) (φ : Items) 
 
     item-some-into : (i : Item) → SomeElementOf P i → SomeElementOf Q i
     item-some-into text s = s
+    item-some-into blank s = s
     item-some-into (gap g) s = s
     item-some-into (element e mark δ φ) (inl p) = inl (to e mark δ φ p)
     item-some-into (element e mark δ φ) (inr s) = inr (some-into φ s)
@@ -103,6 +105,7 @@ module _ (φs : List Items) (G : Summary) (P : Saying) where
         → ((g : ℕ) → gapInItem i g ≡ true → gapIn (templateAt φs n) g ≡ true)
         → SomeElement P u → SomeElementOf (Made n) i ⊎ SomeReached
     item-comes text-stays r part s = absurd (⊎-elim (λ t. t) (λ t. t) s)
+    item-comes blank-stays r part s = absurd (⊎-elim (λ t. t) (λ t. t) s)
     item-comes (gap-takes {n = n} {g = g} {φ′ = φ′} m e d) r part s =
         let r′ : Reached φs G m = through-gap r (part g (eqb-same g)) e (φ′, d) in
         inr (⊎-elim (λ a. (m, r′, a)) (λ a. a) (comes d r′ (λ k h. h) s))
@@ -130,6 +133,7 @@ module _ (φs : List Items) (G : Summary) (P : Saying) where
     item-made-in : {n : ℕ} {i : Item} {u : Items} → ItemDerives φs G n i u → SomeElementOf (Made n) i
         → (u′ : Items) × ItemDerives φs G n i u′ × SomeElement P u′
     item-made-in text-stays s = absurd s
+    item-made-in blank-stays s = absurd s
     item-made-in (gap-takes m e d) s = absurd s
     item-made-in (element-keeps {e = e} {mark = mark} a d) (inl (δ″, φ″, a″, d″, p)) =
         (one (element e mark δ″ φ″), element-keeps a″ d″, inl (inl p))
@@ -152,6 +156,7 @@ module _ (φs : List Items) (G : Summary) (P : Saying) where
       item-plugged-in : {n : ℕ} {i : Item} {u : Items} → ItemDerives φs G n i u → (g : ℕ) → gapInItem i g ≡ true → G (edge n g m) ≡ true
           → (u′ : Items) × ItemDerives φs G n i u′ × SomeElement P u′
       item-plugged-in text-stays g h e = absurd (false≢true h)
+      item-plugged-in blank-stays g h e = absurd (false≢true h)
       item-plugged-in (gap-takes {n = n} {g = k} m′ e′ d) g h e =
           (plugged, gap-takes m (subst (λ (j : ℕ). G (edge n j m) ≡ true) (sym (eqb-true k g h)) e) comes-of-m, some)
       item-plugged-in (element-keeps {e = e₁} {mark = mark} {δ′ = δ′} a d) g h e =

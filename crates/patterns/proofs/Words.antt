@@ -5,7 +5,7 @@ use mathlib.Core.List.{List, [], _∷_, _++_}
 use mathlib.Core.Bool.{Bool, true, false, _&&_, _||_, or-false, or-assoc}
 use lib.Dec.{eqb}
 use Rattle.vocabularies.specs.Vocabulary.{isIn}
-use Rattle.pages.specs.Items.{Attribute, Item, text, gap, element, Items, none, more, _⋈_}
+use Rattle.pages.specs.Items.{Attribute, Item, text, blank, gap, element, Items, none, more, _⋈_}
 use Rattle.pages.specs.RightPages.{word, wordItem}
 use Rattle.judging.specs.contracts.Judgement.{precedes, holdsValue, hasString}
 use Rattle.patterns.proofs.Tests.{eqb-sym}
@@ -42,6 +42,7 @@ holds-append (x ∷ δ) ε a m = rw (holds-append δ ε a m)
 word-item : (i : Item) (u v : List ℕ) → wordItem i (u ++ v) ≡ wordItem i u ++ v
 unfolding wordItem
 word-item text u v = refl
+word-item blank u v = refl
 word-item (gap g) u v = refl
 word-item (element e mark δ φ) u v = refl
 

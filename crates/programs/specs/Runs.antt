@@ -7,7 +7,7 @@ use mathlib.Core.Option.{Option, some}
 use mathlib.Core.Option as Option
 use lib.Dec.{eqb}
 use Rattle.commands.specs.Commands.{emptyString}
-use Rattle.pages.specs.Items.{Value, string, open-gap, Attribute, Item, text, gap, element, Items, none, more, one, _⋈_}
+use Rattle.pages.specs.Items.{Value, string, open-gap, Attribute, Item, text, blank, gap, element, Items, none, more, one, _⋈_}
 use Rattle.programs.specs.Program.{Act, copyTemplate, setTemplate, copyString, setString, anyString, plug, plugString, show, Statement, step, stop, statementAt, templateAt}
 
 abbrev pub filledValue : (ℕ → Option Value) → Value → Option Value
@@ -33,6 +33,7 @@ unfoldable mutual
 
   pub replacedItem : (ℕ → Items) → (ℕ → Option Value) → Item → Items
   replacedItem put fill text = one text
+  replacedItem put fill blank = one blank
   replacedItem put fill (gap g) = put g
   replacedItem put fill (element e mark δ φ) = one (element e mark (filled fill δ) (replaced put fill φ))
 

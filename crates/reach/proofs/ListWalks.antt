@@ -1,5 +1,5 @@
 -- A list of items of a template, one after the other, and an element with what was told of its contents.
-use Prim.Native.Nat.{ℕ, _+_, _≤_}
+use Prim.Native.Nat.{ℕ, _+_, _≤_, _<_}
 use mathlib.Core.Path.{_≡_, refl, sym, ap, ap₂, subst, _∙_}
 use mathlib.Core.List.{List, []}
 use mathlib.Core.Bool.{Bool, true, _||_, false≢true}
@@ -13,17 +13,17 @@ use Rattle.vocabularies.specs.Vocabulary.{Rule, Vocabulary, ruleOf, declared, i
 use Rattle.pages.specs.declared.Kind.the-variants.{Template}
 use Rattle.pages.specs.declared.Named.{Named}
 use Rattle.pages.specs.declared.ItemHere.{ItemHere}
-use Rattle.pages.specs.declared.ItemHere.the-variants.{Text, Gap, Element, End}
-use Rattle.pages.specs.Items.{Attribute, Items, one}
+use Rattle.pages.specs.declared.ItemHere.the-variants.{Text, Gap, Element, Blank, End}
+use Rattle.pages.specs.Items.{Attribute, Item, Items, more, one}
 use Rattle.pages.specs.Items as Items
 use Rattle.pages.specs.ItemReading.{items}
 use Rattle.pages.specs.contracts.Steps.{itemHere, NamesAt}
-use Rattle.pages.proofs.Steps.{text-first, gap-first, element-first, end-first, element-item, no-attribute}
+use Rattle.pages.proofs.Steps.{LeafFirst, text-first, blank-first, gap-first, element-first, end-first, element-item, no-attribute}
 use Rattle.summaries.specs.Summaries.{Summary}
 use Rattle.patterns.specs.declared.Wrong.{Wrong}
 use Rattle.patterns.specs.declared.Wrong.the-variants.{Nowhere}
 use Rattle.patterns.specs.contracts.Rounds.{Sets}
-use Rattle.patterns.specs.contracts.Shows.{lower, onlyIf, lowestMark}
+use Rattle.patterns.specs.contracts.Shows.{lower, onlyIf, lowestMark, lowestMarkIn}
 use Rattle.patterns.specs.contracts.LowestWrong.{lowerWrong, wrongIn}
 use Rattle.patterns.proofs.LowestOf.{lower-in, lower-nowhere, lower-assoc}
 use Rattle.reach.specs.declared.WalkedElement.{WalkedElement}
@@ -32,7 +32,7 @@ use Rattle.reach.specs.contracts.Closures.{United}
 use Rattle.reach.specs.contracts.PlainlyWrong.{plainlyUnder, plainlyWrong}
 use Rattle.reach.specs.contracts.Walking.{RulesKept, Brings, TellsOutside, WalksElement, WalksItems}
 use Rattle.reach.proofs.Marks.{lower-none, mark-first}
-use Rattle.reach.proofs.Outlining.{Outlined, outlined-none, outlined-all, outlined-text, outlined-gap, outlined-element, contents-by}
+use Rattle.reach.proofs.Outlining.{Outlined, outlined-none, outlined-all, outlined-text, outlined-blank, outlined-gap, outlined-element, contents-by}
 
 found-rule : (o : Option Rule) → isSome o ≡ true → (R : Rule) × (o ≡ some R)
 found-rule none h = absurd (false≢true h)
@@ -69,30 +69,37 @@ module _ (s allowed-in held-in brings : List ℕ) (n : ℕ) where
           lowers = λ φs G C D rules brought ruled-are. sym (lower-nowhere wrong);
         })
 
+    -- An item that is no element, by what it adds to the outline.
+    list-leaf : (i : Item) → ((p : ℕ → ℕ → List Attribute → Items → Bool) → lowestMarkIn p i ≡ none) → (next : Position) (inside′ gaps′ : ℕ)
+        → ((φ : Items) (inside″ gaps″ : ℕ) → Outlined inside′ gaps′ φ inside″ gaps″ → Outlined inside gaps (more i φ) inside″ gaps″)
+        → ((ruled : ℕ → Bool) (f depth end : ℕ) (φ : Items) → items f Template ruled s depth at ≡ whole φ end → LeafFirst Template ruled s depth at i next φ end)
+        → (r : WalkedItems) → Adds inside′ gaps′ wrong (next .at) r → Adds inside gaps wrong at r
+    unfolding lowestMark
+    list-leaf i none-in next inside′ gaps′ outline first r A ruled f depth end φ e =
+        let F = first ruled f depth end φ e in
+        let a = A ruled (F .fuel) depth end (F .rest) (F .reads-rest) in
+        rw (F .is-more) (record {
+          ends = a .ends;
+          outlined = outline (F .rest) (r .inside) (r .gaps) (a .outlined);
+          lowers = λ φs G C D rules brought ruled-are. rw (none-in (λ e mark δ χ. plainlyWrong φs G C D n e δ χ)) (a .lowers φs G C D rules brought ruled-are);
+        })
+
     pub list-text : (next : Position) → h ≡ Text next → (inside′ : ℕ) → ((k : ℕ) → member inside′ k ≡ (eqb k 0 || member inside k))
         → (r : WalkedItems) → Adds inside′ gaps wrong (next .at) r → Adds inside gaps wrong at r
     unfolding lowestMark
-    list-text next q inside′ is-inside r A ruled f depth end φ e =
-        let F = text-first f Template ruled s depth at φ end e h is next q in
-        let a = A ruled (F .fuel) depth end (F .rest) (F .reads-rest) in
-        rw (F .is-more) (record {
-          ends = a .ends;
-          outlined = outlined-text inside gaps (F .rest) (r .inside) (r .gaps) inside′ is-inside (a .outlined);
-          lowers = a .lowers;
-        })
+    list-text next q inside′ is-inside = list-leaf Items.text (λ p. refl) next inside′ gaps (λ φ x y. outlined-text inside gaps φ x y inside′ is-inside)
+        λ ruled f depth end φ e. text-first f Template ruled s depth at φ end e h is next q
 
-    pub list-gap : (g : ℕ) (next : Position) → h ≡ Gap g next → (gaps′ : ℕ) → ((k : ℕ) → member gaps′ k ≡ (eqb k g || member gaps k))
+    pub list-blank : (next : Position) → h ≡ Blank next → (r : WalkedItems) → Adds inside gaps wrong (next .at) r → Adds inside gaps wrong at r
+    unfolding lowestMark
+    list-blank next q = list-leaf Items.blank (λ p. refl) next inside gaps (outlined-blank inside gaps)
+        λ ruled f depth end φ e. blank-first f Template ruled s depth at φ end e h is next q
+
+    pub list-gap : (g : ℕ) → g < 8 → (next : Position) → h ≡ Gap g next → (gaps′ : ℕ) → ((k : ℕ) → member gaps′ k ≡ (eqb k g || member gaps k))
         → (r : WalkedItems) → Adds inside gaps′ wrong (next .at) r → Adds inside gaps wrong at r
     unfolding lowestMark
-    list-gap g next q gaps′ is-gaps r A ruled f depth end φ e =
-        let K = gap-first f Template ruled s depth at φ end e h is g next q in
-        let F = K .leaf in
-        let a = A ruled (F .fuel) depth end (F .rest) (F .reads-rest) in
-        rw (F .is-more) (record {
-          ends = a .ends;
-          outlined = outlined-gap inside gaps (F .rest) (r .inside) (r .gaps) g gaps′ (K .small) is-gaps (a .outlined);
-          lowers = a .lowers;
-        })
+    list-gap g small next q gaps′ is-gaps = list-leaf (Items.gap g) (λ p. refl) next inside gaps′ (λ φ x y. outlined-gap inside gaps φ x y g gaps′ small is-gaps)
+        λ ruled f depth end φ e. gap-first f Template ruled s depth at φ end e h is g next q .leaf
 
     pub list-element : (e : ℕ) (start : Position) → h ≡ Element e start → (inside′ : ℕ) → ((k : ℕ) → member inside′ k ≡ (eqb k e || member inside k))
         → (own : WalkedElement) → WalksElement s allowed-in held-in brings n at e start own

@@ -11,7 +11,7 @@ use borrow.Author.Tests.{eqb-true, lt-ltb, ltb-true, ltb-false}
 use Rattle.sets.specs.Sets.{member}
 use Rattle.sets.proofs.Laws.{member-zero}
 use Rattle.vocabularies.specs.Vocabulary.{isIn}
-use Rattle.pages.specs.Items.{Attribute, Item, text, gap, element, Items, none, more}
+use Rattle.pages.specs.Items.{Attribute, Item, text, blank, gap, element, Items, none, more}
 use Rattle.pages.specs.RightPages.{word, wordItem}
 use Rattle.summaries.specs.Proposal.{edge}
 use Rattle.summaries.specs.Summaries.{Summary}
@@ -61,6 +61,10 @@ module _ (inside gaps : ℕ) (φ : Items) (inside″ gaps″ : ℕ) where
   unfolding word wordItem isIn gapAmong
   outlined-text inside′ is o = record { contents-in = content-first 0 inside′ is (o .contents-in); gaps-in = o .gaps-in }
 
+  pub outlined-blank : Outlined inside gaps φ inside″ gaps″ → Outlined inside gaps (more blank φ) inside″ gaps″
+  unfolding word wordItem isIn gapAmong
+  outlined-blank o = record { contents-in = o .contents-in; gaps-in = o .gaps-in }
+
   pub outlined-gap : (k gaps′ : ℕ) → k < 8 → ((j : ℕ) → member gaps′ j ≡ (eqb j k || member gaps j)) → Outlined inside gaps′ φ inside″ gaps″
       → Outlined inside gaps (more (gap k) φ) inside″ gaps″
   unfolding word wordItem isIn gapAmong
@@ -92,12 +96,14 @@ module _ (φs : List Items) (G : Summary) (C : Sets) (n c : ℕ) where
       → (isIn c (word (more i φ)) ≡ true) ⊎ ((g : ℕ) × (gapAmong (more i φ) g ≡ true) × (brought g ≡ true))
   unfolding contentsOf word wordItem isIn gapAmong
   item-in text φ e = inl (or-left (eqb c 0) (isIn c (word φ)) e)
+  item-in blank φ e = absurd (false≢true e)
   item-in (gap g) φ e = inr (g, or-left (eqb g g) (gapAmong φ g) (eqb-same g), e)
   item-in (element e′ mark δ χ) φ e = inl (or-left (eqb c e′) (isIn c (word φ)) e)
 
   later-in : (i : Item) (φ : Items) → isIn c (word φ) ≡ true → isIn c (word (more i φ)) ≡ true
   unfolding word wordItem isIn
   later-in text φ e = or-right (eqb c 0) (isIn c (word φ)) e
+  later-in blank φ e = e
   later-in (gap g) φ e = e
   later-in (element e′ mark δ χ) φ e = or-right (eqb c e′) (isIn c (word φ)) e
 
@@ -117,12 +123,14 @@ module _ (φs : List Items) (G : Summary) (C : Sets) (n c : ℕ) where
   unfolding contentsOf word wordItem isIn
   contents-own none e = absurd (false≢true e)
   contents-own (more text φ) e = ⊎-elim (or-left (eqb c 0) (contentsOf φs G C n φ c)) (λ t. or-right (eqb c 0) (contentsOf φs G C n φ c) (contents-own φ t)) (or-cases (eqb c 0) (isIn c (word φ)) e)
+  contents-own (more blank φ) e = contents-own φ e
   contents-own (more (gap g) φ) e = or-right (brought g) (contentsOf φs G C n φ c) (contents-own φ e)
   contents-own (more (element e′ mark δ χ) φ) e = ⊎-elim (or-left (eqb c e′) (contentsOf φs G C n φ c)) (λ t. or-right (eqb c e′) (contentsOf φs G C n φ c) (contents-own φ t)) (or-cases (eqb c e′) (isIn c (word φ)) e)
 
   item-brings : (i : Item) (g : ℕ) → isGap i g ≡ true → brought g ≡ true → itemContents φs G C n i c ≡ true
   unfolding contentsOf
   item-brings text g h b = absurd (false≢true h)
+  item-brings blank g h b = absurd (false≢true h)
   item-brings (gap k) g h b = subst (λ (j : ℕ). brought j ≡ true) (sym (eqb-true k g h)) b
   item-brings (element e mark δ χ) g h b = absurd (false≢true h)
 

@@ -197,6 +197,7 @@ fn walk_items(
                 wrong = patterns::lower(wrong, own);
                 here = element.next;
             }
+            ItemHere::Blank(next) => here = next,
             ItemHere::End(next) => {
                 return WalkedItems {
                     inside,

@@ -8,7 +8,7 @@ use mathlib.Core.Bool.{Bool, true, false, cond, _&&_, and-eq-true-iff}
 use borrow.Author.Tests.{ltb-true}
 use lib.Dec.{ltb}
 use Rattle.vocabularies.specs.Vocabulary.{Formula, conj, disj, neg, truth, attr, content, order, value, Rule, Vocabulary}
-use Rattle.pages.specs.Items.{Value, string, open-gap, Attribute, Item, text, gap, element, Items, none, more}
+use Rattle.pages.specs.Items.{Value, string, open-gap, Attribute, Item, text, blank, gap, element, Items, none, more}
 use Rattle.pages.specs.declared.Kind.{Kind}
 use Rattle.pages.specs.declared.Kind.the-variants.{Template, Page}
 use Rattle.round_trip.specs.Written.{highest-first, written-formula, written-numbers, written-clauses, written-rules, written-vocabulary, written-value, written-attributes, written-items, written-item, written-page}
@@ -106,6 +106,7 @@ module _ (k : Kind) (ruled : ℕ → Bool) where
 
     item-bytes : (j : Item) → ItemInRange k ruled j → Bytes (written-item j)
     item-bytes text i = omega arith
+    item-bytes blank i = omega arith
     item-bytes (gap g) i = gap-bytes k g i
     item-bytes (element e mark δ φ) i =
         let u = written-attributes δ in

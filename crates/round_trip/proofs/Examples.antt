@@ -9,7 +9,7 @@ use Rattle.commands.specs.Reading.{whole}
 use Rattle.vocabularies.specs.Vocabulary.{Vocabulary, value, ruleOf}
 use Rattle.vocabularies.specs.Facts.{withFacts}
 use Rattle.vocabularies.specs.VocabularyReading.{vocabularySlice}
-use Rattle.pages.specs.Items.{Items, string, open-gap, text, gap, element, one, none, more}
+use Rattle.pages.specs.Items.{Items, string, open-gap, text, blank, gap, element, one, none, more}
 use Rattle.pages.specs.ItemReading.{pageSlice}
 use Rattle.programs.specs.Program.{Act, copyTemplate, setTemplate, copyString, setString, plug, plugString, show, step, stop, templateVariable, stringVariable}
 use Rattle.summaries.specs.Proposal.{Claim, root, edge, gapFrom, attributeGapFrom, Holding, claim, anyAt, oneString}
@@ -50,7 +50,7 @@ abbrev each-job : Job
 each-job = record {
   script = record {
     vocabulary = j1-vocabulary;
-    templates = one (element 1 20 (record { name = 0; value = string 5 } ∷ record { name = 1; value = open-gap 7 } ∷ []) (more text (one (gap 7)))) ∷ [];
+    templates = one (element 1 20 (record { name = 0; value = string 5 } ∷ record { name = 1; value = open-gap 7 } ∷ []) (more text (more blank (one (gap 7))))) ∷ [];
     program =
         step (copyTemplate 0 3) 0 8
         ∷ step (setTemplate 1 1) 0 8
@@ -78,7 +78,7 @@ each-job = record {
 abbrev each-bytes : List ℕ
 each-bytes =
     vocabularyPart
-    ++ (0x20 ∷ 0x23 ∷ 0x01 ∷ 0x24 ∷ 0x00 ∷ 0x05 ∷ 0x25 ∷ 0x01 ∷ 0x07 ∷ 0x21 ∷ 0x22 ∷ 0x07 ∷ 0x26 ∷ 0x27 ∷ 0x2F ∷ [])
+    ++ (0x20 ∷ 0x23 ∷ 0x01 ∷ 0x24 ∷ 0x00 ∷ 0x05 ∷ 0x25 ∷ 0x01 ∷ 0x07 ∷ 0x21 ∷ 0x29 ∷ 0x22 ∷ 0x07 ∷ 0x26 ∷ 0x27 ∷ 0x2F ∷ [])
     ++ (0x30 ∷ 0x00 ∷ 0x03 ∷ 0x00 ∷ 0x08 ∷ 0x31 ∷ 0x01 ∷ 0x01 ∷ 0x00 ∷ 0x08 ∷ 0x32 ∷ 0x00 ∷ 0x03 ∷ 0x00 ∷ 0x08 ∷ 0x33 ∷ 0x01 ∷ 0x3F ∷ 0x00 ∷ 0x08 ∷ [])
     ++ (0x34 ∷ 0x02 ∷ 0x00 ∷ 0x08 ∷ 0x35 ∷ 0x00 ∷ 0x01 ∷ 0x07 ∷ 0x02 ∷ 0x00 ∷ 0x08 ∷ 0x36 ∷ 0x00 ∷ 0x01 ∷ 0x07 ∷ 0x03 ∷ 0x00 ∷ 0x08 ∷ [])
     ++ (0x37 ∷ 0x00 ∷ 0x00 ∷ 0x08 ∷ 0x38 ∷ 0x3F ∷ [])
@@ -89,19 +89,19 @@ each-written : written-job each-job ≡ each-bytes
 unfolding written-job
 each-written = refl
 
-each-read : job each-bytes ≡ whole each-job 114
+each-read : job each-bytes ≡ whole each-job 115
 unfolding job command ruleOf withFacts
 each-read = refl
 
 each-in-range : JobInRange each-job
-each-in-range = job-written each-bytes each-job 114 (are-bytes each-bytes refl) each-read .in-range
+each-in-range = job-written each-bytes each-job 115 (are-bytes each-bytes refl) each-read .in-range
 
--- Element 1 with attribute 0, string 5, and attribute 3, a string that has no name; in it a text and element 2, which is empty.
+-- Blank text, and element 1 with attribute 0, string 5, and attribute 3, a string that has no name; in it a text and element 2, which is empty.
 abbrev page : Items
-page = one (element 1 0 (record { name = 0; value = string 5 } ∷ record { name = 3; value = string 64 } ∷ []) (more text (one (element 2 8 [] none))))
+page = more blank (one (element 1 1 (record { name = 0; value = string 5 } ∷ record { name = 3; value = string 64 } ∷ []) (more text (one (element 2 9 [] none)))))
 
 abbrev page-bytes : List ℕ
-page-bytes = 0x23 ∷ 0x01 ∷ 0x24 ∷ 0x00 ∷ 0x05 ∷ 0x28 ∷ 0x03 ∷ 0x21 ∷ 0x23 ∷ 0x02 ∷ 0x26 ∷ 0x26 ∷ 0x27 ∷ []
+page-bytes = 0x29 ∷ 0x23 ∷ 0x01 ∷ 0x24 ∷ 0x00 ∷ 0x05 ∷ 0x28 ∷ 0x03 ∷ 0x21 ∷ 0x23 ∷ 0x02 ∷ 0x26 ∷ 0x26 ∷ 0x27 ∷ []
 
 page-written : written-page page ≡ page-bytes
 unfolding written-page
@@ -110,9 +110,9 @@ page-written = refl
 page-in-range : PageInRange j1-vocabulary page
 unfolding Distinct AttributesInRange element-depth ItemsInRange ruleOf
 page-in-range =
-    record { items = ((omega arith, refl, omega arith, (refl, (refl, tt)), (tt, ((omega arith, refl, tt, tt, tt), tt))), tt); nesting = omega arith }
+    record { items = (tt, ((omega arith, refl, omega arith, (refl, (refl, tt)), (tt, ((omega arith, refl, tt, tt, tt), tt))), tt)); nesting = omega arith }
 
-page-back-itself : pageSlice j1-vocabulary page-bytes ≡ whole page 13
+page-back-itself : pageSlice j1-vocabulary page-bytes ≡ whole page 14
 unfolding written-page marked
 page-back-itself = marked-back j1-vocabulary page page-in-range refl (omega arith)
 

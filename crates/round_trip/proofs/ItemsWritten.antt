@@ -3,19 +3,21 @@
 use Prim.Native.Nat.{ℕ, zero, suc, _+_, _≤_, _<_}
 use native.Mathlib.Omega.{arith}
 use mathlib.Core.Path.{_≡_, refl}
+use mathlib.Core.Logic.{inl, inr}
 use mathlib.Core.List.{List, [], _∷_, _++_, append-assoc}
-use mathlib.Core.Bool.{Bool, true, false, cond, and-eq-true-iff}
+use mathlib.Core.Bool.{Bool, true, false, cond}
 use lib.ListN.{length}
-use lib.Dec.{ltb, leb, eqb}
-use borrow.Author.Tests.{ltb-true, lt-ltb, leb-true, eqb-true, eqb-false}
+use lib.Dec.{ltb, eqb}
+use borrow.Author.Tests.{ltb-true, lt-ltb, eqb-true, eqb-false}
 use Rattle.commands.specs.declared.Context.the-variants.{Templates, TemplateItems}
 use Rattle.commands.specs.Commands.{byte, allowed, operandsOf, operandBytes}
 use Rattle.commands.specs.Reading.{whole, enough}
 use Rattle.vocabularies.specs.Vocabulary.{Vocabulary, isIn, declared}
 use Rattle.pages.specs.declared.Kind.{Kind}
 use Rattle.pages.specs.declared.Kind.the-variants.{Template, Page}
-use Rattle.pages.specs.Items.{Value, string, open-gap, Attribute, Item, text, gap, element, Items}
+use Rattle.pages.specs.Items.{Value, string, open-gap, Attribute, Item, text, blank, gap, element, Items}
 use Rattle.pages.specs.ItemReading.{itemContext, attributeContext, nesting, valueAt, attributes, endOf, leafAt, items, item, pageSlice, mostTemplates, templates}
+use Rattle.pages.proofs.Steps.{leaf-code}
 use Rattle.agreement.proofs.Readings.{Gives, gives, refuses, runs-out, gives-command, gives-when, gives-then, gives-map, Taken, byte-there, is-first, is-second}
 use Rattle.round_trip.specs.Written.{written-value, written-attributes, written-items, written-item, written-page, marked, marked-item}
 use Rattle.round_trip.specs.InRange.{Distinct, ValueInRange, AttributesInRange, element-depth, element-depth-of, deepest, ItemsInRange, ItemInRange}
@@ -109,22 +111,21 @@ module _ (ruled : ℕ → Bool) (s : List ℕ) (depth at next : ℕ) where
   unfolding operandsOf operandBytes written-items ItemsInRange element-depth marked
   text-read k d t = record { span = taken-span t; in-range = tt; nested = omega arith; marks = refl }
 
+  blank-read : (k : Kind) → depth ≤ deepest k → Taken (itemContext k) s at 0x29 next → ItemRead k ruled s depth at blank next
+  unfolding operandsOf operandBytes written-items ItemsInRange element-depth marked
+  blank-read k d t = record { span = taken-span t; in-range = tt; nested = omega arith; marks = refl }
+
   gap-read : depth ≤ 16 → Taken TemplateItems s at 0x22 next → ItemRead Template ruled s depth at (gap (byte s (at + 1))) next
   unfolding operandsOf operandBytes written-items ItemsInRange element-depth marked
   gap-read d t = record { span = taken-span t; in-range = omega (arith, taken-fits t); nested = omega arith; marks = refl }
 
   -- `22` is allowed in templates alone.
   leaf-read : (k : Kind) (code : ℕ) → depth ≤ deepest k → Taken (itemContext k) s at code next → eqb code 0x23 ≡ false → ItemRead k ruled s depth at (leafAt s at code) next
-  unfolding allowed
-  leaf-read k code d t n = by-test (eqb code 0x21) refl k d t
-    where
-      by-test : (b : Bool) → eqb code 0x21 ≡ b → (k : Kind) → depth ≤ deepest k → Taken (itemContext k) s at code next → ItemRead k ruled s depth at (leafAt s at code) next
-      by-test true e k d t = let c : code ≡ 0x21 = eqb-true code 0x21 e in rw c (text-read k d (rw c at t))
-      by-test false e Template d t =
-          let b = and-eq-true-iff (leb 0x21 code) (leb code 0x23) .0 (t .may) in
-          let c : code ≡ 0x22 = omega (arith, leb-true 0x21 code (b .0), leb-true code 0x23 (b .1), eqb-false code 0x21 e, eqb-false code 0x23 n) in
-          rw c (gap-read d (rw c at t))
-      by-test false e Page d t = absurd (eqb-false code 0x23 n (is-second 0x21 0x23 code (t .may) e))
+  leaf-read k code d t n = elim (leaf-code k code (t .may) (eqb-false code 0x23 n)) [
+    | inl c ↦ rw c (text-read k d (rw c at t))
+    | inr (inl c) ↦ rw c (blank-read k d (rw c at t))
+    | inr (inr (c, in-template)) ↦ rw (c, in-template) (gap-read (rw in-template at d) (rw (c, in-template) at t))
+  ]
 
 module _ (k : Kind) (ruled : ℕ → Bool) (s : List ℕ) where
   element-read : (depth at next inside end : ℕ) {δ : List Attribute} {φ : Items} → Taken (itemContext k) s at 0x23 next → ruled (byte s (at + 1)) ≡ true

@@ -14,17 +14,22 @@ use Rattle.commands.specs.Reading.{whole, enough}
 use Rattle.vocabularies.specs.Vocabulary.{Vocabulary, isIn, declared}
 use Rattle.pages.specs.declared.Kind.{Kind}
 use Rattle.pages.specs.declared.Kind.the-variants.{Template, Page}
-use Rattle.pages.specs.Items.{Value, string, open-gap, Attribute, Item, text, gap, element, Items, none, more}
+use Rattle.pages.specs.Items.{Value, string, open-gap, Attribute, Item, text, blank, gap, element, Items, none, more}
 use Rattle.pages.specs.ItemReading.{itemContext, attributeContext, nesting, valueAt, attributes, endOf, items, item, pageSlice}
 use Rattle.round_trip.specs.Written.{written-value, written-attributes, written-items, written-item, written-page, marked, marked-item}
 use Rattle.round_trip.specs.InRange.{Distinct, ValueInRange, AttributesInRange, GapInRange, element-depth, element-depth-of, deepest, ItemsInRange, ItemInRange, PageInRange}
 use Rattle.round_trip.proofs.Once.{NoneOf, none-of-none, none-after, eqb-turned, names}
-use Rattle.round_trip.proofs.Rests.{Rest, all, head, byte-at, first, behind, grouped, taken, element-goes, ends-at, reads-alone}
+use Rattle.round_trip.proofs.Rests.{Rest, all, head, byte-at, first, behind, grouped, taken, bare-goes, element-goes, ends-at, reads-alone}
 
 -- A command that may stand among the attributes of templates and of pages, or of neither.
 either-kind : (k : Kind) (c : ℕ) {b : Bool} → allowed TemplateAttributes c ≡ b → allowed PageAttributes c ≡ b → allowed (attributeContext k) c ≡ b
 either-kind Template c p q = p
 either-kind Page c p q = q
+
+-- A command that may stand among the items of both.
+both-kinds : (k : Kind) (c : ℕ) → allowed TemplateItems c ≡ true → allowed PageItems c ≡ true → allowed (itemContext k) c ≡ true
+both-kinds Template c p q = p
+both-kinds Page c p q = q
 
 -- What is read where an attribute was written.
 record Attributed (k : Kind) (s : List ℕ) (at name : ℕ) (v : Value) (bytes : ℕ) : Type 0 where
@@ -106,12 +111,14 @@ not-end c depth p q = by-test (eqb depth 0)
 item-no-end : (i : Item) (depth : ℕ) (w : List ℕ) → eqb (head (written-item i ++ w)) (endOf depth) ≡ false
 unfolding written-items
 item-no-end text depth w = not-end 0x21 depth refl refl
+item-no-end blank depth w = not-end 0x29 depth refl refl
 item-no-end (gap g) depth w = not-end 0x22 depth refl refl
 item-no-end (element e mark δ φ) depth w = not-end 0x23 depth refl refl
 
 item-onward : (i : Item) → 0 < length (written-item i)
 unfolding written-items
 item-onward text = omega arith
+item-onward blank = omega arith
 item-onward (gap g) = omega arith
 item-onward (element e mark δ φ) = omega arith
 
@@ -120,24 +127,15 @@ items-no-attribute : (k : Kind) (φ : Items) (w : List ℕ) → allowed (attribu
 unfolding written-items allowed
 items-no-attribute k none w = either-kind k 0x26 refl refl
 items-no-attribute k (more text φ) w = either-kind k 0x21 refl refl
+items-no-attribute k (more blank φ) w = either-kind k 0x29 refl refl
 items-no-attribute k (more (gap g) φ) w = either-kind k 0x22 refl refl
 items-no-attribute k (more (element e mark δ φ′) φ) w = either-kind k 0x23 refl refl
-
-text-goes : (k : Kind) (s : List ℕ) (at : ℕ) (w : List ℕ) → Rest s at (0x21 ∷ w) → command (itemContext k) s at ≡ Moved 0x21 (record { at = at + 1 })
-unfolding allowed operandBytes operandsOf allInRange
-text-goes Template s at w r = taken TemplateItems 0x21 _ r refl (omega arith) refl
-text-goes Page s at w r = taken PageItems 0x21 _ r refl (omega arith) refl
 
 gap-goes : (k : Kind) (s : List ℕ) (at g : ℕ) (w : List ℕ) → GapInRange k g → Rest s at (0x22 ∷ g ∷ w)
     → command (itemContext k) s at ≡ Moved 0x22 (record { at = at + 2 })
 unfolding allowed operandBytes operandsOf allInRange
 gap-goes Template s at g w h r = taken TemplateItems 0x22 _ r refl (omega arith) (rw (le-leb g 7 (omega arith)))
 gap-goes Page s at g w h r = absurd h
-
-element-stands : (k : Kind) → allowed (itemContext k) 0x23 ≡ true
-unfolding allowed
-element-stands Template = refl
-element-stands Page = refl
 
 -- What ends an element's items.
 pub closes : (depth : ℕ) → endOf (depth + 1) ≡ 0x26
@@ -151,7 +149,7 @@ as-deep Page = omega arith
 -- Items are read back, up to and with what ends them; an item at the same offset takes one fuel less.
 module _ (k : Kind) (ruled : ℕ → Bool) where
   mutual
-    unfolding items written-items marked element-depth ItemsInRange operandsOf
+    unfolding items written-items marked element-depth ItemsInRange allowed operandsOf
 
     pub reads-items : (f depth : ℕ) (φ : Items) → ItemsInRange k ruled φ → depth + element-depth φ ≤ deepest k → (s : List ℕ) (at : ℕ) (w : List ℕ)
         → Rest s at (written-items φ ++ endOf depth ∷ w) → length s + length s + 1 < at + at + f
@@ -174,7 +172,8 @@ module _ (k : Kind) (ruled : ℕ → Bool) where
         → Rest s at (written-item j ++ w) → length s + length s < at + at + f
         → item f k ruled s depth at ≡ whole (marked-item at j) (at + length (written-item j))
     reads-item zero depth j i d s at w r h = absurd (omega arith)
-    reads-item (suc f) depth text i d s at w r h = rw (text-goes k s at w r)
+    reads-item (suc f) depth text i d s at w r h = rw (bare-goes (itemContext k) 0x21 (both-kinds k 0x21 refl refl) refl s at w r)
+    reads-item (suc f) depth blank i d s at w r h = rw (bare-goes (itemContext k) 0x29 (both-kinds k 0x29 refl refl) refl s at w r)
     reads-item (suc f) depth (gap g) i d s at w r h = rw (gap-goes k s at g w i r, byte-at 1 r)
     reads-item (suc f) depth (element e mark δ φ) i d s at w r h =
         let u = written-attributes δ in
@@ -182,7 +181,7 @@ module _ (k : Kind) (ruled : ℕ → Bool) where
         let r₁ = grouped u v (0x26 ∷ w) (grouped (u ++ v) (0x26 ∷ []) w (behind (0x23 ∷ e ∷ []) r)) in
         let r₂ : Rest s (at + 2 + length u) (v ++ endOf (depth + 1) ∷ w) = rw (closes depth) (behind u r₁) in
         rw (
-          element-goes (itemContext k) 0x23 (element-stands k) refl s at e _ (i .0) r,
+          element-goes (itemContext k) 0x23 (both-kinds k 0x23 refl refl) refl s at e _ (i .0) r,
           byte-at 1 r,
           i .1,
           lt-ltb depth (nesting k) (omega (arith, as-deep k)),
@@ -209,12 +208,13 @@ marked-back D φ i m h = page-back D φ i h ∙ ap (λ φ′. whole φ′ (lengt
 mutual
   unfolding written-items marked
 
-  same-items : (φ : Items) (at : ℕ) → written-items (marked at φ) ≡ written-items φ
+  pub same-items : (φ : Items) (at : ℕ) → written-items (marked at φ) ≡ written-items φ
   same-items none at = refl
   same-items (more j φ) at = rw (same-item j at, same-items φ (at + length (written-item j)))
 
   same-item : (j : Item) (at : ℕ) → written-item (marked-item at j) ≡ written-item j
   same-item text at = refl
+  same-item blank at = refl
   same-item (gap g) at = refl
   same-item (element e mark δ φ) at = rw (same-items φ (at + 2 + length (written-attributes δ)))
 
@@ -228,5 +228,6 @@ mutual
 
   marked-item-once : (j : Item) (at : ℕ) → marked-item at (marked-item at j) ≡ marked-item at j
   marked-item-once text at = refl
+  marked-item-once blank at = refl
   marked-item-once (gap g) at = refl
   marked-item-once (element e mark δ φ) at = rw (marked-once φ (at + 2 + length (written-attributes δ)))

@@ -109,7 +109,15 @@ taken x {s} {at} c w r a h q =
     let q′ : allInRange (operandsOf (byte s at)) s (at + 1) ≡ true = rw e (all-in-range-there r (operandsOf c) 1 ∙ q) in
     rw (e, p) at (sym (moves x s at (omega arith) a′ fits q′))
 
--- So is one whose operand is an element.
+-- So is one that has no operand,
+pub bare-goes : (x : Context) (c : ℕ) → allowed x c ≡ true → operandsOf c ≡ [] → (s : List ℕ) (at : ℕ) (w : List ℕ) → Rest s at (c ∷ w)
+    → command x s at ≡ Moved c (record { at = at + 1 })
+unfolding operandBytes allInRange
+bare-goes x c a o s at w r =
+    let none : operandBytes c ≡ 0 = rw o in
+    rw none at (taken x c w r a (rw none (omega arith)) (rw o))
+
+-- and one whose operand is an element.
 pub element-goes : (x : Context) (c : ℕ) → allowed x c ≡ true → operandsOf c ≡ element ∷ [] → (s : List ℕ) (at e : ℕ) (w : List ℕ)
     → IsElement e → Rest s at (c ∷ e ∷ w) → command x s at ≡ Moved c (record { at = at + 2 })
 unfolding operandBytes allInRange

@@ -11,7 +11,7 @@ use Rattle.vocabularies.specs.Facts.{factsOf}
 use Rattle.commands.specs.Commands.{strings}
 use Rattle.pages.specs.declared.Kind.{Kind}
 use Rattle.pages.specs.declared.Kind.the-variants.{Template, Page}
-use Rattle.pages.specs.Items.{Value, string, open-gap, Attribute, Item, text, gap, element, Items, none, more}
+use Rattle.pages.specs.Items.{Value, string, open-gap, Attribute, Item, text, blank, gap, element, Items, none, more}
 
 -- Numbers from `least` to `most`, rising strictly.
 unfoldable pub Rising : ℕ → ℕ → List ℕ → Type 0
@@ -97,6 +97,7 @@ unfoldable mutual
 
   pub element-depth-of : Item → ℕ
   element-depth-of text = 0
+  element-depth-of blank = 0
   element-depth-of (gap g) = 0
   element-depth-of (element e mark δ φ) = suc (element-depth φ)
 
@@ -115,6 +116,7 @@ unfoldable mutual
 
   pub ItemInRange : Kind → (ℕ → Bool) → Item → Type 0
   ItemInRange k ruled text = Unit {0}
+  ItemInRange k ruled blank = Unit {0}
   ItemInRange k ruled (gap g) = GapInRange k g
   ItemInRange k ruled (element e mark δ φ) =
       IsElement e × (ruled e ≡ true) × AttributesInRange k δ × Distinct (map (λ a. a .name) δ) × ItemsInRange k ruled φ

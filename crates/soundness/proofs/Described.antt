@@ -6,7 +6,7 @@ use mathlib.Core.List.{List, [], _∷_}
 use mathlib.Core.Bool.{true}
 use mathlib.Core.Option.{Option, some}
 use mathlib.Core.Option as Option
-use Rattle.pages.specs.Items.{Value, string, open-gap, Attribute, Item, text, gap, element, Items, none, more, one, _⋈_}
+use Rattle.pages.specs.Items.{Value, string, open-gap, Attribute, Item, text, blank, gap, element, Items, none, more, one, _⋈_}
 use Rattle.programs.specs.Program.{templateAt}
 use Rattle.programs.specs.Runs.{replaced, replacedItem, filled, filledBefore, filledValue}
 use Rattle.summaries.specs.Proposal.{edge, gapFrom, attributeGapFrom}
@@ -40,6 +40,7 @@ module _ (S : Summary) where
 
       pub data DescribesItem : ℕ → Item → Items → Type 0 where
         text-stays : {n : ℕ} → DescribesItem n text (one text)
+        blank-stays : {n : ℕ} → DescribesItem n blank (one blank)
         gap-stays : {n g : ℕ} → S (gapFrom g n) ≡ true → DescribesItem n (gap g) (one (gap g))
         gap-takes : {n g : ℕ} {φ′ : Items} (m : ℕ) → S (edge n g m) ≡ true → Describes m (templateAt φs m) φ′ → DescribesItem n (gap g) φ′
         element-keeps : {n e mark : ℕ} {δ δ′ : List Attribute} {φ φ′ : Items} → AttributesDescribed n δ δ′ → Describes n φ φ′
@@ -94,6 +95,7 @@ module _ (S T : Summary) (φs : List Items) (put : ℕ → Items) (fill : ℕ �
 
     pub item-replaced : {n : ℕ} {i : Item} {u : Items} → DescribesItem S φs n i u → DescribesItem T φs n i (replaced put fill u)
     item-replaced text-stays = text-stays
+    item-replaced blank-stays = blank-stays
     item-replaced (gap-stays {n = n} {g = g} e) = subst (DescribesItem T φs n (gap g)) (sym (⋈-none (put g))) (puts n g e)
     item-replaced (gap-takes {n = n} {g = g} m e d) = gap-takes m (edges n g m e) (described-replaced d)
     item-replaced (element-keeps a d) = element-keeps (attributes-replaced a) (described-replaced d)

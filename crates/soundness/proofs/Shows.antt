@@ -13,7 +13,7 @@ use Rattle.summaries.specs.Summaries.{Summary}
 use Rattle.summaries.specs.Languages.{closedSummary, AttributesDerive, Derives, ItemDerives, Language}
 use Rattle.summaries.specs.Languages as Languages
 use Rattle.sets.proofs.Booleans.{or-left, or-right}
-use Rattle.soundness.proofs.Described.{takes, stays, AttributesDescribed, no-attribute, fixed, holds, Describes, nothing, item-then, DescribesItem, text-stays, gap-stays, gap-takes, element-keeps, described-replaced}
+use Rattle.soundness.proofs.Described.{takes, stays, AttributesDescribed, no-attribute, fixed, holds, Describes, nothing, item-then, DescribesItem, text-stays, blank-stays, gap-stays, gap-takes, element-keeps, described-replaced}
 use Rattle.soundness.proofs.Statements.{Holds}
 
 -- The closed graph with no gap that may stay open.
@@ -38,6 +38,7 @@ module _ (S : Summary) (φs : List Items) where
 
     item-derive : {n : ℕ} {i : Item} {v : Items} → DescribesItem (sealed S) φs n i v → ItemDerives φs (closedSummary S) n i v
     item-derive text-stays = Languages.text-stays
+    item-derive blank-stays = Languages.blank-stays
     item-derive (gap-stays e) = absurd (false≢true e)
     item-derive (gap-takes m e d) = Languages.gap-takes m e (derive d)
     item-derive (element-keeps a d) = Languages.element-keeps (attributes-derive a) (derive d)

@@ -6,7 +6,7 @@ use mathlib.Core.Bool.{Bool, true, false, cond, _&&_, _||_}
 use mathlib.Core.Option.{Option, some}
 use lib.Dec.{eqb}
 use borrow.Author.Tests.{eq-eqb}
-use Rattle.pages.specs.Items.{Value, string, open-gap, Attribute, Item, text, gap, element, Items, none, more, one, _⋈_, gapIn, gapInItem, attributeGapIn, attributeGapInItem, openIn, isOpenGap}
+use Rattle.pages.specs.Items.{Value, string, open-gap, Attribute, Item, text, blank, gap, element, Items, none, more, one, _⋈_, gapIn, gapInItem, attributeGapIn, attributeGapInItem, openIn, isOpenGap}
 use Rattle.programs.specs.Program.{templateAt}
 use Rattle.programs.specs.Runs.{replaced, replacedItem, filled, filledBefore, filledValue, stay, stayOpen, plugged, pluggedString}
 use Rattle.summaries.specs.Proposal.{Claim, root, edge, gapFrom, attributeGapFrom}
@@ -14,7 +14,7 @@ use Rattle.summaries.specs.Proposal as Proposal
 use Rattle.summaries.specs.Summaries.{Summary, Strings, fragment, plugSummary, plugStringSummary}
 use Rattle.summaries.specs.Languages as Languages
 use Rattle.sets.proofs.Booleans.{or-left, or-right, and-both}
-use Rattle.soundness.proofs.Described.{FillsWith, takes, stays, AttributesDescribed, no-attribute, fixed, holds, Describes, nothing, item-then, DescribesItem, text-stays, gap-stays, gap-takes, element-keeps, described-replaced}
+use Rattle.soundness.proofs.Described.{FillsWith, takes, stays, AttributesDescribed, no-attribute, fixed, holds, Describes, nothing, item-then, DescribesItem, text-stays, blank-stays, gap-stays, gap-takes, element-keeps, described-replaced}
 
 -- A value is described where some root's template derives it, with gaps left open.
 pub record Holds (S : Summary) (φs : List Items) (v : Items) : Type 0 where
@@ -44,6 +44,7 @@ mutual
 
   item-unchanged : (i : Item) → replacedItem stay stayOpen i ≡ one i
   item-unchanged text = refl
+  item-unchanged blank = refl
   item-unchanged (gap g) = refl
   item-unchanged (element e mark δ φ) =
       ap (λ (δ′ : List Attribute). one (element e mark δ′ (replaced stay stayOpen φ))) (attributes-unchanged δ)
@@ -104,6 +105,7 @@ module _ (S : Summary) (φs : List Items) (n : ℕ) where
     item-itself : (i : Item) → ((g : ℕ) → gapInItem i g ≡ true → S (gapFrom g n) ≡ true)
         → ((h : ℕ) → attributeGapInItem i h ≡ true → S (attributeGapFrom h n) ≡ true) → DescribesItem S φs n i (one i)
     item-itself text o p = text-stays
+    item-itself blank o p = blank-stays
     item-itself (gap g) o p = gap-stays (o g (eq-eqb g g refl))
     item-itself (element e mark δ φ) o p =
         element-keeps

@@ -6,7 +6,7 @@ use mathlib.Core.List.{List, [], _∷_}
 use mathlib.Core.Bool.{Bool, true, false, _&&_, _||_}
 use mathlib.Core.Option.{Option, some, none}
 use lib.Dec.{eqb}
-use Rattle.pages.specs.Items.{open-gap, Attribute, Item, text, gap, element, Items, more, one, _⋈_}
+use Rattle.pages.specs.Items.{open-gap, Attribute, Item, text, blank, gap, element, Items, more, one, _⋈_}
 use Rattle.pages.specs.Items as Items
 use Rattle.programs.specs.Program.{Act, copyTemplate, setTemplate, copyString, setString, anyString, plug, plugString, show, Statement, step, stop, statementAt, templateAt}
 use Rattle.programs.specs.Runs.{closing}
@@ -35,7 +35,7 @@ module _ (φs : List Items) (G : Summary) where
     filled : {a h : ℕ} {δ δ′ : List Attribute} (s : ℕ) → G (string n h s) ≡ true → AttributesDerive n δ δ′
         → AttributesDerive n (record { name = a; value = open-gap h } ∷ δ) (record { name = a; value = Items.string s } ∷ δ′)
 
-  -- G, n ⊢ φ ⇒ φ′, for lists of items and for one item.
+  -- G, n ⊢ φ ⇒ φ′, for lists of items and for one item. Blank text (document 02, F-2), of which section 3 knows nothing, stays as text does.
   mutual
     pub data Derives : ℕ → Items → Items → Type 0 where
       nothing : {n : ℕ} → Derives n Items.none Items.none
@@ -43,6 +43,7 @@ module _ (φs : List Items) (G : Summary) where
 
     pub data ItemDerives : ℕ → Item → Items → Type 0 where
       text-stays : {n : ℕ} → ItemDerives n text (one text)
+      blank-stays : {n : ℕ} → ItemDerives n blank (one blank)
       gap-takes : {n g : ℕ} {φ′ : Items} (m : ℕ) → G (edge n g m) ≡ true → Derives m (templateAt φs m) φ′ → ItemDerives n (gap g) φ′
       element-keeps : {n e mark : ℕ} {δ δ′ : List Attribute} {φ φ′ : Items} → AttributesDerive n δ δ′ → Derives n φ φ′
           → ItemDerives n (element e mark δ φ) (one (element e mark δ′ φ′))

@@ -7,12 +7,12 @@ use mathlib.Core.List.{List, [], _∷_}
 use mathlib.Core.Bool.{Bool, true, false, and-false, false≢true}
 use borrow.Author.Tests.{eqb-true}
 use lib.Dec.{eqb}
-use Rattle.pages.specs.Items.{string, open-gap, Attribute, Item, text, gap, element, Items, none, more, one, _⋈_}
+use Rattle.pages.specs.Items.{string, open-gap, Attribute, Item, text, blank, gap, element, Items, none, more, one, _⋈_}
 use Rattle.programs.specs.Program.{templateAt}
 use Rattle.summaries.specs.Proposal.{root, edge, gapFrom, attributeGapFrom, claim, anyAt}
 use Rattle.summaries.specs.Proposal as Proposal
 use Rattle.summaries.specs.Summaries.{Summary, sameCode, saysClaim, held}
-use Rattle.summaries.specs.Languages.{closedSummary, AttributesDerive, no-attribute, fixed, filled, Derives, ItemDerives, nothing, item-then, text-stays, gap-takes, element-keeps, Language}
+use Rattle.summaries.specs.Languages.{closedSummary, AttributesDerive, no-attribute, fixed, filled, Derives, ItemDerives, nothing, item-then, text-stays, blank-stays, gap-takes, element-keeps, Language}
 use Rattle.worked_examples.proofs.Runs.{attribute}
 
 -- Template 1 has a fixed string, attribute gap 0 twice and gap 0 twice; template 2 has attribute gap 0; template 3 is gap 1.
@@ -105,6 +105,7 @@ around (attributeGapFrom h n) = false
 
 abbrev isGap : Item → Bool
 isGap text = false
+isGap blank = false
 isGap (gap g) = true
 isGap (element e mark δ φ) = false
 
@@ -122,6 +123,7 @@ mutual
 
   gap-never-ends : {n : ℕ} {i : Item} {page : Items} → ItemDerives circle around n i page → isGap i ≡ true → ⊥
   gap-never-ends text-stays b = false≢true b
+  gap-never-ends blank-stays b = false≢true b
   gap-never-ends (gap-takes m e d) b = never-ends d (rw (eqb-true m 1 e) refl)
   gap-never-ends (element-keeps δ d) b = false≢true b
 

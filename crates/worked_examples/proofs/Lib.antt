@@ -7,4 +7,5 @@ pub mod ClosedGraphs
 pub mod Derivations
 pub mod RightPages
 pub mod JudgingJ1
+pub mod BlankText
 pub mod Proposals

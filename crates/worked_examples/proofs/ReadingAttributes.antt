@@ -105,6 +105,8 @@ variants =
     ∷ record { bytes = edited 60 1 (0x00 ∷ []) attributeJob; form = NotRising; at = 59 }
     -- "Straight after `23`": text before it, and `24` is not allowed there.
     ∷ record { bytes = edited 56 0 (0x21 ∷ []) attributeJob; form = NotAllowed; at = 57 }
+    -- So it is with blank text: `29` ends the attributes, and a `24` after it is not allowed.
+    ∷ record { bytes = edited 59 3 (0x29 ∷ 0x24 ∷ 0x03 ∷ 0x05 ∷ []) attributeJob; form = NotAllowed; at = 60 }
     -- `28 00` stands in pages that are judged, and not in templates.
     ∷ record { bytes = edited 56 3 (0x28 ∷ 0x00 ∷ []) attributeJob; form = NotAllowed; at = 56 }
     -- "Next points are tested for 8 at `3F`, A at the earliest statement": of two statements with point 6, at the first one's offset.
@@ -129,4 +131,4 @@ AllRefused (u ∷ us) = (job (u .bytes) ≡ refused (u .form) (u .at)) × AllRef
 
 pub refusals : AllRefused variants
 unfolding job command ruleOf withFacts
-refusals = (refl, (refl, (refl, (refl, (refl, (refl, (refl, (refl, (refl, (refl, (refl, (refl, (refl, tt)))))))))))))
+refusals = (refl, (refl, (refl, (refl, (refl, (refl, (refl, (refl, (refl, (refl, (refl, (refl, (refl, (refl, tt))))))))))))))

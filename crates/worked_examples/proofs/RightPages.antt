@@ -8,7 +8,7 @@ use mathlib.Core.Bool.{Bool, true, false, false≢true}
 use mathlib.Core.Logic.{_⊎_, inl, inr}
 use Rattle.sets.specs.Sets.{member}
 use Rattle.vocabularies.specs.Vocabulary.{Formula, disj, neg, attr, order, value, Vocabulary, ruleOf}
-use Rattle.pages.specs.Items.{Value, string, open-gap, Attribute, text, element, Items, none, more, one, gapIn, attributeGapIn}
+use Rattle.pages.specs.Items.{Value, string, open-gap, Attribute, text, element, Items, none, more, one, withoutBlank, gapIn, attributeGapIn}
 use Rattle.pages.specs.RightPages.{_∈_, word, Meets, Accepts, Right, in-attribute, in-content, in-clause, ElementWrong, attribute-not-allowed, content-not-allowed, clause-not-met}
 use Rattle.programs.specs.Program.{statementAt, templateAt}
 use Rattle.programs.specs.Runs.{shown, closed, pluggedString}
@@ -117,7 +117,7 @@ inner-clauses ψ m = rw (List·Memᴰ·eq-of-singleton m) (inr (9, List·Memᴰ�
 -- "Exactly one element, the root, and every element in it has only allowed attributes and contents and meets all clauses": the element
 -- inside is held to its own rule.
 pub page-right : Right vocabulary page
-unfolding Accepts word ruleOf gapIn attributeGapIn
+unfolding Accepts word withoutBlank ruleOf gapIn attributeGapIn
 page-right = record {
   alone = (54, outer-attributes, contents, refl);
   accepted = (

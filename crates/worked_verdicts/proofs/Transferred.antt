@@ -7,7 +7,7 @@ use mathlib.Core.Bool.{Bool, true, false, cond, _&&_, _||_, false≢true}
 use mathlib.Core.Logic.{inl, inr}
 use lib.Dec.{eqb}
 use borrow.Author.Tests.{eqb-true, eq-eqb}
-use Rattle.pages.specs.Items.{Value, string, open-gap, Attribute, Item, text, gap, element, Items, none, more, gapIn, gapInItem, isOpenGap, openIn, attributeGapIn, attributeGapInItem}
+use Rattle.pages.specs.Items.{Value, string, open-gap, Attribute, Item, text, blank, gap, element, Items, none, more, gapIn, gapInItem, isOpenGap, openIn, attributeGapIn, attributeGapInItem}
 use Rattle.summaries.specs.Proposal.{Claim, root, edge, gapFrom, attributeGapFrom, Holding, claim, anyAt, oneString}
 use Rattle.summaries.specs.Proposal as Proposal
 use Rattle.summaries.specs.Summaries.{Summary, Strings, Within, fragment, plugSummary, plugStringSummary, isStringAt, saysClaim, saysString, held}
@@ -66,6 +66,7 @@ unfoldable mutual
 
   itemOrigins : ℕ → Item → List Claim
   itemOrigins n text = []
+  itemOrigins n blank = []
   itemOrigins n (gap g) = gapFrom g n ∷ []
   itemOrigins n (element e mark δ φ) = attributeOrigins n δ ++ origins n φ
 
@@ -82,6 +83,7 @@ module _ (n : ℕ) where
 
     gap-listed-in : (i : Item) (g : ℕ) → gapInItem i g ≡ true → saysAmong (itemOrigins n i) (gapFrom g n) ≡ true
     gap-listed-in text g e = absurd (false≢true e)
+    gap-listed-in blank g e = absurd (false≢true e)
     gap-listed-in (gap k) g e = rw (eqb-true k g e) (among-here (gapFrom g n) [])
     gap-listed-in (element a mark δ φ) g e = among-second (gapFrom g n) (attributeOrigins n δ) (origins n φ) (gap-listed φ g e)
 
@@ -109,6 +111,7 @@ module _ (n : ℕ) where
 
     attribute-listed-in : (i : Item) (h : ℕ) → attributeGapInItem i h ≡ true → saysAmong (itemOrigins n i) (attributeGapFrom h n) ≡ true
     attribute-listed-in text h e = absurd (false≢true e)
+    attribute-listed-in blank h e = absurd (false≢true e)
     attribute-listed-in (gap k) h e = absurd (false≢true e)
     attribute-listed-in (element a mark δ φ) h e = elim (or-cases (openIn δ h) (attributeGapIn φ h) e) [
       | inl k ↦ among-first (attributeGapFrom h n) (attributeOrigins n δ) (origins n φ) (open-listed δ h k)

@@ -51,7 +51,7 @@ fn clauses(job: &Job) -> Vec<Clause> {
     clauses
 }
 
-/// The lowest root with a page that is not exactly the root element.
+/// The lowest root with a page that is not, besides blank text, exactly the root element.
 fn not_the_root(job: &Job, graph: &Graph) -> Option<usize> {
     let root = job.vocabulary.root;
     // There, and not out of order with itself: exactly one.

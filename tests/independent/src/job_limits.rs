@@ -8,6 +8,9 @@ const TEMPLATES: [u8; 7] = [0x20, 0x23, 1, 0x21, 0x26, 0x27, 0x2F];
 /// Shows template 1.
 const PROGRAM: [u8; 11] = [0x31, 0, 1, 1, 1, 0x37, 0, 2, 2, 0x38, 0x3F];
 
+/// Shows template 1 with template 2 in its gaps 0.
+const PLUGGING: [u8; 23] = [0x31, 0, 1, 1, 1, 0x31, 1, 2, 2, 2, 0x35, 0, 0, 0, 1, 3, 3, 0x37, 0, 4, 4, 0x38, 0x3F];
+
 pub fn all() -> Vec<Vec<u8>> {
     let mut jobs = lengths();
     for clause in nested_formulas().into_iter().chain(many_facts()) {
@@ -16,6 +19,7 @@ pub fn all() -> Vec<Vec<u8>> {
     jobs.extend(nested_templates());
     jobs.extend(many_templates());
     jobs.extend(many_points());
+    jobs.extend(blank_templates());
     jobs
 }
 
@@ -40,10 +44,15 @@ fn long_in_vocabulary(length: usize, last: &[u8]) -> Vec<u8> {
 }
 
 fn long_in_template(length: usize, inner: &[u8]) -> Vec<u8> {
+    long_in_templates(length, 3, 0x21, inner)
+}
+
+/// Filled up with an item and then `inner`, at a place in the templates.
+fn long_in_templates(length: usize, place: usize, item: u8, inner: &[u8]) -> Vec<u8> {
     let short = job(&shortest(), &TEMPLATES, &PROGRAM);
-    let texts = vec![0x21; length - short.len() - inner.len()];
-    let (start, end) = short.split_at(shortest().len() + 3);
-    [start, &texts, inner, end].concat()
+    let items = vec![item; length - short.len() - inner.len()];
+    let (start, end) = short.split_at(shortest().len() + place);
+    [start, &items, inner, end].concat()
 }
 
 /// Every point follows itself, so that any proposal covers which starts well. It is filled up to a length.
@@ -137,10 +146,9 @@ fn chain(count: usize) -> Vec<u8> {
     let mut templates = vec![0x20, 0x23, 1, 0x22, 0, 0x26, 0x27];
     templates.extend([0x20, 0x22, 0, 0x27].repeat(count - 2));
     templates.extend([0x20, 0x21, 0x27, 0x2F]);
-    let program = [0x31, 0, 1, 1, 1, 0x31, 1, 2, 2, 2, 0x35, 0, 0, 0, 1, 3, 3, 0x37, 0, 4, 4, 0x38, 0x3F];
     let mut held = vec![0x40, 3, 0];
     held.extend((2..count as u8).flat_map(|template| [0x42, template, 0, template + 1]));
-    let start = [&vocabulary[..], &templates, &program].concat();
+    let start = [&vocabulary[..], &templates, &PLUGGING].concat();
     with_least(&start, &held).unwrap_or_else(|| [&start[..], &held, &[0x4F]].concat())
 }
 
@@ -166,4 +174,33 @@ fn many_points() -> Vec<Vec<u8>> {
         jobs.push([&shortest()[..], &TEMPLATES, &program, &head, &[0x4F]].concat());
     }
     jobs
+}
+
+/// Nearly all blank text: before, in and after the root, and outside the template.
+fn blank_templates() -> Vec<Vec<u8>> {
+    let mut jobs = Vec::new();
+    for place in 0..=TEMPLATES.len() {
+        jobs.push(long_in_templates(LONGEST, place, 0x29, &[]));
+    }
+    for place in [1, 3, 5] {
+        for inner in [&[0x21][..], &[0x23, 1, 0x26], &[0x23, 1, 0x21, 0x29, 0x26], &[0x24, 0, 0]] {
+            jobs.push(long_in_templates(LONGEST, place, 0x29, inner));
+        }
+        jobs.push(long_in_templates(LONGEST + 1, place, 0x29, &[]));
+    }
+    for fragment in [&[0x29][..], &[0x29; 9_000], &[0x29, 0x21, 0x29], &[0x29, 0x22, 0], &[]] {
+        for beside in [&[][..], &[0x29, 0x22, 0]] {
+            jobs.push(gaps_among_blank(15_000, beside, fragment));
+        }
+    }
+    jobs
+}
+
+/// The root may have no content. It holds many gaps, blank text after each; a gap may stand beside it. All of them take
+/// the fragment.
+fn gaps_among_blank(count: usize, beside: &[u8], fragment: &[u8]) -> Vec<u8> {
+    let vocabulary = [0x01, 1, 0x03, 0, 0x04, 0x12, 0x15, 0, 0x05, 1];
+    let gaps = [0x22, 0, 0x29].repeat(count);
+    let templates = [&[0x20], beside, &[0x23, 1], &gaps, &[0x26, 0x27, 0x20], fragment, &[0x27, 0x2F]].concat();
+    job(&vocabulary, &templates, &PLUGGING)
 }

@@ -16,13 +16,20 @@ pub fn judge(vocabulary: &[u8], page: &[u8]) -> Verdict {
 
 /// The same for a vocabulary that has been read.
 pub fn judge_page(vocabulary: &Vocabulary, page: &[u8]) -> Verdict {
-    let mut judge = Judge::new(vocabulary, page);
-    match judge.read() {
+    let mut judge = Judge::new(vocabulary, page, PAGE_NESTING);
+    match Reader::new(page).and_then(|mut reader| judge.read(&mut reader)) {
         Err(fault) => fault.verdict(1),
         Ok(()) if !judge.is_the_root() => [NOT_THE_ROOT, 0, 0, 0],
         Ok(()) if judge.wrong < NONE_WRONG => [WRONG_ELEMENT, 0, 0, judge.wrong],
         Ok(()) => ACCEPTED,
     }
+}
+
+/// Whether a page that a run shows is right. It has the form of a page, and may be of any length and depth.
+pub fn is_right(vocabulary: &Vocabulary, page: &[u8]) -> bool {
+    let mut judge = Judge::new(vocabulary, page, usize::MAX);
+    let read = judge.read(&mut Reader::of_any_length(page));
+    read.is_ok() && judge.is_the_root() && judge.wrong == NONE_WRONG
 }
 
 const NONE_WRONG: u32 = u32::MAX;
@@ -39,6 +46,8 @@ struct Open {
 struct Judge<'a> {
     vocabulary: &'a Vocabulary,
     page: &'a [u8],
+    /// Most elements open at once.
+    nesting: usize,
     open: Vec<Open>,
     /// The contents so far of the open elements whose rules ask for order.
     words: Vec<u8>,
@@ -47,6 +56,7 @@ struct Judge<'a> {
     last: [u32; 64],
     /// The string of each attribute as a set; an absent one counts as every string, one outside 0-63 as none.
     strings: [u64; 32],
+    /// Contents of the page itself, and how many of them are the root.
     outer: u32,
     outer_roots: u32,
     /// Lowest offset of a wrong element.
@@ -54,10 +64,11 @@ struct Judge<'a> {
 }
 
 impl<'a> Judge<'a> {
-    fn new(vocabulary: &'a Vocabulary, page: &'a [u8]) -> Judge<'a> {
+    fn new(vocabulary: &'a Vocabulary, page: &'a [u8], nesting: usize) -> Judge<'a> {
         Judge {
             vocabulary,
             page,
+            nesting,
             open: Vec::with_capacity(16),
             words: Vec::new(),
             first: [0; 64],
@@ -73,8 +84,7 @@ impl<'a> Judge<'a> {
         self.outer == 1 && self.outer_roots == 1
     }
 
-    fn read(&mut self) -> Result<(), Fault> {
-        let mut reader = Reader::new(self.page)?;
+    fn read(&mut self, reader: &mut Reader) -> Result<(), Fault> {
         loop {
             let at = reader.at;
             match reader.command()? {
@@ -82,7 +92,9 @@ impl<'a> Judge<'a> {
                     reader.at += 1;
                     self.content(0);
                 }
-                0x23 => self.element(&mut reader)?,
+                // Blank text is an item, but no content.
+                0x29 => reader.at += 1,
+                0x23 => self.element(reader)?,
                 0x26 => {
                     reader.at += 1;
                     let Some(open) = self.open.pop() else {
@@ -108,7 +120,7 @@ impl<'a> Judge<'a> {
         if !self.vocabulary.has_rule(element) {
             return Err(Fault::new(NOT_THERE, at));
         }
-        if self.open.len() == PAGE_NESTING {
+        if self.open.len() == self.nesting {
             return Err(Fault::new(TOO_MANY, at));
         }
         self.content(element);

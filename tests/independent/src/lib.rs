@@ -1,5 +1,5 @@
-//! The page check of document 01: reading a job, checking it, judging one page. And request F-1 of document 02: working
-//! out the proposal.
+//! The page check of document 01: reading a job, checking it, judging one page. And of document 02: working out the
+//! proposal (F-1), blank text (F-2).
 
 pub mod check;
 pub mod cover;
@@ -20,11 +20,14 @@ pub mod templates;
 pub mod vocabulary;
 pub mod writer;
 
+pub mod blank;
+pub mod blank_jobs;
 pub mod damage;
 pub mod job_limits;
 pub mod language;
 pub mod large_scripts;
 pub mod least;
+pub mod making;
 pub mod page_limits;
 pub mod random;
 pub mod random_jobs;

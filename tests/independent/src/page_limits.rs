@@ -14,6 +14,7 @@ pub fn all() -> Vec<Record> {
         records.push(Record { vocabulary: with_clause(&clause), page: RIGHT_PAGE.to_vec() });
     }
     records.extend(nested_pages());
+    records.extend(blank_pages());
     for clause in many_facts() {
         records.push(Record { vocabulary: with_clause(&clause), page: RIGHT_PAGE.to_vec() });
     }
@@ -127,6 +128,44 @@ fn nested_pages() -> Vec<Record> {
             add(nested(depth, &[])[..depth * 3].to_vec());
             add([nested(depth, &[]), vec![0x26]].concat());
         }
+    }
+    records
+}
+
+/// Nearly all blank text: beside the root, in it, or nothing else.
+fn blank_pages() -> Vec<Record> {
+    // At least one text, and at most one.
+    let vocabulary = with_clause(&[0x16, 0, 0]);
+    let mut records = Vec::new();
+    let mut add = |page: Vec<u8>| records.push(Record { vocabulary: vocabulary.clone(), page });
+    let mut fill = |length: usize, before: &[u8], after: &[u8]| {
+        let blank = vec![0x29; length - before.len() - after.len()];
+        add([before, &blank, after].concat());
+    };
+    for (before, after) in [
+        (&[][..], &[0x23, 1, 0x21, 0x26, 0x27][..]),
+        (&[0x23, 1], &[0x21, 0x26, 0x27]),
+        (&[0x23, 1, 0x21], &[0x26, 0x27]),
+        (&[0x23, 1, 0x21, 0x26], &[0x27]),
+        (&[], &[0x27]),
+        (&[0x21], &[0x23, 1, 0x21, 0x26, 0x27]),
+        (&[0x23, 1, 0x21, 0x26], &[0x21, 0x27]),
+        (&[0x23, 1, 0x21, 0x26], &[0x23, 1, 0x21, 0x26, 0x27]),
+        (&[0x23, 1], &[0x26, 0x27]),
+        (&[0x23, 1, 0x21], &[0x21, 0x26, 0x27]),
+        (&[0x23, 1, 0x21], &[0x23, 1, 0x26, 0x26, 0x27]),
+        // An attribute after blank text, blank text after the end, and no end.
+        (&[0x23, 1], &[0x24, 0, 0, 0x21, 0x26, 0x27]),
+        (&[0x23, 1, 0x21, 0x26, 0x27], &[]),
+        (&[0x23, 1, 0x21, 0x26], &[]),
+    ] {
+        fill(LONGEST, before, after);
+    }
+    fill(LONGEST + 1, &[], &RIGHT_PAGE);
+    fill(LONGEST + 1, &RIGHT_PAGE[..4], &[0x27]);
+    for depth in [1024, 1025] {
+        let nested = [[0x23, 1, 0x29, 0x21, 0x29].repeat(depth), [0x26, 0x29].repeat(depth)].concat();
+        add([&nested[..], &[0x27]].concat());
     }
     records
 }

@@ -1,5 +1,7 @@
 //! Jobs at random: with the least covering proposal or a larger one, damaged, or of commands at random.
 
+use crate::blank::{misplace, Blank};
+use crate::blank_jobs;
 use crate::check::check;
 use crate::damage::{any_command, commands, damage};
 use crate::job::Job;
@@ -12,13 +14,13 @@ use crate::reader::*;
 const AIMS: [(u32, usize); 12] =
     [(0, 36), (12, 18), (11, 6), (10, 9), (9, 4), (2, 4), (3, 6), (4, 4), (5, 4), (6, 3), (7, 2), (8, 4)];
 
-pub const COMMANDS: [u8; 43] = [
+pub const COMMANDS: [u8; 44] = [
     0x01, 0x02, 0x03, 0x04, 0x05, 0x10, 0x11, 0x12, 0x13, 0x14, 0x15, 0x16, 0x17, 0x20, 0x21, 0x22, 0x23, 0x24, 0x25,
-    0x26, 0x27, 0x28, 0x2F, 0x30, 0x31, 0x32, 0x33, 0x34, 0x35, 0x36, 0x37, 0x38, 0x3F, 0x40, 0x41, 0x42, 0x43, 0x44,
-    0x45, 0x46, 0x47, 0x48, 0x4F,
+    0x26, 0x27, 0x28, 0x29, 0x2F, 0x30, 0x31, 0x32, 0x33, 0x34, 0x35, 0x36, 0x37, 0x38, 0x3F, 0x40, 0x41, 0x42, 0x43,
+    0x44, 0x45, 0x46, 0x47, 0x48, 0x4F,
 ];
 
-pub fn job(random: &mut Random) -> Vec<u8> {
+pub fn job(random: &mut Random, blank: Blank) -> Vec<u8> {
     if random.percent(2) {
         let count = random.below(30);
         return (0..count).flat_map(|_| any_command(random, &COMMANDS)).collect();
@@ -28,7 +30,7 @@ pub fn job(random: &mut Random) -> Vec<u8> {
     let plugs = number == 0 && random.percent(60);
     let mut tries = 0;
     loop {
-        let job = attempt(random, number);
+        let job = attempt(random, blank, number);
         tries += 1;
         let fits = check(&job)[0] == number && (!plugs || commands(&job).iter().any(|command| command[0] == 0x42));
         if fits || tries == 300 {
@@ -37,14 +39,18 @@ pub fn job(random: &mut Random) -> Vec<u8> {
     }
 }
 
-fn attempt(random: &mut Random, number: u32) -> Vec<u8> {
-    let mut parts = Parts::random(random);
+fn attempt(random: &mut Random, blank: Blank, number: u32) -> Vec<u8> {
+    let mut parts = Parts::random(random, blank);
     match number {
         0 => {
             if check(&parts.with_proposal(random)) == ACCEPTED {
                 parts.add_clauses(random);
             }
             parts.with_proposal(random)
+        }
+        3 if blank.is_much() && random.percent(60) => {
+            let job = parts.with_proposal(random);
+            misplace(random, &job)
         }
         6 if random.percent(70) => {
             parts.make_too_many(random);
@@ -88,23 +94,10 @@ struct Parts {
 }
 
 impl Parts {
-    fn random(random: &mut Random) -> Parts {
-        let mut draft = Draft::random(random);
-        if random.percent(70) {
-            allow_more(random, &mut draft);
-        }
-        let gaps = random.from_to(1, 3);
-        let pages = random.from_to(1, 3);
-        let fragments = random.from_to(0, 4);
-        let mut templates = Vec::new();
-        for index in 0..pages + fragments {
-            templates.push(0x20);
-            template(random, &draft, index < pages, gaps, &mut templates);
-            templates.push(0x27);
-        }
-        templates.push(0x2F);
-        let program = program(random, pages as u8, fragments as u8, gaps);
-        Parts { draft, templates, program }
+    fn random(random: &mut Random, blank: Blank) -> Parts {
+        let (draft, templates, program) =
+            if blank.is_much() && random.percent(40) { blank_jobs::parts(random) } else { any_parts(random) };
+        Parts { draft, templates: blank.scatter(random, &templates), program }
     }
 
     fn start(&self) -> Vec<u8> {
@@ -173,6 +166,26 @@ impl Parts {
             }
         }
     }
+}
+
+/// Vocabulary, templates, program.
+fn any_parts(random: &mut Random) -> (Draft, Vec<u8>, Vec<u8>) {
+    let mut draft = Draft::random(random);
+    if random.percent(70) {
+        allow_more(random, &mut draft);
+    }
+    let gaps = random.from_to(1, 3);
+    let pages = random.from_to(1, 3);
+    let fragments = random.from_to(0, 4);
+    let mut templates = Vec::new();
+    for index in 0..pages + fragments {
+        templates.push(0x20);
+        template(random, &draft, index < pages, gaps, &mut templates);
+        templates.push(0x27);
+    }
+    templates.push(0x2F);
+    let program = program(random, pages as u8, fragments as u8, gaps);
+    (draft, templates, program)
 }
 
 /// Lets most elements stand in most others, so that plugs of any kind can be right.

@@ -1,5 +1,6 @@
 //! Page records at random: right ones, wrong ones in every way, and damaged ones.
 
+use crate::blank::{misplace, Blank};
 use crate::damage::{any_command, damage};
 use crate::judge::judge;
 use crate::random::Random;
@@ -17,21 +18,21 @@ impl Record {
     }
 }
 
-pub const VOCABULARY_COMMANDS: [u8; 17] =
-    [0x01, 0x02, 0x03, 0x04, 0x05, 0x10, 0x11, 0x12, 0x13, 0x14, 0x15, 0x16, 0x17, 0x01, 0x02, 0x06, 0x20];
-const PAGE_COMMANDS: [u8; 12] = [0x21, 0x23, 0x24, 0x26, 0x27, 0x28, 0x21, 0x24, 0x28, 0x20, 0x22, 0x25];
+pub const VOCABULARY_COMMANDS: [u8; 18] =
+    [0x01, 0x02, 0x03, 0x04, 0x05, 0x10, 0x11, 0x12, 0x13, 0x14, 0x15, 0x16, 0x17, 0x01, 0x02, 0x06, 0x20, 0x29];
+const PAGE_COMMANDS: [u8; 13] = [0x21, 0x23, 0x24, 0x26, 0x27, 0x28, 0x29, 0x21, 0x24, 0x28, 0x20, 0x22, 0x25];
 
 /// Verdict numbers aimed at, with how many records of a hundred each shall get.
 const AIMS: [(u32, usize); 10] = [(0, 35), (12, 24), (11, 7), (2, 5), (3, 8), (4, 6), (5, 5), (6, 3), (7, 3), (8, 4)];
 
-pub fn record(random: &mut Random) -> Record {
+pub fn record(random: &mut Random, blank: Blank) -> Record {
     if random.percent(1) {
-        return bytes(random);
+        return bytes(random, blank);
     }
     let (number, _) = AIMS[random.weighted(&AIMS.map(|(_, weight)| weight))];
     let mut tries = 0;
     loop {
-        let record = attempt(random, number);
+        let record = attempt(random, blank, number);
         tries += 1;
         // An aim that is missed for long is given up, so that every seed comes to an end.
         if record.verdict()[0] == number || tries == 500 {
@@ -40,11 +41,12 @@ pub fn record(random: &mut Random) -> Record {
     }
 }
 
-fn attempt(random: &mut Random, number: u32) -> Record {
-    let (draft, page) = right(random);
+fn attempt(random: &mut Random, blank: Blank, number: u32) -> Record {
+    let (draft, page) = right(random, blank);
     match number {
         0 => Record { vocabulary: draft.bytes(), page },
-        11 => not_the_root(random, draft, page),
+        3 if blank.is_much() && random.percent(60) => misplaced(random, draft, page),
+        11 => not_the_root(random, blank, draft, page),
         12 => wrong(random, draft, page),
         6 if random.percent(80) => too_deep(random, draft, page),
         7 => too_many_facts(random, draft, page),
@@ -53,13 +55,14 @@ fn attempt(random: &mut Random, number: u32) -> Record {
 }
 
 /// A page that is right, and a vocabulary whose clauses all hold in it.
-pub fn right(random: &mut Random) -> (Draft, Vec<u8>) {
+pub fn right(random: &mut Random, blank: Blank) -> (Draft, Vec<u8>) {
     let mut draft = Draft::random(random);
     let mut page = Vec::new();
     let shape = Shape { deep: random.percent(20) };
     let mut budget = if shape.deep { random.from_to(5, 50) } else { random.from_to(1, 10) };
     element(random, &draft, draft.root, &shape, &mut budget, &mut page);
     page.push(0x27);
+    let page = blank.scatter(random, &page);
     for _ in 0..random.weighted(&[5, 20, 30, 25, 15, 5]) {
         add_clause(random, &mut draft, &page);
     }
@@ -152,9 +155,10 @@ fn changed(random: &mut Random, draft: &Draft, page: &[u8]) -> Vec<u8> {
     // The later of two places is the deeper one more often.
     let place = random.from_to(1, list.len() - 1).max(random.from_to(1, list.len() - 1));
     let mut added = Vec::new();
-    match random.below(4) {
+    match random.below(5) {
         0 => added.push(0x21),
-        1 => added.extend([0x23, random.pick(&draft.elements()), 0x26]),
+        1 => added.extend([0x21, 0x29, 0x21]),
+        2 => added.extend([0x23, random.pick(&draft.elements()), 0x26]),
         _ => {
             let attribute = random.below(32) as u8;
             attribute_with_string(random, attribute, &mut added);
@@ -164,10 +168,11 @@ fn changed(random: &mut Random, draft: &Draft, page: &[u8]) -> Vec<u8> {
     list.concat()
 }
 
-fn not_the_root(random: &mut Random, draft: Draft, page: Vec<u8>) -> Record {
+fn not_the_root(random: &mut Random, blank: Blank, draft: Draft, page: Vec<u8>) -> Record {
     let element = &page[..page.len() - 1];
-    let page = match random.below(8) {
+    let page = match random.below(9) {
         0 => vec![0x27],
+        8 => vec![0x29, 0x27],
         1 => [&[0x21], &page[..]].concat(),
         2 => [element, &[0x21, 0x27]].concat(),
         3 => [element, &page[..]].concat(),
@@ -182,11 +187,12 @@ fn not_the_root(random: &mut Random, draft: Draft, page: Vec<u8>) -> Record {
         }
         _ => {
             let mut page = page.clone();
-            page[1] = random.pick(&draft.elements());
+            let root = page.iter().position(|&byte| byte == 0x23).unwrap();
+            page[root + 1] = random.pick(&draft.elements());
             page
         }
     };
-    Record { vocabulary: draft.bytes(), page }
+    Record { vocabulary: draft.bytes(), page: blank.scatter(random, &page) }
 }
 
 fn too_deep(random: &mut Random, mut draft: Draft, page: Vec<u8>) -> Record {
@@ -236,9 +242,17 @@ fn damaged(random: &mut Random, draft: Draft, page: Vec<u8>) -> Record {
     record
 }
 
+/// Blank text where none may stand, or before an attribute.
+fn misplaced(random: &mut Random, draft: Draft, page: Vec<u8>) -> Record {
+    let mut record = Record { vocabulary: draft.bytes(), page };
+    let slice = if random.percent(75) { &mut record.page } else { &mut record.vocabulary };
+    *slice = misplace(random, slice);
+    record
+}
+
 /// Commands or bytes at random, the page perhaps under a vocabulary that reads.
-fn bytes(random: &mut Random) -> Record {
-    let (draft, _) = right(random);
+fn bytes(random: &mut Random, blank: Blank) -> Record {
+    let (draft, _) = right(random, blank);
     let vocabulary = match random.below(3) {
         0 => (0..random.below(30)).map(|_| random.byte()).collect(),
         1 => (0..random.below(12)).flat_map(|_| any_command(random, &VOCABULARY_COMMANDS)).collect(),
@@ -252,10 +266,10 @@ fn bytes(random: &mut Random) -> Record {
 }
 
 /// One slice a byte too long: the vocabulary, or the page.
-pub fn too_long(random: &mut Random, in_page: bool) -> Record {
-    let (draft, page) = right(random);
+pub fn too_long(random: &mut Random, blank: Blank, in_page: bool) -> Record {
+    let (draft, page) = right(random, blank);
     let mut record = Record { vocabulary: draft.bytes(), page };
     let slice = if in_page { &mut record.page } else { &mut record.vocabulary };
-    slice.resize(LONGEST + 1, 0x21);
+    slice.resize(LONGEST + 1, blank.filler());
     record
 }

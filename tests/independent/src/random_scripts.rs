@@ -1,13 +1,14 @@
 //! Scripts at random, that is jobs up to their `3F`: of all sizes and shapes, whole or damaged.
 
+use crate::blank::Blank;
 use crate::damage::damage;
 use crate::random::Random;
 use crate::random_jobs::{template, COMMANDS};
 use crate::random_vocabulary::*;
 use crate::vocabulary::Vocabulary;
 
-pub fn script(random: &mut Random) -> Vec<u8> {
-    let mut parts = whole(random);
+pub fn script(random: &mut Random, blank: Blank) -> Vec<u8> {
+    let mut parts = whole(random, blank);
     match random.weighted(&[62, 4, 4, 1, 29]) {
         0 => {}
         1 => parts[2].push(random.pick(&[0x00, 0x38, 0x3F, 0x40, 0x4F])),
@@ -39,7 +40,7 @@ fn add_many(random: &mut Random, [_, templates, program]: &mut [Vec<u8>; 3]) {
 }
 
 /// A script without a fault: vocabulary, templates, program.
-pub fn whole(random: &mut Random) -> [Vec<u8>; 3] {
+pub fn whole(random: &mut Random, blank: Blank) -> [Vec<u8>; 3] {
     let shape = Shape::random(random);
     let mut draft = Draft::random(random);
     for _ in 0..random.below(3) {
@@ -52,15 +53,16 @@ pub fn whole(random: &mut Random) -> [Vec<u8>; 3] {
         }
     }
     let templates = shape.templates(random, &draft);
+    let templates = blank.scatter(random, &templates);
     let program = shape.program(random);
     [draft.bytes(), templates, program]
 }
 
-/// One template of texts, loaded again and again.
-pub fn of_length(length: usize) -> Vec<u8> {
+/// One template of an item over and over, loaded again and again.
+pub fn of_length(length: usize, item: u8) -> Vec<u8> {
     let [start, end] = [&[0x01, 1, 0x05, 1, 0x20][..], &[0x27, 0x2F, 0x31, 0, 1, 0, 0, 0x3F]];
-    let texts = vec![0x21; length - start.len() - end.len()];
-    [start, &texts, end].concat()
+    let items = vec![item; length - start.len() - end.len()];
+    [start, &items, end].concat()
 }
 
 /// Where statements lead.

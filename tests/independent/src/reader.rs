@@ -50,7 +50,11 @@ impl<'a> Reader<'a> {
         if bytes.len() > LONGEST {
             return Err(Fault::new(TOO_LONG, 0));
         }
-        Ok(Reader { bytes, at: 0 })
+        Ok(Reader::of_any_length(bytes))
+    }
+
+    pub fn of_any_length(bytes: &'a [u8]) -> Reader<'a> {
+        Reader { bytes, at: 0 }
     }
 
     /// The next command; the position stays on it.

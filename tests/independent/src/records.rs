@@ -1,7 +1,10 @@
 //! Records: slices one after another, each behind a 32-bit length, lowest byte first.
 
 use crate::infer::{infer, WORK};
+use crate::job::Job;
+use crate::judge::is_right;
 use crate::reader::{Verdict, ACCEPTED, NO_ROOM};
+use crate::run::{Choice, Run};
 use std::fmt::Write as _;
 use std::io::{self, BufWriter, Read, Write};
 
@@ -40,7 +43,7 @@ impl Records {
 
     pub fn two_slices(&mut self) -> Option<(&[u8], &[u8])> {
         let first = self.next_range()?;
-        let second = self.next_range().expect("records end before a page");
+        let second = self.next_range().expect("records end before a second slice");
         Some((&self.bytes[first], &self.bytes[second]))
     }
 }
@@ -127,4 +130,51 @@ pub fn print_inferred() -> io::Result<()> {
         out.write_all(lent.line(job).as_bytes())?;
     }
     out.flush()
+}
+
+/// The numbers, from 1, of the records that `lines` refuses with 3 at an offset where `29` stands. Lines older than F-2
+/// differ on no others.
+pub fn refused_at_blank(records: &mut Records, slices: usize, lines: &str) -> Vec<usize> {
+    let mut refused = Vec::new();
+    for (index, line) in lines.lines().enumerate() {
+        let ranges: Vec<_> = (0..slices).map(|_| records.next_range().expect("fewer records than lines")).collect();
+        let numbers: Vec<usize> = line.split(' ').filter_map(|word| word.parse().ok()).collect();
+        let [3, offset, slice, 0] = numbers[..] else { continue };
+        if records.bytes[ranges[slice].clone()].get(offset) == Some(&0x29) {
+            refused.push(index + 1);
+        }
+    }
+    refused
+}
+
+/// Prints a line on each job and list of choices of standard input.
+pub fn print_runs() -> io::Result<()> {
+    let mut records = Records::from_stdin()?;
+    let mut out = BufWriter::new(io::stdout().lock());
+    while let Some((job, choices)) = records.two_slices() {
+        out.write_all(run_line(job, choices).as_bytes())?;
+    }
+    out.flush()
+}
+
+/// Values that double at each step would fill the memory.
+const BIG: usize = 1 << 20;
+
+/// `shown COUNT` and for each page `R` if it is right, `W` if it is wrong; `big` where a value outgrows that; `N A B C`
+/// for a job that doesn't read. A choice is two bytes: the next point, and the string.
+fn run_line(bytes: &[u8], choices: &[u8]) -> String {
+    let job = match Job::read(bytes) {
+        Ok(job) => job,
+        Err(fault) => return line(fault.verdict(0)),
+    };
+    let mut run = Run::new(&job, bytes);
+    for choice in choices.chunks_exact(2) {
+        run.step(Choice { second: choice[0] == 1, string: choice[1] });
+        if run.values.iter().any(|value| value.len() > BIG) {
+            return "big\n".to_string();
+        }
+    }
+    let judged = |page: &Vec<u8>| if is_right(&job.vocabulary, page) { 'R' } else { 'W' };
+    let pages: String = run.pages.iter().map(judged).collect();
+    format!("{}\n", format!("shown {} {pages}", run.pages.len()).trim_end())
 }

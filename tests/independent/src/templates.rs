@@ -9,7 +9,8 @@ pub const GAPS: u8 = 8;
 const TEMPLATES: usize = 31;
 const TEMPLATE_NESTING: usize = 16;
 
-/// In a list of items a content stands as itself and gap g as `GAP + g`.
+/// In a list of items a content stands as itself and gap g as `GAP + g`. Blank text has no place in it, so that it is
+/// no content anywhere.
 pub const GAP: u8 = CONTENTS;
 
 /// The outermost items of a template or an element.
@@ -115,6 +116,7 @@ impl Templates {
                     reader.at += 1;
                     inside.waiting.push(0);
                 }
+                0x29 => reader.at += 1,
                 0x22 => {
                     let [gap] = reader.operands()?;
                     if gap >= GAPS {

@@ -1,5 +1,6 @@
 //! Request F-1: the smallest covering proposal, where it is written, and what else changes.
 
+use independent::blank::Blank;
 use independent::damage::commands;
 use independent::infer::WORK;
 use independent::least::with_least;
@@ -161,7 +162,7 @@ fn reading_refusals_change_nothing() {
     let mut wrong = with(&[0x4F]);
     wrong[36] = 5;
     refused(&wrong, [8, 33, 0, 0]);
-    refused(&of_length(LONGEST + 1), [1, 0, 0, 0]);
+    refused(&of_length(LONGEST + 1, 0x21), [1, 0, 0, 0]);
     refused(&script("", "31 04 00 00 00"), [4, 5, 0, 0]);
     refused(&script("", "31 00 01 00 00"), [8, 5, 0, 0]);
     refused(&script("", ""), [3, 5, 0, 0]);
@@ -174,7 +175,8 @@ fn reading_refusals_change_nothing() {
 #[test]
 fn proposals_of_any_length() {
     let [_, largest, many_rounds] = large_scripts::all();
-    for (script, length) in [(of_length(LONGEST), 8), (largest, 2_214_657), (many_rounds, 138_380)] {
+    let long = [0x21, 0x29].map(|item| (of_length(LONGEST, item), 8));
+    for (script, length) in long.into_iter().chain([(largest, 2_214_657), (many_rounds, 138_380)]) {
         let proposal = inferred(&script).unwrap();
         assert_eq!(proposal.len(), length);
         assert!(script.len() + length > LONGEST);
@@ -185,7 +187,7 @@ fn proposals_of_any_length() {
 fn the_same_as_by_rounds() {
     let mut random = Random::new(11);
     let mut lent = Lent::default();
-    let scripts = (0..6000).map(|_| whole(&mut random).concat()).chain(large_scripts::all());
+    let scripts = (0..6000).map(|_| whole(&mut random, Blank::Little).concat()).chain(large_scripts::all());
     for script in scripts {
         let by_rounds = with_least(&script, &[]).unwrap();
         assert_eq!(lent.infer(&script), Ok(&by_rounds[script.len()..]), "{script:02X?}");
@@ -198,7 +200,7 @@ fn the_proposal_is_the_smallest() {
     let mut random = Random::new(12);
     let (mut covered, mut taken) = (0, 0);
     for _ in 0..400 {
-        let script = whole(&mut random).concat();
+        let script = whole(&mut random, Blank::Little).concat();
         let proposal = commands(&inferred(&script).unwrap());
         assert!(!proposal.windows(2).any(|two| two[0][0] == 0x40 && [0x40, 0x4F].contains(&two[1][0])));
         if script.len() + proposal.concat().len() > LONGEST {
@@ -222,7 +224,7 @@ fn accepted_whenever_another_proposal_is() {
     let mut random = Random::new(13);
     let mut accepted = 0;
     for _ in 0..1500 {
-        let job = random_jobs::job(&mut random);
+        let job = random_jobs::job(&mut random, Blank::Little);
         if check(&job) != [0; 4] {
             continue;
         }

@@ -1,5 +1,6 @@
 //! Verdicts on shows against pages of their languages, drawn at random and judged one by one.
 
+use independent::blank::Blank;
 use independent::job::Job;
 use independent::language::draw;
 use independent::program::Statement;
@@ -21,10 +22,19 @@ fn wrong_page(random: &mut Random, job: &Job, bytes: &[u8], point: usize, x: u8)
 
 #[test]
 fn shows_are_judged_as_their_pages() {
-    let mut random = Random::new(7);
+    judged_as_their_pages(7, Blank::Little);
+}
+
+#[test]
+fn with_much_blank_text_too() {
+    judged_as_their_pages(8, Blank::Much);
+}
+
+fn judged_as_their_pages(seed: u64, blank: Blank) {
+    let mut random = Random::new(seed);
     let (mut accepted, mut refused, mut unseen) = (0, 0, 0);
     for _ in 0..JOBS {
-        let bytes = random_jobs::job(&mut random);
+        let bytes = random_jobs::job(&mut random, blank);
         let verdict = check(&bytes);
         if !matches!(verdict[0], 0 | 11 | 12) {
             continue;

@@ -104,43 +104,51 @@ returns-5 c = rw (c .before .enum-told5 .given .1) (c .is-either2 .ensures)
 
 returns-6 : tie.Need-returns-6
 unfolding allowed
-returns-6 c = rw (c .before .enum-told6 .given .1) (c .is-between2 .ensures)
+returns-6 c = rw (c .before .before .enum-told6 .given .1, ← c .before .is-between2 .ensures, c .if1 .taken)
 
 returns-7 : tie.Need-returns-7
 unfolding allowed
-returns-7 c = rw (c .before .enum-told7 .given .1) (c .is-either3 .ensures)
+returns-7 c = rw (c .before .before .enum-told6 .given .1, ← c .before .is-between2 .ensures, c .if1 .left)
 
 returns-8 : tie.Need-returns-8
 unfolding allowed
-returns-8 c = rw (c .before .enum-told8 .given .1) (c .is-either4 .ensures)
+returns-8 c = rw (c .before .enum-told7 .given .1) (c .is-either3 .ensures)
 
 returns-9 : tie.Need-returns-9
 unfolding allowed
-returns-9 c = rw (c .before .enum-told9 .given .1) (c .is-either5 .ensures)
+returns-9 c = rw (c .before .before .enum-told8 .given .1, ← c .before .is-either4 .ensures, c .if2 .taken)
 
 returns-10 : tie.Need-returns-10
 unfolding allowed
-returns-10 c = rw (c .before .enum-told10 .given .1) (c .is-between3 .ensures)
+returns-10 c = rw (c .before .before .enum-told8 .given .1, ← c .before .is-either4 .ensures, c .if2 .left)
 
 returns-11 : tie.Need-returns-11
 unfolding allowed
-returns-11 c = rw (c .before .before .enum-told11 .given .1, ← c .before .is-between4 .ensures, c .if1 .taken)
+returns-11 c = rw (c .before .enum-told9 .given .1) (c .is-either5 .ensures)
 
 returns-12 : tie.Need-returns-12
 unfolding allowed
-returns-12 c = rw (c .before .before .enum-told11 .given .1, ← c .before .is-between4 .ensures, c .if1 .left)
+returns-12 c = rw (c .before .enum-told10 .given .1) (c .is-between3 .ensures)
 
 returns-13 : tie.Need-returns-13
 unfolding allowed
-returns-13 c = rw (c .before .enum-told12 .given .1) (c .is-either6 .ensures)
+returns-13 c = rw (c .before .before .enum-told11 .given .1, ← c .before .is-between4 .ensures, c .if3 .taken)
 
 returns-14 : tie.Need-returns-14
 unfolding allowed
-returns-14 c = rw (c .before .enum-told13 .given .1) (c .is-between5 .ensures)
+returns-14 c = rw (c .before .before .enum-told11 .given .1, ← c .before .is-between4 .ensures, c .if3 .left)
 
 returns-15 : tie.Need-returns-15
 unfolding allowed
-returns-15 c = rw (c .before .enum-told14 .given .1) (c .is-either7 .ensures)
+returns-15 c = rw (c .before .enum-told12 .given .1) (c .is-either6 .ensures)
+
+returns-16 : tie.Need-returns-16
+unfolding allowed
+returns-16 c = rw (c .before .enum-told13 .given .1) (c .is-between5 .ensures)
+
+returns-17 : tie.Need-returns-17
+unfolding allowed
+returns-17 c = rw (c .before .enum-told14 .given .1) (c .is-either7 .ensures)
 
 pub is-allowed-spec : {M : Type 1} → statement M
 is-allowed-spec =
@@ -186,4 +194,6 @@ is-allowed-spec =
     returns-12
     returns-13
     returns-14
-    returns-15)
+    returns-15
+    returns-16
+    returns-17)

@@ -6,10 +6,10 @@ use native.Mathlib.Omega.{arith}
 use lib.Dec.{lit<}
 use lib.ListN.{length}
 use borrow.Author.Needs.{needs}
-use Rattle.pages.proofs.Steps.{text-moves, gap-moves, element-moves, end-moves}
+use Rattle.pages.proofs.Steps.{text-moves, blank-moves, gap-moves, element-moves, end-moves}
 use Rattle.languages.proofs.Lines.{content-absent, gap-absent}
-use Rattle.languages.proofs.Lists.{list-begins, list-text, list-gap, list-known, list-ends}
-use Rattle.elements.proofs.Searches.{Going, adds-all, adds-end, adds-text, adds-gap, adds-element, element-known, other-element, own-element}
+use Rattle.languages.proofs.Lists.{list-begins, list-text, list-blank, list-gap, list-known, list-ends}
+use Rattle.elements.proofs.Searches.{Going, adds-all, adds-end, adds-text, adds-blank, adds-gap, adds-element, element-known, other-element, own-element}
 use borrow.Fn.Kinds.{In}
 use borrow.Fn.PlainCycle.{Measures, is, falls, and}
 use Rattle.elements.proofs.search_element.Reads as search-element
@@ -280,11 +280,30 @@ search-items-loop-again-5 t c =
 search-items-enum-known-next-2 : (t : ℕ) → search-items-lts.Need-enum-known-next-2 (items-claims t) (search-items-at t) search-items.Post search-items-Inv-loop search-items-μ-loop
 search-items-enum-known-next-2 t c = search needs
 
+search-items-loop-less-6 : (t : ℕ) → search-items-lts.Need-loop-less-6 (items-claims t) (search-items-at t) search-items.Post search-items-Inv-loop search-items-μ-loop
+search-items-loop-less-6 t c =
+    let m = blank-moves _ _ _ (c .before .before .before .item-here .ensures .1) _ (c .before .next2 .given .1) in
+    omega (arith, m .inside, m .forward)
+
+search-items-loop-again-6 : (t : ℕ) → search-items-lts.Need-loop-again-6 (items-claims t) (search-items-at t) search-items.Post search-items-Inv-loop search-items-μ-loop
+search-items-loop-again-6 t c =
+    let l = c .before .before .before .before .loop in
+    let h = c .before .before .before .item-here in
+    let stands = c .before .next2 .given .1 in
+    let m = blank-moves _ _ _ (h .ensures .1) _ stands in
+    record {
+      listed = list-blank _ _ _ _ _ _ _ _ _ _ (l .inv .listed) (h .result) (h .ensures .0) _ stands (m .forward);
+      goes = λ next found A. l .inv .goes next found (adds-blank _ _ _ _ _ _ _ (h .result) (h .ensures .0) next found _ stands A);
+    }
+
+search-items-enum-known-next-3 : (t : ℕ) → search-items-lts.Need-enum-known-next-3 (items-claims t) (search-items-at t) search-items.Post search-items-Inv-loop search-items-μ-loop
+search-items-enum-known-next-3 t c = search needs
+
 search-items-returns : (t : ℕ) → search-items-lts.Need-returns (items-claims t) (search-items-at t) search-items.Post search-items-Inv-loop search-items-μ-loop
 search-items-returns t c =
     let l = c .before .before .before .before .before .loop in
     let h = c .before .before .before .before .item-here in
-    let stands = c .before .before .next2 .given .1 in (
+    let stands = c .before .before .next3 .given .1 in (
       omega (arith, l .inv .listed .forward, end-moves _ _ _ (h .ensures .1) _ stands),
       adds-all _ _ _ _ _ _ _ (l .inv .goes _ _ (adds-end _ _ _ _ _ _ _ (h .result) (h .ensures .0) _ stands)) (list-ends _ _ _ _ _ _ _ _ (l .line) _ (l .inv .listed) (h .result) (h .ensures .0) _ stands),
     )
@@ -334,4 +353,7 @@ pub +search-element+search-items-spec : {M : Type 1} → statement M
     (search-items-loop-less-5 t)
     (search-items-loop-again-5 t)
     (search-items-enum-known-next-2 t)
+    (search-items-loop-less-6 t)
+    (search-items-loop-again-6 t)
+    (search-items-enum-known-next-3 t)
     (search-items-returns t)

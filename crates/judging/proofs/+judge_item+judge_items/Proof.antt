@@ -5,9 +5,9 @@ use mathlib.Core.Logic.{_⊎_, inl, inr}
 use native.Mathlib.Omega.{arith}
 use lib.ListN.{length}
 use borrow.Author.Needs.{needs}
-use Rattle.pages.proofs.Steps.{text-moves, gap-moves, element-moves, end-moves}
+use Rattle.pages.proofs.Steps.{text-moves, blank-moves, gap-moves, element-moves, end-moves}
 use Rattle.judging.proofs.WordLaws.{no-content}
-use Rattle.judging.proofs.ItemLaws.{no-tag, leaf-judged, element-judged, all-left, list-ends, text-more, gap-more, element-more, Going}
+use Rattle.judging.proofs.ItemLaws.{no-element-tag, leaf-judged, element-judged, all-left, list-ends, text-more, going-blank, gap-more, element-more, Going}
 use borrow.Fn.Kinds.{In}
 use borrow.Fn.PlainCycle.{Measures, is, falls, and}
 use Rattle.judging.proofs.judge_item.Reads as item
@@ -67,7 +67,7 @@ module _ (t : ℕ) where
       let i = c .before .before .item-here in
       rw (c .judge-leaf .ensures) (
         c .before .before .before .before .before .pre .1,
-        (rw (i .ensures .0) (omega arith), λ D T. leaf-judged D _ _ (i .result) (i .ensures .0) (λ e n q. no-tag (rw q at (c .before .match .keys2)))),
+        (rw (i .ensures .0) (omega arith), λ D T. leaf-judged D _ _ (i .result) (i .ensures .0) (λ e n q. no-element-tag (rw q at (c .before .match .keys2)))),
       )
 
   item-read-attributes-requires : item-lts.Need-read-attributes-requires (item-claims t) (item-given t) item.Post
@@ -202,11 +202,23 @@ module _ (t : ℕ) where
   items-enum-known-item-4 : items-lts.Need-enum-known-item-4 (items-claims t) (items-given t) items.Post Inv-loop μ-loop
   items-enum-known-item-4 c = search needs
 
+  items-loop-less-4 : items-lts.Need-loop-less-4 (items-claims t) (items-given t) items.Post Inv-loop μ-loop
+  items-loop-less-4 c = let m = blank-moves _ _ _ (c .before .before .before .item-here .ensures .1) _ (c .before .item4 .given .1) in omega (arith, m .inside, m .forward)
+
+  items-loop-again-4 : items-lts.Need-loop-again-4 (items-claims t) (items-given t) items.Post Inv-loop μ-loop
+  items-loop-again-4 c =
+      let i = c .before .before .before .item-here in
+      let q = c .before .item4 .given .1 in
+      going-blank _ _ _ _ _ _ _ _ _ _ _ (c .before .before .before .before .loop .inv) (i .result) (i .ensures .0) _ q (blank-moves _ _ _ (i .ensures .1) _ q .forward)
+
+  items-enum-known-item-5 : items-lts.Need-enum-known-item-5 (items-claims t) (items-given t) items.Post Inv-loop μ-loop
+  items-enum-known-item-5 c = search needs
+
   items-returns : items-lts.Need-returns (items-claims t) (items-given t) items.Post Inv-loop μ-loop
   items-returns c =
       let l = c .before .before .before .before .loop in
       let i = c .before .before .before .item-here in
-      let g = c .before .item4 .given in
+      let g = c .before .item5 .given in
       let m = end-moves _ _ _ (i .ensures .1) _ (g .1) in (
         l .inv .remembered,
         (omega (arith, l .inv .forward, m), λ D T f depth end φ e. list-ends D _ depth φ end _ _ _ _ (l .inv .judging D T f depth φ end e) (i .result) (i .ensures .0) _ (g .1)),
@@ -241,4 +253,7 @@ pub +judge-item+judge-items-spec : {M : Type 1} → statement M
     (items-loop-less-3 t)
     (items-loop-again-3 t)
     (items-enum-known-item-4 t)
+    (items-loop-less-4 t)
+    (items-loop-again-4 t)
+    (items-enum-known-item-5 t)
     (items-returns t)

@@ -14,7 +14,7 @@ use Rattle.verdicts.specs.declared.Verdict.the-variants.{Accepted, Refused}
 use Rattle.commands.specs.Reading.{Read, whole, refused, unfinished}
 use Rattle.vocabularies.specs.Vocabulary.{Formula, conj, disj, neg, truth, attr, content, order, value, Rule, Vocabulary, ruleOf, isIn}
 use Rattle.vocabularies.specs.VocabularyReading.{vocabularySlice}
-use Rattle.pages.specs.Items.{Value, string, open-gap, Attribute, Item, text, gap, element, Items, more}
+use Rattle.pages.specs.Items.{Value, string, open-gap, Attribute, Item, text, blank, gap, element, Items, more, withoutBlank}
 use Rattle.pages.specs.Items as Items
 use Rattle.pages.specs.ItemReading.{pageSlice}
 use Rattle.pages.specs.RightPages.{names, word}
@@ -94,11 +94,13 @@ unfoldable mutual
 
   pub firstWrongItem : Vocabulary → Item → Option ℕ
   firstWrongItem D text = none
+  firstWrongItem D blank = none
   firstWrongItem D (gap g) = none
   firstWrongItem D (element e mark δ φ) = cond (rightBy (ruleOf (D .rules) e) δ (word φ)) (firstWrong D φ) (some mark)
 
 abbrev pub isElement : ℕ → Item → Bool
 isElement e text = false
+isElement e blank = false
 isElement e (gap g) = false
 isElement e (element e′ mark δ φ) = eqb e′ e
 
@@ -106,9 +108,13 @@ abbrev pub isNone : Items → Bool
 isNone Items.none = true
 isNone (more i φ) = false
 
+abbrev pub isOnly : ℕ → Items → Bool
+isOnly e Items.none = false
+isOnly e (more i φ) = isElement e i && isNone φ
+
+-- One element of this name, and no other item but blank text.
 abbrev pub isAlone : ℕ → Items → Bool
-isAlone e Items.none = false
-isAlone e (more i φ) = isElement e i && isNone φ
+isAlone e φ = isOnly e (withoutBlank φ)
 
 abbrev pub wrongVerdict : Option ℕ → Verdict
 wrongVerdict none = Accepted

@@ -148,6 +148,7 @@ abbrev pub stepNext : ItemHere → Position
 stepNext (Here.Text next) = next
 stepNext (Here.Gap g next) = next
 stepNext (Here.Element e next) = next
+stepNext (Here.Blank next) = next
 stepNext (Here.End next) = next
 
 -- The end of an item, and its first wrong element.

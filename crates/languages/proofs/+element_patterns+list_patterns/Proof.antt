@@ -7,9 +7,9 @@ use lib.Dec.{lit<}
 use lib.ListN.{length}
 use borrow.Author.Tests.{not-true, not-false}
 use borrow.Author.Needs.{needs}
-use Rattle.pages.proofs.Steps.{text-moves, gap-moves, element-moves, end-moves}
+use Rattle.pages.proofs.Steps.{text-moves, blank-moves, gap-moves, element-moves, end-moves}
 use Rattle.languages.proofs.Lines.{content-absent, gap-absent}
-use Rattle.languages.proofs.Lists.{LentSets, list-had, unfilled, stuck, full, ListTo, list-begins, list-text, list-gap, list-none, list-element, list-nothing, list-ends}
+use Rattle.languages.proofs.Lists.{LentSets, list-had, unfilled, stuck, full, ListTo, list-begins, list-text, list-blank, list-gap, list-none, list-element, list-nothing, list-ends}
 use borrow.Fn.Kinds.{In}
 use borrow.Fn.PlainCycle.{Measures, is, falls, and}
 use Rattle.languages.proofs.element_patterns.Reads as element-patterns
@@ -293,10 +293,24 @@ list-patterns-loop-again-6 t c =
 list-patterns-enum-known-item-4 : (t : ℕ) → list-patterns-lts.Need-enum-known-item-4 (list-told t) (list-patterns-at t) list-patterns.Post list-patterns-Inv-loop list-patterns-μ-loop
 list-patterns-enum-known-item-4 t c = search needs
 
+list-patterns-loop-less-7 : (t : ℕ) → list-patterns-lts.Need-loop-less-7 (list-told t) (list-patterns-at t) list-patterns.Post list-patterns-Inv-loop list-patterns-μ-loop
+list-patterns-loop-less-7 t c =
+    let m = blank-moves _ _ _ (c .before .before .before .item-here .ensures .1) _ (c .before .item4 .given .1) in
+    omega (arith, m .inside, m .forward)
+
+list-patterns-loop-again-7 : (t : ℕ) → list-patterns-lts.Need-loop-again-7 (list-told t) (list-patterns-at t) list-patterns.Post list-patterns-Inv-loop list-patterns-μ-loop
+list-patterns-loop-again-7 t c =
+    let i = c .before .before .before .item-here in
+    let q = c .before .item4 .given .1 in
+    list-blank _ _ _ _ _ _ _ _ _ _ (c .before .before .before .before .loop .inv) _ (i .ensures .0) _ q (blank-moves _ _ _ (i .ensures .1) _ q .forward)
+
+list-patterns-enum-known-item-5 : (t : ℕ) → list-patterns-lts.Need-enum-known-item-5 (list-told t) (list-patterns-at t) list-patterns.Post list-patterns-Inv-loop list-patterns-μ-loop
+list-patterns-enum-known-item-5 t c = search needs
+
 list-patterns-returns-3 : (t : ℕ) → list-patterns-lts.Need-returns-3 (list-told t) (list-patterns-at t) list-patterns.Post list-patterns-Inv-loop list-patterns-μ-loop
 list-patterns-returns-3 t c =
     let i = c .before .before .before .before .item-here in
-    let q = c .before .before .item4 .given .1 in
+    let q = c .before .before .item5 .given .1 in
     let l = c .before .before .before .before .before .loop in
     (omega (arith, l .inv .forward, end-moves _ _ _ (i .ensures .1) _ q), list-had _ _ _ _ (c .before .before .before .before .before .before .before .before .before .args .takes .now) _ _ (list-ends _ _ _ _ _ _ _ _ (l .line) _ (l .inv) _ (i .ensures .0) _ q))
 
@@ -350,4 +364,7 @@ pub +element-patterns+list-patterns-spec : {M : Type 1} → statement M
     (list-patterns-loop-less-6 t)
     (list-patterns-loop-again-6 t)
     (list-patterns-enum-known-item-4 t)
+    (list-patterns-loop-less-7 t)
+    (list-patterns-loop-again-7 t)
+    (list-patterns-enum-known-item-5 t)
     (list-patterns-returns-3 t)

@@ -4,9 +4,9 @@ use Prim.Native.Nat.{ℕ, _<_, _+_, _-_}
 use native.Mathlib.Omega.{arith}
 use lib.ListN.{length, length-set}
 use borrow.Author.Needs.{needs}
-use Rattle.pages.proofs.Steps.{text-moves, gap-moves, element-moves, end-moves}
+use Rattle.pages.proofs.Steps.{text-moves, blank-moves, gap-moves, element-moves, end-moves}
 use Rattle.occurrences.proofs.Elements.{element-stands, element-keeps}
-use Rattle.occurrences.proofs.Outlining.{Going, adds-all, list-ends, list-text, list-gap, list-element, element-told}
+use Rattle.occurrences.proofs.Outlining.{Going, adds-all, list-ends, list-text, list-blank, list-gap, list-element, element-told}
 use borrow.Fn.Kinds.{In}
 use borrow.Fn.PlainCycle.{Measures, is, falls, and}
 use Rattle.occurrences.proofs.outline_element.Reads as outline-element
@@ -145,7 +145,7 @@ outline-items-loop-again-2 t c =
       forward = omega (arith, l .inv .forward, m .0 .forward);
       room = l .inv .room;
       keeps = l .inv .keeps;
-      goes = λ r larger K A. l .inv .goes r larger K (list-gap _ _ _ _ _ (h .result) (h .ensures .0) r larger _ _ stands _ (c .with2 .ensures) A);
+      goes = λ r larger K A. l .inv .goes r larger K (list-gap _ _ _ _ _ (h .result) (h .ensures .0) r larger _ (m .1) _ stands _ (c .with2 .ensures) A);
     }
 
 outline-items-enum-known-e : (t : ℕ) → outline-items-lts.Need-enum-known-e (items-claims t) (outline-items-at t) outline-items.Post outline-items-Inv-loop outline-items-μ-loop
@@ -183,11 +183,32 @@ outline-items-loop-again-3 t c =
 outline-items-enum-known-next-2 : (t : ℕ) → outline-items-lts.Need-enum-known-next-2 (items-claims t) (outline-items-at t) outline-items.Post outline-items-Inv-loop outline-items-μ-loop
 outline-items-enum-known-next-2 t c = search needs
 
+outline-items-loop-less-4 : (t : ℕ) → outline-items-lts.Need-loop-less-4 (items-claims t) (outline-items-at t) outline-items.Post outline-items-Inv-loop outline-items-μ-loop
+outline-items-loop-less-4 t c =
+    let m = blank-moves _ _ _ (c .before .before .before .item-here .ensures .1) _ (c .before .next2 .given .1) in
+    omega (arith, m .inside, m .forward)
+
+outline-items-loop-again-4 : (t : ℕ) → outline-items-lts.Need-loop-again-4 (items-claims t) (outline-items-at t) outline-items.Post outline-items-Inv-loop outline-items-μ-loop
+outline-items-loop-again-4 t c =
+    let l = c .before .before .before .before .loop in
+    let h = c .before .before .before .item-here in
+    let is-blank = c .before .next2 .given .1 in
+    let m = blank-moves _ _ _ (h .ensures .1) _ is-blank in
+    record {
+      forward = omega (arith, l .inv .forward, m .forward);
+      room = l .inv .room;
+      keeps = l .inv .keeps;
+      goes = λ r larger K A. l .inv .goes r larger K (list-blank _ _ _ _ _ (h .result) (h .ensures .0) r larger _ is-blank A);
+    }
+
+outline-items-enum-known-next-3 : (t : ℕ) → outline-items-lts.Need-enum-known-next-3 (items-claims t) (outline-items-at t) outline-items.Post outline-items-Inv-loop outline-items-μ-loop
+outline-items-enum-known-next-3 t c = search needs
+
 outline-items-returns : (t : ℕ) → outline-items-lts.Need-returns (items-claims t) (outline-items-at t) outline-items.Post outline-items-Inv-loop outline-items-μ-loop
 outline-items-returns t c =
     let l = c .before .before .before .before .loop in
     let h = c .before .before .before .item-here in
-    let stands = c .before .next2 .given .1 in (
+    let stands = c .before .next3 .given .1 in (
       omega (arith, l .inv .forward, end-moves _ _ _ (h .ensures .1) _ stands),
       (l .inv .room, (l .inv .keeps, adds-all _ _ _ _ _ (l .inv .goes _ _ (λ m k T. T) (list-ends _ _ _ _ _ (h .result) (h .ensures .0) _ stands _)))),
     )
@@ -225,4 +246,7 @@ pub +outline-element+outline-items-spec : {M : Type 1} → statement M
     (outline-items-loop-less-3 t)
     (outline-items-loop-again-3 t)
     (outline-items-enum-known-next-2 t)
+    (outline-items-loop-less-4 t)
+    (outline-items-loop-again-4 t)
+    (outline-items-enum-known-next-3 t)
     (outline-items-returns t)

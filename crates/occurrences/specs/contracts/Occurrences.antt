@@ -6,7 +6,7 @@ use mathlib.Core.List.{List}
 use mathlib.Core.Bool.{true}
 use lib.ListN.{length, getD}
 use Rattle.sets.specs.Sets.{member}
-use Rattle.pages.specs.Items.{Attribute, Item, text, gap, element, Items, none, more}
+use Rattle.pages.specs.Items.{Attribute, Item, text, blank, gap, element, Items, none, more}
 use Rattle.programs.specs.Program.{templateAt}
 
 -- Every element of the items, or of the item, at any depth, is as P says.
@@ -17,6 +17,7 @@ unfoldable mutual
 
   pub AllElementsOf : (ℕ → ℕ → List Attribute → Items → Type 0) → Item → Type 0
   AllElementsOf P text = Unit {0}
+  AllElementsOf P blank = Unit {0}
   AllElementsOf P (gap g) = Unit {0}
   AllElementsOf P (element e mark δ φ) = P e mark δ φ × AllElements P φ
 

@@ -6,8 +6,8 @@ use native.Mathlib.Omega.{arith}
 use lib.ListN.{length}
 use borrow.Author.Needs.{needs}
 use Rattle.pages.specs.contracts.Gaps.{ItemsGaps}
-use Rattle.pages.proofs.Steps.{text-moves, gap-moves, element-moves, end-moves}
-use Rattle.pages.proofs.Gathering.{Onto, text-gaps, gap-gaps, element-gaps-go, end-gaps, inner-gaps}
+use Rattle.pages.proofs.Steps.{text-moves, blank-moves, gap-moves, element-moves, end-moves}
+use Rattle.pages.proofs.Gathering.{Onto, text-gaps, blank-gaps, gap-gaps, element-gaps-go, end-gaps, inner-gaps}
 use Prim.Native.Nat.{ℕ, _<_}
 use borrow.Fn.Kinds.{In}
 use borrow.Fn.PlainCycle.{Measures, is, falls, and}
@@ -133,11 +133,24 @@ items-gaps-loop-again-3 t c =
 items-gaps-enum-known-item-4 : (t : ℕ) → items-gaps-lts.Need-enum-known-item-4 (items-told t) (items-gaps-at t) items-gaps.Post items-gaps-Inv-loop items-gaps-μ-loop
 items-gaps-enum-known-item-4 t c = search needs
 
+items-gaps-loop-less-4 : (t : ℕ) → items-gaps-lts.Need-loop-less-4 (items-told t) (items-gaps-at t) items-gaps.Post items-gaps-Inv-loop items-gaps-μ-loop
+items-gaps-loop-less-4 t c =
+    let m = blank-moves _ _ _ (c .before .before .before .item-here .ensures .1) _ (c .before .item4 .given .1) in
+    omega (arith, m .inside, m .forward)
+
+items-gaps-loop-again-4 : (t : ℕ) → items-gaps-lts.Need-loop-again-4 (items-told t) (items-gaps-at t) items-gaps.Post items-gaps-Inv-loop items-gaps-μ-loop
+items-gaps-loop-again-4 t c =
+    let i = c .before .before .before .item-here in
+    blank-gaps _ _ _ (i .ensures .0) (i .ensures .1) _ _ _ (c .before .before .before .before .loop .inv) _ (c .before .item4 .given .1)
+
+items-gaps-enum-known-item-5 : (t : ℕ) → items-gaps-lts.Need-enum-known-item-5 (items-told t) (items-gaps-at t) items-gaps.Post items-gaps-Inv-loop items-gaps-μ-loop
+items-gaps-enum-known-item-5 t c = search needs
+
 items-gaps-returns : (t : ℕ) → items-gaps-lts.Need-returns (items-told t) (items-gaps-at t) items-gaps.Post items-gaps-Inv-loop items-gaps-μ-loop
 items-gaps-returns t c =
     let i = c .before .before .before .item-here in
     let l = c .before .before .before .before .loop in
-    let q = c .before .item4 .given .1 in
+    let q = c .before .item5 .given .1 in
     (omega (arith, l .inv .forward, end-moves _ _ _ (i .ensures .1) _ q), end-gaps _ _ _ (i .ensures .0) (i .ensures .1) _ _ _ (l .inv) _ q _ refl refl)
 
 pub +element-gaps+items-gaps-spec : {M : Type 1} → statement M
@@ -166,4 +179,7 @@ pub +element-gaps+items-gaps-spec : {M : Type 1} → statement M
     (items-gaps-loop-less-3 t)
     (items-gaps-loop-again-3 t)
     (items-gaps-enum-known-item-4 t)
+    (items-gaps-loop-less-4 t)
+    (items-gaps-loop-again-4 t)
+    (items-gaps-enum-known-item-5 t)
     (items-gaps-returns t)

@@ -13,7 +13,7 @@ use Rattle.commands.specs.Reading.{whole}
 use Rattle.vocabularies.specs.Vocabulary.{isIn}
 use Rattle.pages.specs.declared.Kind.{Kind}
 use Rattle.pages.specs.declared.ItemHere.{ItemHere}
-use Rattle.pages.specs.declared.ItemHere.the-variants.{Text, Gap, Element, End}
+use Rattle.pages.specs.declared.ItemHere.the-variants.{Text, Gap, Element, Blank, End}
 use Rattle.pages.specs.declared.AttributeHere.{AttributeHere}
 use Rattle.pages.specs.declared.AttributeHere.the-variants.{Fixed, Open, Done}
 use Rattle.pages.specs.declared.Named.{Named}
@@ -21,13 +21,14 @@ use Rattle.pages.specs.Items.{Attribute, Item, Items}
 use Rattle.pages.specs.ItemReading.{attributes, items, item}
 use Rattle.pages.specs.RightPages.{names}
 
--- `21`, `22 g`, `23 e`; anything else ends a list of items.
+-- `21`, `22 g`, `23 e`, `29`; anything else ends a list of items.
 abbrev pub itemOf : List ℕ → ℕ → ℕ → ItemHere
 itemOf s at code =
     cond (eqb code 0x21) (Text (record { at = at + 1 }))
     (cond (eqb code 0x22) (Gap (byte s (at + 1) % 8) (record { at = at + 2 }))
     (cond (eqb code 0x23) (Element (byte s (at + 1) % 64) (record { at = at + 2 }))
-    (End (record { at = at + 1 }))))
+    (cond (eqb code 0x29) (Blank (record { at = at + 1 }))
+    (End (record { at = at + 1 })))))
 
 unfoldable pub itemHere : List ℕ → ℕ → ItemHere
 itemHere s at = cond (ltb at (length s)) (itemOf s at (byte s at)) (End (record { at = at }))
@@ -52,6 +53,7 @@ unfoldable pub ItemMoves : List ℕ → ℕ → ItemHere → Type 0
 ItemMoves s at (Text next) = Steps s at (next .at)
 ItemMoves s at (Gap g next) = Steps s at (next .at) × (g < 8)
 ItemMoves s at (Element e next) = Steps s at (next .at) × (e < 64)
+ItemMoves s at (Blank next) = Steps s at (next .at)
 ItemMoves s at (End next) = at ≤ next .at
 
 unfoldable pub AttributeMoves : List ℕ → ℕ → AttributeHere → Type 0

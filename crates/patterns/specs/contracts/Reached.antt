@@ -5,7 +5,7 @@ use Prim.Native.Nat.{ℕ}
 use mathlib.Core.Path.{_≡_}
 use mathlib.Core.List.{List}
 use mathlib.Core.Bool.{Bool, true, false, _&&_, _||_}
-use Rattle.pages.specs.Items.{Attribute, Item, text, gap, element, Items, none, more, gapIn}
+use Rattle.pages.specs.Items.{Attribute, Item, text, blank, gap, element, Items, none, more, gapIn}
 use Rattle.programs.specs.Program.{templateAt}
 use Rattle.summaries.specs.Proposal.{root, edge}
 use Rattle.summaries.specs.Summaries.{Summary}
@@ -33,6 +33,7 @@ unfoldable mutual
 
   pub itemLeadsTo : Summary → ℕ → ℕ → Item → Bool
   itemLeadsTo G n m text = false
+  itemLeadsTo G n m blank = false
   itemLeadsTo G n m (gap g) = G (edge n g m)
   itemLeadsTo G n m (element e mark δ φ) = leadsTo G n m φ
 
@@ -47,6 +48,7 @@ unfoldable mutual
 
   pub itemContents : List Items → Summary → Sets → ℕ → Item → Set
   itemContents φs G C n text = only 0
+  itemContents φs G C n blank = λ c. false
   itemContents φs G C n (gap g) = λ c. anyTemplate φs (λ m. G (edge n g m) && C m c)
   itemContents φs G C n (element e mark δ φ) = only e
 

@@ -8,7 +8,7 @@ use mathlib.Core.Bool.{Bool, true, false, _&&_, _||_}
 use lib.ListN.{length}
 use lib.Dec.{eqb}
 use Rattle.commands.specs.Commands.{strings}
-use Rattle.pages.specs.Items.{Value, string, open-gap, Attribute, Item, text, gap, element, Items, none, more}
+use Rattle.pages.specs.Items.{Value, string, open-gap, Attribute, Item, text, blank, gap, element, Items, none, more}
 use Rattle.programs.specs.Program.{templateAt}
 use Rattle.summaries.specs.Proposal.{edge}
 use Rattle.summaries.specs.Proposal as Proposal
@@ -70,6 +70,7 @@ module _ (φs : List Items) (G : Summary) (R : Morphism) where
 
     pub itemTakes : Sets → ℕ → Item → Bool
     itemTakes X n text = true
+    itemTakes X n blank = true
     itemTakes X n (gap g) = gapTakes X n g
     itemTakes X n (element e mark δ φ) = attributesTake G n δ && allTake X n φ
 
@@ -83,6 +84,7 @@ module _ (φs : List Items) (G : Summary) (R : Morphism) where
 
     pub itemPatterns : Sets → ℕ → Item → Set
     itemPatterns X n text = only (R .of (0 ∷ []))
+    itemPatterns X n blank = only (R .of [])
     itemPatterns X n (gap g) = λ x. anyTemplate φs (λ m. G (edge n g m) && X m x)
     itemPatterns X n (element e mark δ φ) = λ x. attributesTake G n δ && allTake X n φ && only (R .of (e ∷ [])) x
 

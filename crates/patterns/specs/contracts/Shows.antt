@@ -9,7 +9,7 @@ use lib.ListN.{length}
 use lib.Dec.{leb}
 use Rattle.vocabularies.specs.Vocabulary.{Formula, Rule, Vocabulary, ruleOf}
 use Rattle.vocabularies.specs.Facts.{factsOf}
-use Rattle.pages.specs.Items.{Attribute, Item, text, gap, element, Items, more}
+use Rattle.pages.specs.Items.{Attribute, Item, text, blank, gap, element, Items, more}
 use Rattle.pages.specs.Items as Items
 use Rattle.pages.specs.RightPages.{_∈_}
 use Rattle.programs.specs.Program.{templateAt}
@@ -47,6 +47,7 @@ unfoldable mutual
 
   pub lowestMarkIn : (ℕ → ℕ → List Attribute → Items → Bool) → Item → Option ℕ
   lowestMarkIn p text = none
+  lowestMarkIn p blank = none
   lowestMarkIn p (gap g) = none
   lowestMarkIn p (element e mark δ φ) = lower (onlyIf (p e mark δ φ) mark) (lowestMark p φ)
 

@@ -4,8 +4,8 @@ use Prim.Native.Nat.{ℕ, _<_, _+_, _-_}
 use native.Mathlib.Omega.{arith}
 use lib.ListN.{length}
 use borrow.Author.Needs.{needs}
-use Rattle.pages.proofs.Steps.{text-moves, gap-moves, element-moves, end-moves}
-use Rattle.reach.proofs.ListWalks.{Going, adds-all, list-ends, list-text, list-gap, list-element, element-walked}
+use Rattle.pages.proofs.Steps.{text-moves, blank-moves, gap-moves, element-moves, end-moves}
+use Rattle.reach.proofs.ListWalks.{Going, adds-all, list-ends, list-text, list-blank, list-gap, list-element, element-walked}
 use borrow.Fn.Kinds.{In}
 use borrow.Fn.PlainCycle.{Measures, is, falls, and}
 use Rattle.reach.proofs.walk_element.Reads as walk-element
@@ -148,7 +148,7 @@ walk-items-loop-again-2 t c =
     let m = gap-moves _ _ _ (h .ensures .1) _ _ is-gap in
     record {
       forward = omega (arith, l .inv .forward, m .0 .forward);
-      goes = λ r A. l .inv .goes r (list-gap _ _ _ _ _ _ _ _ _ (h .result) (h .ensures .0) _ _ is-gap _ (c .with2 .ensures) r A);
+      goes = λ r A. l .inv .goes r (list-gap _ _ _ _ _ _ _ _ _ (h .result) (h .ensures .0) _ (m .1) _ is-gap _ (c .with2 .ensures) r A);
     }
 
 walk-items-enum-known-e : (t : ℕ) → walk-items-lts.Need-enum-known-e (items-told t) (walk-items-at t) walk-items.Post walk-items-Inv-loop walk-items-μ-loop
@@ -186,11 +186,30 @@ walk-items-loop-again-3 t c =
 walk-items-enum-known-next-2 : (t : ℕ) → walk-items-lts.Need-enum-known-next-2 (items-told t) (walk-items-at t) walk-items.Post walk-items-Inv-loop walk-items-μ-loop
 walk-items-enum-known-next-2 t c = search needs
 
+walk-items-loop-less-4 : (t : ℕ) → walk-items-lts.Need-loop-less-4 (items-told t) (walk-items-at t) walk-items.Post walk-items-Inv-loop walk-items-μ-loop
+walk-items-loop-less-4 t c =
+    let m = blank-moves _ _ _ (c .before .before .before .item-here .ensures .1) _ (c .before .next2 .given .1) in
+    omega (arith, m .inside, m .forward)
+
+walk-items-loop-again-4 : (t : ℕ) → walk-items-lts.Need-loop-again-4 (items-told t) (walk-items-at t) walk-items.Post walk-items-Inv-loop walk-items-μ-loop
+walk-items-loop-again-4 t c =
+    let l = c .before .before .before .before .loop in
+    let h = c .before .before .before .item-here in
+    let is-blank = c .before .next2 .given .1 in
+    let m = blank-moves _ _ _ (h .ensures .1) _ is-blank in
+    record {
+      forward = omega (arith, l .inv .forward, m .forward);
+      goes = λ r A. l .inv .goes r (list-blank _ _ _ _ _ _ _ _ _ (h .result) (h .ensures .0) _ is-blank r A);
+    }
+
+walk-items-enum-known-next-3 : (t : ℕ) → walk-items-lts.Need-enum-known-next-3 (items-told t) (walk-items-at t) walk-items.Post walk-items-Inv-loop walk-items-μ-loop
+walk-items-enum-known-next-3 t c = search needs
+
 walk-items-returns : (t : ℕ) → walk-items-lts.Need-returns (items-told t) (walk-items-at t) walk-items.Post walk-items-Inv-loop walk-items-μ-loop
 walk-items-returns t c =
     let l = c .before .before .before .before .loop in
     let h = c .before .before .before .item-here in
-    let is-end = c .before .next2 .given .1 in
+    let is-end = c .before .next3 .given .1 in
     (omega (arith, l .inv .forward, end-moves _ _ _ (h .ensures .1) _ is-end), adds-all _ _ _ _ _ _ _ (l .inv .goes _ (list-ends _ _ _ _ _ _ _ _ _ (h .result) (h .ensures .0) _ is-end)))
 
 pub +walk-element+walk-items-spec : {M : Type 1} → statement M
@@ -229,4 +248,7 @@ pub +walk-element+walk-items-spec : {M : Type 1} → statement M
     (walk-items-loop-less-3 t)
     (walk-items-loop-again-3 t)
     (walk-items-enum-known-next-2 t)
+    (walk-items-loop-less-4 t)
+    (walk-items-loop-again-4 t)
+    (walk-items-enum-known-next-3 t)
     (walk-items-returns t)

@@ -6,12 +6,13 @@ use mathlib.Core.Bool.{Bool, false, _||_}
 use lib.Dec.{eqb}
 use Rattle.sets.specs.Sets.{member}
 use Rattle.vocabularies.specs.Vocabulary.{isIn}
-use Rattle.pages.specs.Items.{Item, text, gap, element, Items, none, more}
+use Rattle.pages.specs.Items.{Item, text, blank, gap, element, Items, none, more}
 use Rattle.pages.specs.RightPages.{word}
 use Rattle.pages.specs.contracts.Gaps.{hasGap}
 
 abbrev pub isGap : Item → ℕ → Bool
 isGap text g = false
+isGap blank g = false
 isGap (gap k) g = eqb k g
 isGap (element e mark δ φ) g = false
 

@@ -1,5 +1,6 @@
 //! job-limits OUT.bin OUT.verdicts
 
+use independent::blank::assert_only_moves;
 use independent::records::{line, push};
 use independent::{check, job_limits};
 
@@ -12,7 +13,9 @@ fn main() -> std::io::Result<()> {
     let mut verdicts = String::new();
     for job in job_limits::all() {
         push(&mut records, &job);
-        verdicts.push_str(&line(check(&job)));
+        let verdict = check(&job);
+        assert_only_moves(&job, verdict, check);
+        verdicts.push_str(&line(verdict));
     }
     std::fs::write(records_path, records)?;
     std::fs::write(verdicts_path, verdicts)

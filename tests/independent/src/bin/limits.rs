@@ -1,7 +1,8 @@
 //! limits OUT.bin OUT.verdicts
 
-use independent::page_limits;
+use independent::blank::assert_only_moves;
 use independent::records::{line, push};
+use independent::{judge, page_limits};
 
 fn main() -> std::io::Result<()> {
     let arguments: Vec<String> = std::env::args().skip(1).collect();
@@ -13,7 +14,9 @@ fn main() -> std::io::Result<()> {
     for record in page_limits::all() {
         push(&mut records, &record.vocabulary);
         push(&mut records, &record.page);
-        verdicts.push_str(&line(record.verdict()));
+        let verdict = record.verdict();
+        assert_only_moves(&record.page, verdict, |page| judge(&record.vocabulary, page));
+        verdicts.push_str(&line(verdict));
     }
     std::fs::write(records_path, records)?;
     std::fs::write(verdicts_path, verdicts)

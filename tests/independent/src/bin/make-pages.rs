@@ -1,28 +1,24 @@
-//! make-pages SEED COUNT OUT.bin OUT.verdicts
+//! make-pages SEED COUNT OUT.bin OUT.verdicts [blank]
+//!
+//! Each page that reads is judged without its blank text besides.
 
-use independent::random::Random;
+use independent::blank::assert_only_moves;
+use independent::judge;
+use independent::making::Making;
 use independent::random_pages::{record, too_long};
-use independent::records::{line, push};
+use independent::records::line;
 
 fn main() -> std::io::Result<()> {
-    let arguments: Vec<String> = std::env::args().skip(1).collect();
-    let [seed, count, records_path, verdicts_path] = &arguments[..] else {
-        panic!("make-pages SEED COUNT OUT.bin OUT.verdicts");
-    };
-    let mut random = Random::new(seed.parse().expect("SEED is a number"));
-    let count: usize = count.parse().expect("COUNT is a number");
-    let mut records = Vec::new();
-    let mut verdicts = String::new();
-    for index in 0..count {
+    let mut making = Making::from_arguments("make-pages SEED COUNT OUT.bin OUT.verdicts [blank]");
+    for index in 0..making.count {
         // One vocabulary and one page that are too long; more of them would fill the file.
         let record = match index {
-            100 | 200 => too_long(&mut random, index == 200),
-            _ => record(&mut random),
+            100 | 200 => too_long(&mut making.random, making.blank, index == 200),
+            _ => record(&mut making.random, making.blank),
         };
-        push(&mut records, &record.vocabulary);
-        push(&mut records, &record.page);
-        verdicts.push_str(&line(record.verdict()));
+        let verdict = record.verdict();
+        assert_only_moves(&record.page, verdict, |page| judge(&record.vocabulary, page));
+        making.add(&[&record.vocabulary, &record.page], &line(verdict));
     }
-    std::fs::write(records_path, records)?;
-    std::fs::write(verdicts_path, verdicts)
+    making.write()
 }

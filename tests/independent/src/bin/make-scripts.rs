@@ -1,29 +1,27 @@
-//! make-scripts SEED COUNT OUT.bin OUT.lines
+//! make-scripts SEED COUNT OUT.bin OUT.lines [blank]
+//!
+//! The proposal of each script that reads is worked out without its blank text besides.
 
-use independent::random::Random;
+use independent::blank::without;
+use independent::making::Making;
 use independent::random_scripts::{of_length, script};
 use independent::reader::LONGEST;
-use independent::records::{push, Lent};
+use independent::records::Lent;
 
 fn main() -> std::io::Result<()> {
-    let arguments: Vec<String> = std::env::args().skip(1).collect();
-    let [seed, count, records_path, lines_path] = &arguments[..] else {
-        panic!("make-scripts SEED COUNT OUT.bin OUT.lines");
-    };
-    let mut random = Random::new(seed.parse().expect("SEED is a number"));
-    let count: usize = count.parse().expect("COUNT is a number");
-    let mut records = Vec::new();
-    let mut lines = String::new();
+    let mut making = Making::from_arguments("make-scripts SEED COUNT OUT.bin OUT.lines [blank]");
     let mut lent = Lent::default();
-    for index in 0..count {
+    for index in 0..making.count {
         // One as long as can be and one too long; more of them would fill the file.
         let script = match index {
-            100 | 200 => of_length(LONGEST + index / 200),
-            _ => script(&mut random),
+            100 | 200 => of_length(LONGEST + index / 200, making.blank.filler()),
+            _ => script(&mut making.random, making.blank),
         };
-        push(&mut records, &script);
-        lines.push_str(&lent.line(&script));
+        let line = lent.line(&script);
+        if line.starts_with("ok") {
+            assert_eq!(lent.line(&without(&script)), line, "{script:02X?}");
+        }
+        making.add(&[&script], &line);
     }
-    std::fs::write(records_path, records)?;
-    std::fs::write(lines_path, lines)
+    making.write()
 }

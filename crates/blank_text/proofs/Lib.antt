@@ -1,0 +1,9 @@
+pub mod Alike
+pub mod Rightness
+pub mod Languages
+pub mod Scripts
+pub mod Numbered
+pub mod Ranges
+pub mod Pages
+pub mod Jobs
+pub mod Law

@@ -1,0 +1,188 @@
+-- A script with templates that are like its own has the same verdict, but for the offset of a wrong element.
+use Prim.Native.Nat.{ℕ, zero, suc, _≤_}
+use native.Mathlib.Omega.{arith}
+use mathlib.Core.Path.{_≡_, refl, sym, ap, subst, _∙_, fun-ext}
+use mathlib.Core.List.{List, [], _∷_, map}
+use mathlib.Core.Bool.{Bool, cond}
+use mathlib.Core.Logic.{_↔_, _⊎_, inl, inr}
+use Rattle.verdicts.specs.declared.Numbers.{Numbers}
+use Rattle.verdicts.specs.Printed.{prints}
+use Rattle.pages.specs.Items.{Items, withoutBlank}
+use Rattle.programs.specs.Program.{Act, copyTemplate, setTemplate, copyString, setString, anyString, plug, plugString, show, Statement, step, stop, statementAt, templateAt}
+use Rattle.summaries.specs.Proposal.{Claim, root, edge, string, gapFrom, attributeGapFrom}
+use Rattle.summaries.specs.ProposalReading.{variableOf}
+use Rattle.summaries.specs.Summaries.{Environment, fragment, transfer}
+use Rattle.summaries.specs.Covering.{WithinAt}
+use Rattle.summaries.specs.Languages.{summaryShown, closedIfShown, statementGraph, graphShown}
+use Rattle.jobs.specs.Job.{Script}
+use Rattle.jobs.specs.JobVerdict.{StatementHolds, StepHolds, StepsBefore, AllCovered, ShowHolds, NotRootAt, WrongIn, ScriptVerdict, start-uncovered, step-uncovered, not-root, wrong-element, accepted}
+use Rattle.agreement.proofs.Marks.{Stands}
+use Rattle.blank_text.specs.WithoutBlank.{withoutBlankScript}
+use Rattle.blank_text.proofs.Alike.{Alike, Turned, Same, turned, without}
+use Rattle.blank_text.proofs.Rightness.{same-gaps, same-attribute-gaps, alone-there, right-there, stands-there, wrong-there}
+use Rattle.blank_text.proofs.Languages.{derived-there}
+
+abbrev pub withTemplates : Script → List Items → Script
+withTemplates π φs = record { vocabulary = π .vocabulary; templates = φs; program = π .program }
+
+-- Templates here and there are alike, and marks that M relates stand in the same templates.
+pub record Corresponds (M : ℕ → ℕ → Type 0) (φs φs′ : List Items) : Type 0 where
+  pub alike : (t : ℕ) → Alike M (templateAt φs t) (templateAt φs′ t)
+  pub stands : (t at at′ : ℕ) → M at at′ → Stands at (templateAt φs t) ↔ Stands at′ (templateAt φs′ t)
+
+turned-round : {M : ℕ → ℕ → Type 0} {φs φs′ : List Items} → Corresponds M φs φs′ → Corresponds (Turned M) φs′ φs
+turned-round c = record { alike = λ t. turned (c .alike t); stands = λ t at at′ m. (c .stands t at′ at m .1, c .stands t at′ at m .0) }
+
+-- Which graph is shown does not hang on the templates.
+same-shown : (φs φs′ : List Items) (program : List Statement) (E : ℕ → Environment) (p : ℕ) → graphShown φs program E p ≡ graphShown φs′ program E p
+unfolding graphShown
+same-shown φs φs′ program E p = of-statement (statementAt program p)
+  where
+    of-act : (a : Act) → summaryShown φs a (E p) ≡ summaryShown φs′ a (E p)
+    of-act (copyTemplate x x′) = refl
+    of-act (setTemplate x t) = refl
+    of-act (copyString y y′) = refl
+    of-act (setString y s) = refl
+    of-act (anyString y) = refl
+    of-act (plug x x′ g x″) = refl
+    of-act (plugString x x′ h y) = refl
+    of-act (show x) = refl
+
+    of-statement : (t : Statement) → statementGraph φs t (E p) ≡ statementGraph φs′ t (E p)
+    of-statement (step a q q′) = ap closedIfShown (of-act a)
+    of-statement stop = refl
+
+module _ {M : ℕ → ℕ → Type 0} (π : Script) (φs′ : List Items) (c : Corresponds M (π .templates) φs′) (E : ℕ → Environment) where
+  abbrev There : Script
+  There = withTemplates π φs′
+
+  same-fragment : (t : ℕ) → fragment t (templateAt (π .templates) t) ≡ fragment t (templateAt φs′ t)
+  same-fragment t = fun-ext at-claim
+    where
+      at-claim : (d : Claim) → fragment t (templateAt (π .templates) t) d ≡ fragment t (templateAt φs′ t) d
+      at-claim (root m) = refl
+      at-claim (edge m g k) = refl
+      at-claim (string m h s) = refl
+      at-claim (gapFrom g m) = rw (same-gaps (c .alike t) g)
+      at-claim (attributeGapFrom h m) = rw (same-attribute-gaps (c .alike t) h)
+
+  same-transfer : (a : Act) (F : Environment) → transfer (π .templates) a F ≡ transfer φs′ a F
+  same-transfer (copyTemplate x x′) F = refl
+  same-transfer (setTemplate x t) F = rw (same-fragment t)
+  same-transfer (copyString y y′) F = refl
+  same-transfer (setString y s) F = refl
+  same-transfer (anyString y) F = refl
+  same-transfer (plug x x′ g x″) F = refl
+  same-transfer (plugString x x′ h y) F = refl
+  same-transfer (show x) F = refl
+
+  step-there : (p : ℕ) (second : Bool) (v : ℕ) → StepHolds π E p second v → StepHolds There E p second v
+  step-there p second v = of-statement (statementAt (π .program) p)
+    where
+      of-statement : (t : Statement) → StatementHolds π E p t second v → StatementHolds There E p t second v
+      of-statement (step a q q′) h = λ n. subst (λ (F : Environment). WithinAt (variableOf v) F (E (cond second q′ q))) (same-transfer a (E p)) (h n)
+      of-statement stop h = tt
+
+  show-there : (p : ℕ) → ShowHolds π E p → ShowHolds There E p
+  show-there p h G e page l =
+      let b = derived-there (Turned M) φs′ (π .templates) (turned-round c .alike) G (l .0) page (l .1) in
+      right-there (π .vocabulary) (turned (b .2)) (h G (same-shown (π .templates) φs′ (π .program) E p ∙ e) (b .0) (l .0, b .1))
+
+  not-root-there : (p t : ℕ) → NotRootAt π E p t → NotRootAt There E p t
+  not-root-there p t n =
+      let l = derived-there M (π .templates) φs′ (c .alike) (n .graph) t (n .page) (n .derived) in
+      record {
+        graph = n .graph;
+        shows = same-shown φs′ (π .templates) (π .program) E p ∙ n .shows;
+        page = l .0;
+        derived = l .1;
+        other = λ r. n .other (alone-there (π .vocabulary) (turned (l .2)) r);
+      }
+
+  wrong-in-there : (p t at : ℕ) → WrongIn π E p t at → (at′ : ℕ) × M at at′ × WrongIn There E p t at′
+  wrong-in-there p t at w =
+      let r = w .derived .0 in
+      let l = derived-there M (π .templates) φs′ (c .alike) (w .graph) r (w .page) (w .derived .1) in
+      let m = wrong-there (π .vocabulary) (l .2) (w .wrong) in (
+        m .0,
+        m .1,
+        record {
+          graph = w .graph;
+          shows = same-shown φs′ (π .templates) (π .program) E p ∙ w .shows;
+          page = l .0;
+          derived = (r, l .1);
+          wrong = m .2;
+          stands = c .stands t at (m .0) (m .1) .0 (w .stands);
+        },
+      )
+
+-- The verdict there, if M keeps the order of marks.
+module _ {M : ℕ → ℕ → Type 0} (π : Script) (φs′ : List Items) (c : Corresponds M (π .templates) φs′)
+    (order : (low low′ at at′ : ℕ) → M low low′ → M at at′ → low ≤ at → low′ ≤ at′) (E : ℕ → Environment) where
+  abbrev π′ : Script
+  π′ = withTemplates π φs′
+
+  abbrev back : Corresponds (Turned M) φs′ (π .templates)
+  back = turned-round c
+
+  steps-before : (p : ℕ) (second : Bool) (v : ℕ) → StepsBefore π E p second v → StepsBefore π′ E p second v
+  steps-before p second v b = record {
+    points = λ q l side u m. step-there π φs′ c E q side u (b .points q l side u m);
+    sides = λ e u m. step-there π φs′ c E p _ u (b .sides e u m);
+    variables = λ u l. step-there π φs′ c E p second u (b .variables u l);
+  }
+
+  all-covered : AllCovered π E → AllCovered π′ E
+  all-covered a = record { start = a .start; steps = λ p second v l. step-there π φs′ c E p second v (a .steps p second v l) }
+
+  pub carried : {v : Numbers} → ScriptVerdict π E v → (at : ℕ) × ScriptVerdict π′ E (prints (v .n) (v .a) (v .b) at)
+      × ((v .c ≡ at) ⊎ ((v .n ≡ 12) × M (v .c) at))
+  carried (start-uncovered {v = v} l h b) = (v, start-uncovered l h b, inl refl)
+  carried (step-uncovered {p = p} {v = v} second starts l h b) =
+      (v, step-uncovered second starts l (λ s. h (step-there π′ (π .templates) back E p second v s)) (steps-before p second v b), inl refl)
+  carried (not-root {p = p} {t = t} a shows n l) = (
+    0,
+    not-root (all-covered a) (λ q m. show-there π φs′ c E q (shows q m)) (not-root-there π φs′ c E p t n) (λ t′ n′. l t′ (not-root-there π′ (π .templates) back E p t′ n′)),
+    inl refl,
+  )
+  carried (wrong-element {p = p} {t = t} {at = at} a shows n w l) =
+      let m = wrong-in-there π φs′ c E p t at w in
+      let lowest : (t′ at′ : ℕ) → WrongIn π′ E p t′ at′ → m .0 ≤ at′ = λ t′ at′ w′.
+      let b = wrong-in-there π′ (π .templates) back E p t′ at′ w′ in order at (m .0) (b .0) at′ (m .1) (b .1) (l t′ (b .0) (b .2)) in (
+        m .0,
+        wrong-element (all-covered a) (λ q s. show-there π φs′ c E q (shows q s)) (λ t′ n′. n t′ (not-root-there π′ (π .templates) back E p t′ n′)) (m .2) lowest,
+        inr (refl, m .1),
+      )
+  carried (accepted a shows) = (0, accepted (all-covered a) (λ p. show-there π φs′ c E p (shows p)), inl refl)
+
+-- Where M relates no other marks than the same, all four numbers are the same.
+kept : {M : ℕ → ℕ → Type 0} (π : Script) (φs′ : List Items) → Corresponds M (π .templates) φs′ → ((at at′ : ℕ) → M at at′ → at ≡ at′)
+    → (E : ℕ → Environment) {v : Numbers} → ScriptVerdict π E v → ScriptVerdict (withTemplates π φs′) E v
+kept π φs′ c equal E {v} o =
+    let r = carried π φs′ c (λ low low′ at at′ m n l. omega (arith, equal low low′ m, equal at at′ n)) E o in
+    let same : r .0 ≡ v .c = elim (r .2) [ inl e ↦ sym e | inr m ↦ sym (equal (v .c) (r .0) (m .1)) ] in rw same at (r .1)
+
+-- Templates without blank text.
+without-at : (φs : List Items) (t : ℕ) → templateAt (map withoutBlank φs) t ≡ withoutBlank (templateAt φs t)
+unfolding templateAt withoutBlank
+without-at [] t = refl
+without-at (φ ∷ φs) zero = refl
+without-at (φ ∷ φs) (suc zero) = refl
+without-at (φ ∷ φs) (suc (suc t)) = without-at φs (suc t)
+
+without-corresponds : (φs : List Items) → Corresponds Same φs (map withoutBlank φs)
+without-corresponds φs = record {
+  alike = like;
+  stands = λ t at at′ e. (
+    λ s. let r = stands-there (like t) s in rw (sym (r .1) ∙ e) at (r .2),
+    λ s. let r = stands-there (turned (like t)) s in rw (r .1 ∙ sym e) at (r .2),
+  );
+}
+  where
+    like : (t : ℕ) → Alike Same (templateAt φs t) (templateAt (map withoutBlank φs) t)
+    like t = rw (without-at φs t) (without (templateAt φs t))
+
+pub same-verdict : (π : Script) (E : ℕ → Environment) (v : Numbers) → ScriptVerdict π E v ↔ ScriptVerdict (withoutBlankScript π) E v
+same-verdict π E v =
+    let c = without-corresponds (π .templates) in
+    (kept π (map withoutBlank (π .templates)) c (λ at at′ e. e) E, kept (withoutBlankScript π) (π .templates) (turned-round c) (λ at at′ e. sym e) E)

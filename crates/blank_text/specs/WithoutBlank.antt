@@ -1,0 +1,20 @@
+-- Blank text taken out of the templates of a script and of a job, and what of a verdict's numbers it leaves (document 02, F-2). Of items,
+-- `withoutBlank` takes it out.
+use mathlib.Core.Path.{_≡_}
+use mathlib.Core.List.{map}
+use Rattle.verdicts.specs.declared.Numbers.{Numbers}
+use Rattle.pages.specs.Items.{withoutBlank}
+use Rattle.jobs.specs.Job.{Script, Job}
+
+abbrev pub withoutBlankScript : Script → Script
+withoutBlankScript π = record { vocabulary = π .vocabulary; templates = map withoutBlank (π .templates); program = π .program }
+
+abbrev pub withoutBlankJob : Job → Job
+withoutBlankJob j = record { script = withoutBlankScript (j .script); proposal = j .proposal }
+
+-- Two verdicts N A B C are the same but for C where N is 12: there C is the offset of a wrong element, and offsets move with the bytes.
+pub record SameButOffset (v v′ : Numbers) : Type 0 where
+  pub n : v .n ≡ v′ .n
+  pub a : v .a ≡ v′ .a
+  pub b : v .b ≡ v′ .b
+  pub c : (v .n ≡ 12 → ⊥) → v .c ≡ v′ .c
