@@ -2,8 +2,11 @@ pub mod Alike
 pub mod Rightness
 pub mod Languages
 pub mod Scripts
+pub mod Runs
 pub mod Numbered
 pub mod Ranges
+pub mod Anew
 pub mod Pages
 pub mod Jobs
+pub mod Inference
 pub mod Law

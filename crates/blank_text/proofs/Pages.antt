@@ -56,10 +56,10 @@ module _ (D : Vocabulary) {M : ℕ → ℕ → Type 0} (φ φ′ : Items) (a : A
       by-root false = record { n = refl; a = refl; b = refl; c = λ h. refl }
 
 -- A page that is read is read without blank text, with its elements marked anew.
-reads-anew : (D : Vocabulary) (p : List ℕ) (φ : Items) (end : ℕ) → pageSlice D p ≡ whole φ end
+pub page-anew : (D : Vocabulary) (p : List ℕ) (φ : Items) (end : ℕ) → pageSlice D p ≡ whole φ end
     → pageSlice D (written-page (withoutBlank φ)) ≡ whole (marked 0 (withoutBlank φ)) (length (written-page (withoutBlank φ)))
 unfolding written-page
-reads-anew D p φ end e =
+page-anew D p φ end e =
     let x = page-exactly D p φ end .0 e in
     page-back D (withoutBlank φ) (tree-there Page D (without φ) (x .in-range .page)) (omega (
       arith,
@@ -77,7 +77,7 @@ module _ {v p : List ℕ} {D : Vocabulary} {φ : Items} (R : Readable v p D φ) 
         vocabularyEnd = R .vocabularyEnd;
         pageEnd = length (written-page (withoutBlank φ));
         vocabulary-reads = R .vocabulary-reads;
-        page-reads = reads-anew D p φ (R .pageEnd) (R .page-reads);
+        page-reads = page-anew D p φ (R .pageEnd) (R .page-reads);
       } in
       subst₂ SameButOffset (ap numbersOf (sym (judged-of R)) ∙ computes h) (ap numbersOf (sym (judged-of R′)) ∙ computes h′)
       (same-judged D φ (marked 0 (withoutBlank φ)) (like-anew φ 0) (page-closed D p φ (R .pageEnd) (R .page-reads) .gaps))

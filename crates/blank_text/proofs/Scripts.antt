@@ -52,10 +52,9 @@ same-shown φs φs′ program E p = of-statement (statementAt program p)
     of-statement (step a q q′) = ap closedIfShown (of-act a)
     of-statement stop = refl
 
-module _ {M : ℕ → ℕ → Type 0} (π : Script) (φs′ : List Items) (c : Corresponds M (π .templates) φs′) (E : ℕ → Environment) where
-  abbrev There : Script
-  There = withTemplates π φs′
-
+-- Covering goes by the gaps of templates alone.
+module _ {M : ℕ → ℕ → Type 0} (π : Script) (φs′ : List Items) (alike : (t : ℕ) → Alike M (templateAt (π .templates) t) (templateAt φs′ t))
+    (E : ℕ → Environment) where
   same-fragment : (t : ℕ) → fragment t (templateAt (π .templates) t) ≡ fragment t (templateAt φs′ t)
   same-fragment t = fun-ext at-claim
     where
@@ -63,8 +62,8 @@ module _ {M : ℕ → ℕ → Type 0} (π : Script) (φs′ : List Items) (c : C
       at-claim (root m) = refl
       at-claim (edge m g k) = refl
       at-claim (string m h s) = refl
-      at-claim (gapFrom g m) = rw (same-gaps (c .alike t) g)
-      at-claim (attributeGapFrom h m) = rw (same-attribute-gaps (c .alike t) h)
+      at-claim (gapFrom g m) = rw (same-gaps (alike t) g)
+      at-claim (attributeGapFrom h m) = rw (same-attribute-gaps (alike t) h)
 
   same-transfer : (a : Act) (F : Environment) → transfer (π .templates) a F ≡ transfer φs′ a F
   same-transfer (copyTemplate x x′) F = refl
@@ -76,12 +75,19 @@ module _ {M : ℕ → ℕ → Type 0} (π : Script) (φs′ : List Items) (c : C
   same-transfer (plugString x x′ h y) F = refl
   same-transfer (show x) F = refl
 
-  step-there : (p : ℕ) (second : Bool) (v : ℕ) → StepHolds π E p second v → StepHolds There E p second v
+  step-there : (p : ℕ) (second : Bool) (v : ℕ) → StepHolds π E p second v → StepHolds (withTemplates π φs′) E p second v
   step-there p second v = of-statement (statementAt (π .program) p)
     where
-      of-statement : (t : Statement) → StatementHolds π E p t second v → StatementHolds There E p t second v
+      of-statement : (t : Statement) → StatementHolds π E p t second v → StatementHolds (withTemplates π φs′) E p t second v
       of-statement (step a q q′) h = λ n. subst (λ (F : Environment). WithinAt (variableOf v) F (E (cond second q′ q))) (same-transfer a (E p)) (h n)
       of-statement stop h = tt
+
+  pub all-covered : AllCovered π E → AllCovered (withTemplates π φs′) E
+  all-covered a = record { start = a .start; steps = λ p second v l. step-there p second v (a .steps p second v l) }
+
+module _ {M : ℕ → ℕ → Type 0} (π : Script) (φs′ : List Items) (c : Corresponds M (π .templates) φs′) (E : ℕ → Environment) where
+  abbrev There : Script
+  There = withTemplates π φs′
 
   show-there : (p : ℕ) → ShowHolds π E p → ShowHolds There E p
   show-there p h G e page l =
@@ -127,22 +133,22 @@ module _ {M : ℕ → ℕ → Type 0} (π : Script) (φs′ : List Items) (c : C
 
   steps-before : (p : ℕ) (second : Bool) (v : ℕ) → StepsBefore π E p second v → StepsBefore π′ E p second v
   steps-before p second v b = record {
-    points = λ q l side u m. step-there π φs′ c E q side u (b .points q l side u m);
-    sides = λ e u m. step-there π φs′ c E p _ u (b .sides e u m);
-    variables = λ u l. step-there π φs′ c E p second u (b .variables u l);
+    points = λ q l side u m. step-there π φs′ (c .alike) E q side u (b .points q l side u m);
+    sides = λ e u m. step-there π φs′ (c .alike) E p _ u (b .sides e u m);
+    variables = λ u l. step-there π φs′ (c .alike) E p second u (b .variables u l);
   }
 
-  all-covered : AllCovered π E → AllCovered π′ E
-  all-covered a = record { start = a .start; steps = λ p second v l. step-there π φs′ c E p second v (a .steps p second v l) }
+  covered : AllCovered π E → AllCovered π′ E
+  covered = all-covered π φs′ (c .alike) E
 
   pub carried : {v : Numbers} → ScriptVerdict π E v → (at : ℕ) × ScriptVerdict π′ E (prints (v .n) (v .a) (v .b) at)
       × ((v .c ≡ at) ⊎ ((v .n ≡ 12) × M (v .c) at))
   carried (start-uncovered {v = v} l h b) = (v, start-uncovered l h b, inl refl)
   carried (step-uncovered {p = p} {v = v} second starts l h b) =
-      (v, step-uncovered second starts l (λ s. h (step-there π′ (π .templates) back E p second v s)) (steps-before p second v b), inl refl)
+      (v, step-uncovered second starts l (λ s. h (step-there π′ (π .templates) (back .alike) E p second v s)) (steps-before p second v b), inl refl)
   carried (not-root {p = p} {t = t} a shows n l) = (
     0,
-    not-root (all-covered a) (λ q m. show-there π φs′ c E q (shows q m)) (not-root-there π φs′ c E p t n) (λ t′ n′. l t′ (not-root-there π′ (π .templates) back E p t′ n′)),
+    not-root (covered a) (λ q m. show-there π φs′ c E q (shows q m)) (not-root-there π φs′ c E p t n) (λ t′ n′. l t′ (not-root-there π′ (π .templates) back E p t′ n′)),
     inl refl,
   )
   carried (wrong-element {p = p} {t = t} {at = at} a shows n w l) =
@@ -150,10 +156,10 @@ module _ {M : ℕ → ℕ → Type 0} (π : Script) (φs′ : List Items) (c : C
       let lowest : (t′ at′ : ℕ) → WrongIn π′ E p t′ at′ → m .0 ≤ at′ = λ t′ at′ w′.
       let b = wrong-in-there π′ (π .templates) back E p t′ at′ w′ in order at (m .0) (b .0) at′ (m .1) (b .1) (l t′ (b .0) (b .2)) in (
         m .0,
-        wrong-element (all-covered a) (λ q s. show-there π φs′ c E q (shows q s)) (λ t′ n′. n t′ (not-root-there π′ (π .templates) back E p t′ n′)) (m .2) lowest,
+        wrong-element (covered a) (λ q s. show-there π φs′ c E q (shows q s)) (λ t′ n′. n t′ (not-root-there π′ (π .templates) back E p t′ n′)) (m .2) lowest,
         inr (refl, m .1),
       )
-  carried (accepted a shows) = (0, accepted (all-covered a) (λ p. show-there π φs′ c E p (shows p)), inl refl)
+  carried (accepted a shows) = (0, accepted (covered a) (λ p. show-there π φs′ c E p (shows p)), inl refl)
 
 -- Where M relates no other marks than the same, all four numbers are the same.
 kept : {M : ℕ → ℕ → Type 0} (π : Script) (φs′ : List Items) → Corresponds M (π .templates) φs′ → ((at at′ : ℕ) → M at at′ → at ≡ at′)
@@ -163,24 +169,24 @@ kept π φs′ c equal E {v} o =
     let same : r .0 ≡ v .c = elim (r .2) [ inl e ↦ sym e | inr m ↦ sym (equal (v .c) (r .0) (m .1)) ] in rw same at (r .1)
 
 -- Templates without blank text.
-without-at : (φs : List Items) (t : ℕ) → templateAt (map withoutBlank φs) t ≡ withoutBlank (templateAt φs t)
+pub without-at : (φs : List Items) (t : ℕ) → templateAt (map withoutBlank φs) t ≡ withoutBlank (templateAt φs t)
 unfolding templateAt withoutBlank
 without-at [] t = refl
 without-at (φ ∷ φs) zero = refl
 without-at (φ ∷ φs) (suc zero) = refl
 without-at (φ ∷ φs) (suc (suc t)) = without-at φs (suc t)
 
+pub without-alike : (φs : List Items) (t : ℕ) → Alike Same (templateAt φs t) (templateAt (map withoutBlank φs) t)
+without-alike φs t = rw (without-at φs t) (without (templateAt φs t))
+
 without-corresponds : (φs : List Items) → Corresponds Same φs (map withoutBlank φs)
 without-corresponds φs = record {
-  alike = like;
+  alike = without-alike φs;
   stands = λ t at at′ e. (
-    λ s. let r = stands-there (like t) s in rw (sym (r .1) ∙ e) at (r .2),
-    λ s. let r = stands-there (turned (like t)) s in rw (r .1 ∙ sym e) at (r .2),
+    λ s. let r = stands-there (without-alike φs t) s in rw (sym (r .1) ∙ e) at (r .2),
+    λ s. let r = stands-there (turned (without-alike φs t)) s in rw (r .1 ∙ sym e) at (r .2),
   );
 }
-  where
-    like : (t : ℕ) → Alike Same (templateAt φs t) (templateAt (map withoutBlank φs) t)
-    like t = rw (without-at φs t) (without (templateAt φs t))
 
 pub same-verdict : (π : Script) (E : ℕ → Environment) (v : Numbers) → ScriptVerdict π E v ↔ ScriptVerdict (withoutBlankScript π) E v
 same-verdict π E v =

@@ -1,5 +1,5 @@
--- Blank text taken out of the templates of a script and of a job, and what of a verdict's numbers it leaves (document 02, F-2). Of items,
--- `withoutBlank` takes it out.
+-- Blank text taken out of the templates of a script and of a job (document 02, F-2), and which of a verdict's numbers may change by it.
+-- `withoutBlank` (Items) takes it out of items.
 use mathlib.Core.Path.{_≡_}
 use mathlib.Core.List.{map}
 use Rattle.verdicts.specs.declared.Numbers.{Numbers}

@@ -3,7 +3,7 @@
 -- verdict 12 its place.
 --
 -- Blank text (document 02, F-2) is an item that source 000's grammar does not have. The source's functions read it as no content: it has
--- no gap, its word is empty, and there is nothing in it to accept; a derivation and a run copy it.
+-- no gap, its word is empty, and it is accepted as text is; a derivation and a run copy it.
 use Prim.Native.Nat.{ℕ, zero, suc}
 use mathlib.Core.List.{List, [], _∷_}
 use mathlib.Core.Bool.{Bool, false, _||_}

@@ -61,7 +61,8 @@ pub record ElementRight (D : Vocabulary) (e : ℕ) (δ : List Attribute) (φ : I
   pub contents : (c : ℕ) → c ∈ word φ → c ∈ rule .contents
   pub clauses : (ψ : Formula) → ψ ∈ rule .clauses → Meets δ φ ψ
 
--- D ⊨ φ. A gap has no rule in section 6: a page has none left. Blank text has none either: it is accepted as text is.
+-- D ⊨ φ. Section 6 has no rule for a gap: a page has no gap left, and none is accepted. Nor has it one for blank text, which is accepted
+-- as text is.
 unfoldable mutual
   pub Accepts : Vocabulary → Items → Type 0
   Accepts D none = Unit {0}

@@ -1,6 +1,6 @@
 -- Which vocabularies, pages and templates have all their parts in range (document 01, "A job, command by command", Vocabulary, Templates and
--- the last paragraph; "Verdicts", 5, 8 and Judge a page). The numbers here are the document's own, not those of the definitions that read,
--- but for the number of named strings, 64.
+-- the last paragraph; "Verdicts", 5, 8 and Judge a page; document 02, F-2, for `29`). The numbers here are the document's own, not those of
+-- the definitions that read, but for the number of named strings, 64.
 use Prim.Native.Nat.{ℕ, suc, _+_, _^_, _≤_, _<_, max}
 use mathlib.Core.Path.{_≡_}
 use mathlib.Core.List.{List, [], _∷_, map}

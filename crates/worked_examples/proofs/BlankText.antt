@@ -2,15 +2,16 @@
 -- as no content anywhere: not in the allowed contents, not in a clause, not beside the root." Pages with it are judged in `JudgingJ1`.
 use Prim.Native.Nat.{ℕ}
 use native.Mathlib.Omega.{arith}
-use mathlib.Core.Path.{_≡_, refl}
-use mathlib.Core.List.{List, [], _∷_}
+use mathlib.Core.Path.{_≡_, refl, sym, subst}
+use mathlib.Core.List.{List, [], _∷_, List·Memᴰ·cases-cons, List·Memᴰ·not-nil}
+use mathlib.Core.Logic.{⊎-elim}
 use mathlib.Core.Bool.{true, false≢true}
 use Rattle.commands.specs.Commands.{command}
 use Rattle.commands.specs.Reading.{whole, enough}
-use Rattle.vocabularies.specs.Vocabulary.{neg, content, Vocabulary}
+use Rattle.vocabularies.specs.Vocabulary.{neg, content, Rule, Vocabulary, ruleOf}
 use Rattle.pages.specs.Items.{string, text, blank, gap, element, Items, none, more, one, _⋈_, withoutBlank}
 use Rattle.pages.specs.ItemReading.{templates}
-use Rattle.pages.specs.RightPages.{word, Meets, RootAlone}
+use Rattle.pages.specs.RightPages.{word, Meets, ElementRight, RootAlone}
 use Rattle.programs.specs.Program.{statementAt, templateAt}
 use Rattle.programs.specs.Runs.{plugged, closed, shown}
 use Rattle.summaries.specs.Proposal.{root, edge, gapFrom, claim}
@@ -75,8 +76,12 @@ page-derived =
     let inside = item-then blank-stays (item-then text-stays (item-then blank-taken texts refl) refl) refl in
     (1, (refl, item-then blank-stays (item-then blank-taken (item-then (element-keeps (fixed no-attribute) inside) (item-then blank-stays nothing refl) refl) refl) refl))
 
+-- Element 1, the root, may hold nothing, and must not hold text.
+abbrev empty-rule : Rule
+empty-rule = record { element = 1; attributes = []; contents = []; clauses = neg (content 0) ∷ [] }
+
 abbrev vocabulary : Vocabulary
-vocabulary = record { rules = []; root = 1 }
+vocabulary = record { rules = empty-rule ∷ []; root = 1 }
 
 -- "Not beside the root": neither what stood there in template 1 counts nor what came of the gap.
 pub page-alone : RootAlone vocabulary page
@@ -101,7 +106,16 @@ pub words : (word contents ≡ 0 ∷ 0 ∷ []) × (word (one blank) ≡ [])
 unfolding word
 words = (refl, refl)
 
--- "Not in a clause": where clauses `12 15 c` forbid every content, template 2 may be plugged in.
-pub still-without : (c : ℕ) → Meets [] (plugged 0 (templateAt indented 2) (one (gap 0))) (neg (content c))
-unfolding Meets templateAt plugged
-still-without c there = omega (arith, there .1)
+-- "Not in the allowed contents, not in a clause": around template 2, plugged into it, an element that must be empty is right.
+pub still-empty : ElementRight vocabulary 1 [] (plugged 0 (templateAt indented 2) (one (gap 0)))
+unfolding Meets word ruleOf templateAt plugged
+still-empty = record {
+  rule = empty-rule;
+  declares = refl;
+  attributes = λ a i. absurd (List·Memᴰ·not-nil i);
+  contents = λ c i. absurd (List·Memᴰ·not-nil i);
+  clauses = λ ψ i. ⊎-elim
+      (λ q. subst (λ ψ. Meets [] (one blank) ψ) (sym q) (λ there. omega (arith, there .1)))
+      (λ j. absurd (List·Memᴰ·not-nil j))
+      (List·Memᴰ·cases-cons i);
+}

@@ -26,7 +26,7 @@ pages =
     ∷ record { page = 0x23 ∷ 0x02 ∷ 0x26 ∷ 0x27 ∷ []; numbers = prints 11 0 0 0 }
     ∷ record { page = 0x27 ∷ 0x27 ∷ []; numbers = prints 3 1 1 0 }
     ∷ record { page = 0x23 ∷ 0x03 ∷ 0x26 ∷ 0x27 ∷ []; numbers = prints 8 0 1 0 }
-    -- `29` beside the root on either side, in element 1, which may hold no text, and alone in element 2: no content anywhere.
+    -- `29` beside the root on either side and in element 1, which may hold no text; in element 2, which may, it only reads.
     ∷ record { page = 0x29 ∷ 0x23 ∷ 0x01 ∷ 0x29 ∷ 0x23 ∷ 0x02 ∷ 0x29 ∷ 0x26 ∷ 0x29 ∷ 0x26 ∷ 0x29 ∷ 0x27 ∷ []; numbers = prints 0 0 0 0 }
     -- It does not stand for the element 2 that element 1 must hold; the place is that of the `23` after it.
     ∷ record { page = 0x29 ∷ 0x23 ∷ 0x01 ∷ 0x29 ∷ 0x26 ∷ 0x27 ∷ []; numbers = prints 12 0 0 1 }

@@ -1,5 +1,4 @@
--- Every row of the table has the verdict that it says. Two rounds of pattern sets are
--- enough for every row.
+-- Every row of the tables has the verdict that it says. Two rounds of pattern sets are enough for every row.
 use Prim.Native.Nat.{ℕ, zero, suc}
 use native.Mathlib.Omega.{arith}
 use mathlib.Core.Path.{_≡_, refl, sym, ap, subst}
@@ -25,6 +24,7 @@ use Rattle.patterns.specs.contracts.Elements.{wrongUnder}
 use Rattle.patterns.proofs.ReadVocabularies.{Bytes}
 use Rattle.sets.proofs.Booleans.{and-left, and-right}
 use Rattle.worked_verdicts.specs.Table.{Row, RowHolds, table}
+use Rattle.worked_verdicts.specs.BlankText.{blankTable}
 use Rattle.worked_verdicts.proofs.Verdicts.{verdictBy, verdict-by}
 
 abbrev areBytes : List ℕ → Bool
@@ -47,9 +47,9 @@ computed r = record { bytes = areBytes (r .bytes); numbers = verdictBy 2 (r .byt
 abbrev stated : Row → Answer
 stated r = record { bytes = true; numbers = some (r .numbers) }
 
-answers : map computed table ≡ map stated table
+answers : (map computed table ≡ map stated table) × (map computed blankTable ≡ map stated blankTable)
 unfolding verdictBy command ruleOf withFacts gapIn templateAt sameCode held wrongUnder classOf join patternOf isIn precedes holdsValue truthOf
-answers = refl
+answers = (refl, refl)
 
 same-at : {A B : Type 0} (f g : A → B) (xs : List A) → map f xs ≡ map g xs → (a : A) → a ∈ xs → f a ≡ g a
 same-at f g [] e a i = absurd (List·Memᴰ·not-nil i)
@@ -58,9 +58,15 @@ same-at f g (x ∷ xs) e a i =
     let rest : map f xs ≡ map g xs = cc in
     ⊎-elim (λ q. subst (λ b. f b ≡ g b) (sym q) first) (same-at f g xs rest a) (List·Memᴰ·cases-cons i)
 
--- The theorem for all rows.
-pub rows-hold : (r : Row) → r ∈ table → RowHolds r
-rows-hold r i =
-    let e : computed r ≡ stated r = same-at computed stated table answers r i in
+each-holds : (rows : List Row) → map computed rows ≡ map stated rows → (r : Row) → r ∈ rows → RowHolds r
+each-holds rows all r i =
+    let e : computed r ≡ stated r = same-at computed stated rows all r i in
     let is = verdict-by 2 (r .bytes) (are-bytes (r .bytes) (ap (λ (a : Answer). a .bytes) e)) (r .numbers) (ap (λ (a : Answer). a .numbers) e) in
     record { is = is; only = λ v h. unique h is }
+
+-- The theorem for all rows of the marked cases, and that for jobs with blank text.
+pub rows-hold : (r : Row) → r ∈ table → RowHolds r
+rows-hold = each-holds table (answers .0)
+
+pub blank-rows-hold : (r : Row) → r ∈ blankTable → RowHolds r
+blank-rows-hold = each-holds blankTable (answers .1)
