@@ -54,6 +54,8 @@ from examples/J1 $bin/page_check
 same 'page_check, J1' '0 0 0 0\n' ''
 from examples/J1.indented $bin/page_check
 same 'page_check, J1 indented' '0 0 0 0\n' ''
+from examples/J1.framed $bin/page_check
+same 'page_check, J1 framed' '0 0 0 0\n' ''
 from "$made/more" $bin/page_check
 same 'page_check, J1 and 00' '3 121 0 0\n' ''
 fed pieces $bin/page_check "$made/first" "$made/second" "$made/00"

@@ -1,11 +1,11 @@
 #!/bin/sh
 # vectors.sh VECTORS: makes anew what the programs of the gate read and have to print. VECTORS is the folder of supplied vectors; the
 # random records and those at the limits come from tests/independent, always the same for these seeds. The records called blank have
-# much blank text.
+# much blank text, those called frames many shows in a frame.
 set -eu
 vectors=$(cd "$1" && pwd)
 # What the calls answer since the newest request; it takes the place of the folders of earlier ones.
-newest="$vectors/F-2"
+newest="$vectors/F-3"
 cd "$(dirname "$0")/.."
 : "${CARGO_TARGET_DIR:=$PWD/target/independent}"
 export CARGO_TARGET_DIR
@@ -21,6 +21,8 @@ make="$CARGO_TARGET_DIR/release"
 "$make/make-pages" 2 2000 "$made/blank-pages.bin" "$made/blank-pages.verdicts" blank
 "$make/make-jobs" 2 1000 "$made/blank-jobs.bin" "$made/blank-jobs.verdicts" blank
 "$make/make-scripts" 2 500 "$made/blank-scripts.bin" "$made/blank-scripts.lines" blank
+"$make/make-jobs" 3 1000 "$made/framed-jobs.bin" "$made/framed-jobs.verdicts" frames
+"$make/make-scripts" 3 500 "$made/framed-scripts.bin" "$made/framed-scripts.lines" frames
 
 # length N: N as 32 bits, lowest byte first.
 length() {
@@ -41,14 +43,14 @@ echo '1 0 0 0' > crates/page_check/stdout
 
 # At the end a job that is too long, J1, and a byte of a length: no line is for that one.
 {
-    cat "$vectors"/jobs-*.bin "$newest/job.bin" "$made/jobs.bin" "$made/blank-jobs.bin" "$made/job-limits.bin"
+    cat "$vectors"/jobs-*.bin "$newest/job.bin" "$made/jobs.bin" "$made/blank-jobs.bin" "$made/framed-jobs.bin" "$made/job-limits.bin"
     too_long examples/J1
     length 121
     cat examples/J1
     printf '\000'
 } > crates/check_records/stdin
 {
-    cat "$vectors"/jobs-*.verdicts "$newest/job.lines" "$made/jobs.verdicts" "$made/blank-jobs.verdicts" "$made/job-limits.verdicts"
+    cat "$vectors"/jobs-*.verdicts "$newest/job.lines" "$made/jobs.verdicts" "$made/blank-jobs.verdicts" "$made/framed-jobs.verdicts" "$made/job-limits.verdicts"
     echo '1 0 0 0'
     echo '0 0 0 0'
 } > crates/check_records/stdout
@@ -79,14 +81,14 @@ tail -c 8 examples/page.records > "$made/page"
 
 # At the end a script that is too long, J1's, and a byte of a length.
 {
-    cat "$newest/infer.bin" "$made/scripts.bin" "$made/blank-scripts.bin"
+    cat "$newest/infer.bin" "$made/scripts.bin" "$made/blank-scripts.bin" "$made/framed-scripts.bin"
     too_long examples/J1.script
     length 56
     cat examples/J1.script
     printf '\000'
 } > crates/infer_records/stdin
 {
-    cat "$newest/infer.lines" "$made/scripts.lines" "$made/blank-scripts.lines"
+    cat "$newest/infer.lines" "$made/scripts.lines" "$made/blank-scripts.lines" "$made/framed-scripts.lines"
     echo '1 0 0 0'
     echo "ok 65 $(tail -c 65 examples/J1 | od -An -v -tx1 | tr -d ' \n' | tr a-f A-F)"
 } > crates/infer_records/stdout

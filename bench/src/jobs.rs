@@ -5,9 +5,10 @@ use independent::least::with_least;
 
 type Maker = fn(usize) -> Vec<u8>;
 
-pub const GROWING: [(&str, Maker); 7] = [
+pub const GROWING: [(&str, Maker); 8] = [
     ("mostly proposal", proposal),
     ("31 templates, 28 shows", shows),
+    ("31 templates, 28 framed shows", framed),
     ("many rounds, by templates", rounds),
     ("8 facts, by clauses", facts),
     ("thousands of clauses", clauses),
@@ -55,22 +56,24 @@ fn vocabulary(last: u8, clauses: &[Vec<u8>]) -> Vec<u8> {
     v
 }
 
-/// Variable 0 is template 1, then it is shown at as many points as asked.
-fn program(shows: u8) -> Vec<u8> {
+/// A show of variable 0, without its next points.
+const SHOW: &[u8] = &[0x37, 0];
+
+/// Variable 0 is template 1, then come these shows of it, at the last points.
+fn program(shows: &[Vec<u8>]) -> Vec<u8> {
     let mut bytes = vec![0x31, 0, 1, 1, 1];
-    for p in 1..POINTS - 1 {
-        if p < POINTS - 1 - shows {
-            bytes.extend([0x30, 0, 0, p + 1, p + 1]);
-        } else {
-            bytes.extend([0x37, 0, p + 1, p + 1]);
-        }
+    let copies = POINTS as usize - 2 - shows.len();
+    let copy = vec![0x30, 0, 0];
+    for (p, statement) in (1..).zip(std::iter::repeat(&copy).take(copies).chain(shows)) {
+        bytes.extend(statement);
+        bytes.extend([p + 1, p + 1]);
     }
     bytes.extend([0x38, 0x3F]);
     bytes
 }
 
 /// The edges are held from point 1 on.
-fn job(vocabulary: Vec<u8>, templates: Vec<Vec<u8>>, shows: u8, edges: &[[u8; 3]]) -> Vec<u8> {
+fn job(vocabulary: Vec<u8>, templates: Vec<Vec<u8>>, shows: &[Vec<u8>], edges: &[[u8; 3]]) -> Vec<u8> {
     let mut start = vocabulary;
     for template in templates {
         start.push(0x20);
@@ -113,12 +116,11 @@ fn proposal(quarters: usize) -> Vec<u8> {
         }
     }
     edges.truncate(130 * quarters);
-    job(vocabulary(1, &[]), templates, 1, &edges)
+    job(vocabulary(1, &[]), templates, &[SHOW.to_vec()], &edges)
 }
 
-/// A chain of elements in one another, shown 28 times.
-fn shows(quarters: usize) -> Vec<u8> {
-    let last = 7 * quarters as u8 + 3;
+/// A chain of elements in one another, with these shows.
+fn nested(last: u8, shows: &[Vec<u8>]) -> Vec<u8> {
     let mut templates = Vec::new();
     let mut edges = Vec::new();
     for n in 1..=last {
@@ -128,7 +130,18 @@ fn shows(quarters: usize) -> Vec<u8> {
             edges.extend([[n, 0, n + 1], [n, 1, n + 1]]);
         }
     }
-    job(vocabulary(3, &[vec![0x16, 0, 2], vec![0x11, 0x15, 1, 0x15, 0]]), templates, 28, &edges)
+    job(vocabulary(3, &[vec![0x16, 0, 2], vec![0x11, 0x15, 1, 0x15, 0]]), templates, shows, &edges)
+}
+
+fn shows(quarters: usize) -> Vec<u8> {
+    nested(7 * quarters as u8 + 3, &vec![SHOW.to_vec(); 28])
+}
+
+/// The same in frames, each another template than the one before, so that no two shows in turn have the same graph.
+fn framed(quarters: usize) -> Vec<u8> {
+    let last = 7 * quarters as u8 + 3;
+    let shows: Vec<Vec<u8>> = (0..28).map(|i| vec![0x39, 0, 1 + i % last, 0]).collect();
+    nested(last, &shows)
 }
 
 /// Each template hands its contents on to the one before: a round for each.
@@ -140,7 +153,7 @@ fn chain(length: u8, clauses: usize) -> Vec<u8> {
         edges.extend([[n, 0, 0], [n, 0, if n < length { n + 1 } else { 2 }]]);
     }
     let clauses: Vec<Vec<u8>> = (0..clauses).map(|i| eight(2 + i as u8 % 23)).collect();
-    job(vocabulary(31, &clauses), templates, 1, &edges)
+    job(vocabulary(31, &clauses), templates, &[SHOW.to_vec()], &edges)
 }
 
 fn rounds(quarters: usize) -> Vec<u8> {
@@ -154,7 +167,7 @@ fn facts(quarters: usize) -> Vec<u8> {
 fn clauses(quarters: usize) -> Vec<u8> {
     let clauses: Vec<Vec<u8>> = (0..2200 * quarters).map(|i| vec![0x11, 0x15, (i % 60) as u8, 0x12, 0x15, (i % 60) as u8]).collect();
     let templates = vec![vec![0x23, 1, 0x22, 0, 0x21, 0x26], vec![0x23, 2, 0x26]];
-    job(vocabulary(3, &clauses), templates, 1, &[[1, 0, 0], [1, 0, 2]])
+    job(vocabulary(3, &clauses), templates, &[SHOW.to_vec()], &[[1, 0, 0], [1, 0, 2]])
 }
 
 /// A template of many gaps, each with this after it.
@@ -174,7 +187,7 @@ fn many_gaps(count: usize, after: &[u8]) -> Vec<u8> {
         templates.push(vec![0x23, e, 0x26]);
     }
     let order = vec![0x11, 0x16, 2, 3, 0x12, 0x16, 2, 3];
-    job(vocabulary(9, &[eight(2), order]), templates, 1, &edges)
+    job(vocabulary(9, &[eight(2), order]), templates, &[SHOW.to_vec()], &edges)
 }
 
 fn gaps(quarters: usize) -> Vec<u8> {

@@ -32,36 +32,37 @@ compare() {
     fi
 }
 
-# compare_older PROGRAM RECORDS LINES SLICES: the lines are older than F-2. A `29` that the reading came to was refused
-# with 3 there; only such answers may have moved.
+# compare_older COMMANDS PROGRAM RECORDS LINES SLICES: the lines are older than the commands. One of these that the
+# reading came to was refused with 3 there; only such answers may have moved.
 compare_older() {
-    answer "$1" "$2" "$3"
-    "$programs/refused-at-blank" "$4" "$3" < "$2" > "$work/refused"
+    answer "$2" "$3" "$4"
+    "$programs/refused-at" "$1" "$5" "$4" < "$3" > "$work/refused"
     if grep -vxF -f "$work/refused" "$work/differing" > "$work/unexplained"; then
-        echo "$name: $(wc -l < "$work/unexplained") of $lines differ, not refused with 3 at a 29 before"
+        echo "$name: $(wc -l < "$work/unexplained") of $lines differ, not refused with 3 at $1 before"
         status=1
     elif [ "$differ" -eq 0 ]; then
         echo "$name: all $lines agree"
     else
-        echo "$name: $((lines - differ)) of $lines agree, $differ moved, each refused with 3 at a 29 before"
+        echo "$name: $((lines - differ)) of $lines agree, $differ moved, each refused with 3 at $1 before"
     fi
 }
 
 for records in "$vectors"/pages*.bin; do
-    compare_older judge-records "$records" "${records%.bin}.verdicts" 2
+    compare_older 29,39 judge-records "$records" "${records%.bin}.verdicts" 2
 done
 for records in "$vectors"/jobs*.bin; do
     # A job refused by 9 to 12 reads.
     awk '{ print ($1 > 8) ? "0 0 0 0" : $0 }' "${records%.bin}.verdicts" > "$work/reading"
-    compare_older read-records "$records" "$work/reading" 1
-    compare_older check-records "$records" "${records%.bin}.verdicts" 1
+    compare_older 29,39 read-records "$records" "$work/reading" 1
+    compare_older 29,39 check-records "$records" "${records%.bin}.verdicts" 1
 done
 for kind in judge:judge:2 check:job:1 infer:infer:1 run:run:2; do
     program="${kind%%:*}-records"
     slices=${kind##*:}
     kind=${kind#*:}
     kind=${kind%:*}
-    compare_older "$program" "$vectors/F-1/$kind.bin" "$vectors/F-1/$kind.lines" "$slices"
-    compare "$program" "$vectors/F-2/$kind.bin" "$vectors/F-2/$kind.lines"
+    compare_older 29,39 "$program" "$vectors/F-1/$kind.bin" "$vectors/F-1/$kind.lines" "$slices"
+    compare_older 39 "$program" "$vectors/F-2/$kind.bin" "$vectors/F-2/$kind.lines" "$slices"
+    compare "$program" "$vectors/F-3/$kind.bin" "$vectors/F-3/$kind.lines"
 done
 exit $status

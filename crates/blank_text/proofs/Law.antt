@@ -1,6 +1,6 @@
 -- Blank text changes nothing (document 02, F-2): taken out of a page or of a job's templates it changes no page's rightness and, where the
--- bytes can be read, no verdict's number; offsets move with the bytes. Of bytes that cannot be read (1 to 8) nothing is claimed: a `29`
--- among attributes gives 3, and one byte too many gives 1, whatever it is.
+-- bytes can be read, no verdict's number; offsets move with the bytes. Of bytes that cannot be read (1 to 8) nothing is claimed: a `24`
+-- or `25` right behind a `29` gets 3, and a job or page of 65,536 bytes gets 1, though either may read without its `29`s.
 use Prim.Native.Nat.{ℕ}
 use mathlib.Core.Path.{_≡_, sym, subst}
 use mathlib.Core.List.{List, map, Memᴰ·map, Memᴰ·of-map}

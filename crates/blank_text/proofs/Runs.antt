@@ -6,7 +6,7 @@ use mathlib.Core.Bool.{Bool, true, false, cond}
 use mathlib.Core.Option.{Option}
 use lib.Dec.{eqb}
 use Rattle.pages.specs.Items.{Value, Item, text, blank, gap, element, Items, none, more, _⋈_, withoutBlank, withoutBlankItem}
-use Rattle.programs.specs.Program.{Act, copyTemplate, setTemplate, copyString, setString, anyString, plug, plugString, show, Statement, step, stop, statementAt}
+use Rattle.programs.specs.Program.{Act, copyTemplate, setTemplate, copyString, setString, anyString, plug, plugString, show, showFramed, Statement, step, stop, statementAt, templateAt}
 use Rattle.programs.specs.Runs.{filled, replaced, replacedItem, stay, stayOpen, plugged, pluggedString, closed, Choice, State, update, actTemplates, actStrings, actPages, after, runFrom, shown}
 use Rattle.blank_text.proofs.Scripts.{without-at}
 
@@ -70,6 +70,7 @@ module _ (φs : List Items) where
     act-templates (plug x x′ g x″) Y = updated x _ _ (ap₂ (plugged g) (same x″) (same x′) ∙ without-plugged g (X x″) (X x′))
     act-templates (plugString x x′ h y) Y = updated x _ _ (ap (pluggedString h (Y y)) (same x′) ∙ without-plugged-string h (Y y) (X x′))
     act-templates (show x) Y = same
+    act-templates (showFramed x t g) Y = same
 
     act-pages : (a : Act) → actPages there a X′ ≡ map withoutBlank (actPages φs a X)
     act-pages (copyTemplate x x′) = refl
@@ -80,6 +81,9 @@ module _ (φs : List Items) where
     act-pages (plug x x′ g x″) = refl
     act-pages (plugString x x′ h y) = refl
     act-pages (show x) = ap (λ (φ : Items). φ ∷ []) (ap closed (same x) ∙ without-closed (X x))
+    act-pages (showFramed x t g) =
+        ap (λ (φ : Items). closed φ ∷ []) (ap₂ (plugged g) (same x) (without-at φs t) ∙ without-plugged g (X x) (templateAt φs t))
+        ∙ ap (λ (φ : Items). φ ∷ []) (without-closed (plugged g (X x) (templateAt φs t)))
 
   -- A state there is the one here, but for blank text.
   record Without (σ σ′ : State) : Type 0 where

@@ -8,7 +8,7 @@ use mathlib.Core.Logic.{_↔_, _⊎_, inl, inr}
 use Rattle.verdicts.specs.declared.Numbers.{Numbers}
 use Rattle.verdicts.specs.Printed.{prints}
 use Rattle.pages.specs.Items.{Items, withoutBlank}
-use Rattle.programs.specs.Program.{Act, copyTemplate, setTemplate, copyString, setString, anyString, plug, plugString, show, Statement, step, stop, statementAt, templateAt}
+use Rattle.programs.specs.Program.{Act, copyTemplate, setTemplate, copyString, setString, anyString, plug, plugString, show, showFramed, Statement, step, stop, statementAt, templateAt}
 use Rattle.summaries.specs.Proposal.{Claim, root, edge, string, gapFrom, attributeGapFrom}
 use Rattle.summaries.specs.ProposalReading.{variableOf}
 use Rattle.summaries.specs.Summaries.{Environment, fragment, transfer}
@@ -33,26 +33,7 @@ pub record Corresponds (M : ℕ → ℕ → Type 0) (φs φs′ : List Items) : 
 turned-round : {M : ℕ → ℕ → Type 0} {φs φs′ : List Items} → Corresponds M φs φs′ → Corresponds (Turned M) φs′ φs
 turned-round c = record { alike = λ t. turned (c .alike t); stands = λ t at at′ m. (c .stands t at′ at m .1, c .stands t at′ at m .0) }
 
--- Which graph is shown does not hang on the templates.
-same-shown : (φs φs′ : List Items) (program : List Statement) (E : ℕ → Environment) (p : ℕ) → graphShown φs program E p ≡ graphShown φs′ program E p
-unfolding graphShown
-same-shown φs φs′ program E p = of-statement (statementAt program p)
-  where
-    of-act : (a : Act) → summaryShown φs a (E p) ≡ summaryShown φs′ a (E p)
-    of-act (copyTemplate x x′) = refl
-    of-act (setTemplate x t) = refl
-    of-act (copyString y y′) = refl
-    of-act (setString y s) = refl
-    of-act (anyString y) = refl
-    of-act (plug x x′ g x″) = refl
-    of-act (plugString x x′ h y) = refl
-    of-act (show x) = refl
-
-    of-statement : (t : Statement) → statementGraph φs t (E p) ≡ statementGraph φs′ t (E p)
-    of-statement (step a q q′) = ap closedIfShown (of-act a)
-    of-statement stop = refl
-
--- Covering goes by the gaps of templates alone.
+-- Covering, and which graph is shown, go by the gaps of templates alone.
 module _ {M : ℕ → ℕ → Type 0} (π : Script) (φs′ : List Items) (alike : (t : ℕ) → Alike M (templateAt (π .templates) t) (templateAt φs′ t))
     (E : ℕ → Environment) where
   same-fragment : (t : ℕ) → fragment t (templateAt (π .templates) t) ≡ fragment t (templateAt φs′ t)
@@ -74,6 +55,26 @@ module _ {M : ℕ → ℕ → Type 0} (π : Script) (φs′ : List Items) (alike
   same-transfer (plug x x′ g x″) F = refl
   same-transfer (plugString x x′ h y) F = refl
   same-transfer (show x) F = refl
+  same-transfer (showFramed x t g) F = refl
+
+  same-shown : (p : ℕ) → graphShown (π .templates) (π .program) E p ≡ graphShown φs′ (π .program) E p
+  unfolding graphShown
+  same-shown p = of-statement (statementAt (π .program) p)
+    where
+      of-act : (a : Act) → summaryShown (π .templates) a (E p) ≡ summaryShown φs′ a (E p)
+      of-act (copyTemplate x x′) = refl
+      of-act (setTemplate x t) = refl
+      of-act (copyString y y′) = refl
+      of-act (setString y s) = refl
+      of-act (anyString y) = refl
+      of-act (plug x x′ g x″) = refl
+      of-act (plugString x x′ h y) = refl
+      of-act (show x) = refl
+      of-act (showFramed x t g) = rw (same-fragment t)
+
+      of-statement : (t : Statement) → statementGraph (π .templates) t (E p) ≡ statementGraph φs′ t (E p)
+      of-statement (step a q q′) = ap closedIfShown (of-act a)
+      of-statement stop = refl
 
   step-there : (p : ℕ) (second : Bool) (v : ℕ) → StepHolds π E p second v → StepHolds (withTemplates π φs′) E p second v
   step-there p second v = of-statement (statementAt (π .program) p)
@@ -92,14 +93,14 @@ module _ {M : ℕ → ℕ → Type 0} (π : Script) (φs′ : List Items) (c : C
   show-there : (p : ℕ) → ShowHolds π E p → ShowHolds There E p
   show-there p h G e page l =
       let b = derived-there (Turned M) φs′ (π .templates) (turned-round c .alike) G (l .0) page (l .1) in
-      right-there (π .vocabulary) (turned (b .2)) (h G (same-shown (π .templates) φs′ (π .program) E p ∙ e) (b .0) (l .0, b .1))
+      right-there (π .vocabulary) (turned (b .2)) (h G (same-shown π φs′ (c .alike) E p ∙ e) (b .0) (l .0, b .1))
 
   not-root-there : (p t : ℕ) → NotRootAt π E p t → NotRootAt There E p t
   not-root-there p t n =
       let l = derived-there M (π .templates) φs′ (c .alike) (n .graph) t (n .page) (n .derived) in
       record {
         graph = n .graph;
-        shows = same-shown φs′ (π .templates) (π .program) E p ∙ n .shows;
+        shows = sym (same-shown π φs′ (c .alike) E p) ∙ n .shows;
         page = l .0;
         derived = l .1;
         other = λ r. n .other (alone-there (π .vocabulary) (turned (l .2)) r);
@@ -114,7 +115,7 @@ module _ {M : ℕ → ℕ → Type 0} (π : Script) (φs′ : List Items) (c : C
         m .1,
         record {
           graph = w .graph;
-          shows = same-shown φs′ (π .templates) (π .program) E p ∙ w .shows;
+          shows = sym (same-shown π φs′ (c .alike) E p) ∙ w .shows;
           page = l .0;
           derived = (r, l .1);
           wrong = m .2;

@@ -17,46 +17,49 @@ use Rattle.summaries.specs.Summaries.{Summary, Environment, entries}
 use Rattle.summaries.specs.Languages.{closedSummary, graphShown}
 use Rattle.graphs.specs.contracts.Graphs.{Keeps, SameGraph, nothing}
 use Rattle.jobs.specs.Job.{Script, Job}
+use Rattle.jobs.specs.contracts.ScriptTables.{StatementStands}
+use Rattle.programs.specs.Program.{statementAt}
 use Rattle.jobs.specs.JobVerdict.{ShowHolds, AllCovered, ScriptVerdict, not-root, wrong-element, accepted}
 use Rattle.covering.proofs.Whole.{past-stops}
 use Rattle.patterns.proofs.JobShows.{nothing-shown}
 use Rattle.shows.specs.declared.TemplateTables.{TemplateTables}
 use Rattle.shows.specs.declared.Showing.{Showing}
-use Rattle.shows.specs.declared.Showing.the-variants.{Nothing, Variable}
+use Rattle.shows.specs.declared.Showing.the-variants.{Nothing, Page}
+use Rattle.shows.specs.declared.Source.{Source}
 use Rattle.shows.specs.declared.Shown.{Shown}
 use Rattle.shows.specs.declared.Shown.the-variants.{Right, NotRoot, Wrong}
-use Rattle.shows.specs.contracts.Promises.{ShowFound, PointStands, shownAt, ShowsAt, HoldsShown, ShowAt, DecidesShow}
+use Rattle.shows.specs.contracts.Promises.{ShowFound, PointStands, shownAt, SourceFits, madeFrom, ShowsAt, HoldsShown, ShowAt, DecidesShow}
 use Rattle.checker.specs.contracts.Promises.{faultAt, ReadAt, RightGraph, PassesBy, PassedBy}
 
--- What a show of a variable at a point shows.
-abbrev closed : Job → ℕ → ℕ → Summary
-closed j p x = closedSummary (entries (j .proposal) p .template x)
+-- What a show at a point shows.
+abbrev closed : Job → ℕ → Source → Summary
+closed j p source = closedSummary (madeFrom j p source)
 
 -- A point whose statement stands at an offset.
-module _ (s heads : List ℕ) (place p : ℕ) (j : Job) (stands : PointStands s heads place p j) (what : Showing) (tells : ShowsAt s place what) where
+module _ (s heads gaps : List ℕ) (place p : ℕ) (j : Job) (stands : PointStands s heads gaps place p j) (what : Showing) (tells : ShowsAt s place what) where
   pub shows-nothing : what ≡ Nothing → ShowHolds (j .script) (entries (j .proposal)) p
-  shows-nothing e = nothing-shown (j .script) (entries (j .proposal)) p (subst (ShowsAt s place) e tells heads p j stands)
+  shows-nothing e = nothing-shown (j .script) (entries (j .proposal)) p (subst (ShowsAt s place) e tells heads gaps p j stands)
 
-  module _ (x : ℕ) (e : what ≡ Variable x) (empty : List ℕ) (holds-none : Keeps empty nothing) (graph : List ℕ) (loads : HoldsShown s heads p x empty graph) where
-    shown : (x < 4) × (shownAt j p ≡ some (closed j p x))
-    shown = subst (ShowsAt s place) e tells heads p j stands
+  module _ (source : Source) (e : what ≡ Page source) (empty : List ℕ) (holds-none : Keeps empty nothing) (graph : List ℕ) (loads : HoldsShown s heads gaps p source empty graph) where
+    shown : SourceFits j source × (shownAt j p ≡ some (closed j p source))
+    shown = subst (ShowsAt s place) e tells heads gaps p j stands
 
-    keeps : Keeps graph (closed j p x)
-    keeps = loads j (stands .low) (shown .0) (stands .entry) holds-none
+    keeps : Keeps graph (closed j p source)
+    keeps = loads j (stands .kept) (shown .0) holds-none
 
     -- It shows a graph that was found right.
     pub same-graph : (last : List ℕ) → RightGraph j last → SameGraph last graph → ShowHolds (j .script) (entries (j .proposal)) p
-    same-graph last right same = right p (closed j p x) (shown .1) (λ c w. keeps .same c w ∙ sym (same c w))
+    same-graph last right same = right p (closed j p source) (shown .1) (λ c w. keeps .same c w ∙ sym (same c w))
 
 -- A show that is the graph, or none.
-module _ (s heads : List ℕ) (place p : ℕ) (graph : List ℕ) (what : Showing) (tells : ShowsAt s place what) where
-  pub nothing-passes : what ≡ Nothing → PassesBy s heads place p graph true
-  nothing-passes e j stands right = shows-nothing s heads place p j stands what tells e
+module _ (s heads gaps : List ℕ) (place p : ℕ) (graph : List ℕ) (what : Showing) (tells : ShowsAt s place what) where
+  pub nothing-passes : what ≡ Nothing → PassesBy s heads gaps place p graph true
+  nothing-passes e j stands right = shows-nothing s heads gaps place p j stands what tells e
 
-  pub same-passes : (x : ℕ) → what ≡ Variable x → (empty : List ℕ) → Keeps empty nothing → (other : List ℕ) → HoldsShown s heads p x empty other
-      → (b : Bool) → (b ≡ true → SameGraph graph other) → PassesBy s heads place p graph b
-  same-passes x e empty blank other loads false same = tt
-  same-passes x e empty blank other loads true same = λ j stands right. same-graph s heads place p j stands what tells x e empty blank other loads graph right (same refl)
+  pub same-passes : (source : Source) → what ≡ Page source → (empty : List ℕ) → Keeps empty nothing → (other : List ℕ) → HoldsShown s heads gaps p source empty other
+      → (b : Bool) → (b ≡ true → SameGraph graph other) → PassesBy s heads gaps place p graph b
+  same-passes source e empty blank other loads false same = tt
+  same-passes source e empty blank other loads true same = λ j stands right. same-graph s heads gaps place p j stands what tells source e empty blank other loads graph right (same refl)
 
 -- The place of a point, as code looks it up.
 place-is : (points p : ℕ) (places : List ℕ) → points ≤ 32 → p < points → getD places (p % 32) 0 ≡ getD places p 0
@@ -64,15 +67,25 @@ place-is points p places few l = ap (λ (i : ℕ). getD places i 0) (omega arith
 
 module _ (s : List ℕ) (rules : Vocabularies.Tables) (templates : TemplateTables) (count : ℕ) (starts : List ℕ) (points : ℕ) (places heads : List ℕ) (j : Job)
     (R : ReadAt s rules templates count starts points places heads j) (p : ℕ) (l : p < points) where
-  pub point-stands : PointStands s heads (getD places (p % 32) 0) p j
+  pub point-stands : PointStands s heads (templates .gaps) (getD places (p % 32) 0) p j
   point-stands =
       let few = R .parts .of-script .few-points in
       let low : p < 32 = omega arith in
-      record { count = count; stands = rw (place-is points p places few l) (R .parts .of-script .statement p l); low = low; entry = R .parts .entry p low }
+      let count-is = R .parts .of-script .count-is in
+      record {
+        kept = record {
+          low = low;
+          entry = R .parts .entry p low;
+          gaps-are = R .tabled .gaps;
+          few = subst (λ (n : ℕ). n ≤ 31) count-is (R .parts .of-script .few-templates);
+        };
+        stands = subst (λ (n : ℕ). StatementStands s n (getD places (p % 32) 0) (statementAt (j .script .program) p)) count-is
+            (rw (place-is points p places few l) (R .parts .of-script .statement p l));
+      }
 
   -- What is decided for the graph of a show.
-  module _ (what : Showing) (tells : ShowsAt s (getD places (p % 32) 0) what) (x : ℕ) (e : what ≡ Variable x) (empty : List ℕ) (holds-none : Keeps empty nothing)
-      (graph : List ℕ) (loads : HoldsShown s heads p x empty graph) (r : Shown) (decides : DecidesShow s rules templates count starts graph r) where
+  module _ (what : Showing) (tells : ShowsAt s (getD places (p % 32) 0) what) (source : Source) (e : what ≡ Page source) (empty : List ℕ) (holds-none : Keeps empty nothing)
+      (graph : List ℕ) (loads : HoldsShown s heads (templates .gaps) p source empty graph) (r : Shown) (decides : DecidesShow s rules templates count starts graph r) where
     show-at : (q : ℕ) (G : Summary) → shownAt j q ≡ some G → Keeps graph G → ShowAt s rules templates count starts graph j q
     show-at q G is K = record {
       end = R .end;
@@ -87,12 +100,12 @@ module _ (s : List ℕ) (rules : Vocabularies.Tables) (templates : TemplateTable
       keeps = K;
     }
 
-    kept : Keeps graph (closed j p x)
-    kept = keeps s heads (getD places (p % 32) 0) p j point-stands what tells x e empty holds-none graph loads
+    kept : Keeps graph (closed j p source)
+    kept = keeps s heads (templates .gaps) (getD places (p % 32) 0) p j point-stands what tells source e empty holds-none graph loads
 
     -- It is found at the point.
     pub shows-graph : ShowFound (j .script) (entries (j .proposal)) p r
-    shows-graph = decides j p (show-at p (closed j p x) (shown s heads (getD places (p % 32) 0) p j point-stands what tells x e empty holds-none graph loads .1) kept)
+    shows-graph = decides j p (show-at p (closed j p source) (shown s heads (templates .gaps) (getD places (p % 32) 0) p j point-stands what tells source e empty holds-none graph loads .1) kept)
 
     -- It holds of every point that shows this graph.
     pub right-graph : r ≡ Right → RightGraph j graph
@@ -112,27 +125,28 @@ accepts-right p x v is e = go x (sym (ap accepts is) ∙ e)
     go (Wrong t at) a = absurd (false≢true a)
 
 -- The points passed by.
-module _ (s heads places : List ℕ) (points : ℕ) (graph : List ℕ) (from : ℕ) where
-  pub passed-none : PassedBy s heads places points graph from from
-  passed-none = record { forward = omega arith; hold = λ rules templates count starts j R right q l h. absurd (omega (arith, l, h)) }
+module _ (s heads gaps places : List ℕ) (points : ℕ) (graph : List ℕ) (from : ℕ) where
+  pub passed-none : PassedBy s heads gaps places points graph from from
+  passed-none = record { forward = omega arith; hold = λ rules templates count starts j g R right q l h. absurd (omega (arith, l, h)) }
 
-  passed-more : (p : ℕ) → PassedBy s heads places points graph from p
-      → ((rules : Vocabularies.Tables) (templates : TemplateTables) (count : ℕ) (starts : List ℕ) (j : Job) → ReadAt s rules templates count starts points places heads j → RightGraph j graph → ShowHolds (j .script) (entries (j .proposal)) p)
-      → PassedBy s heads places points graph from (p + 1)
+  passed-more : (p : ℕ) → PassedBy s heads gaps places points graph from p
+      → ((rules : Vocabularies.Tables) (templates : TemplateTables) (count : ℕ) (starts : List ℕ) (j : Job) → templates .gaps ≡ gaps → ReadAt s rules templates count starts points places heads j → RightGraph j graph → ShowHolds (j .script) (entries (j .proposal)) p)
+      → PassedBy s heads gaps places points graph from (p + 1)
   passed-more p past here = record {
     forward = omega (arith, past .forward);
-    hold = λ rules templates count starts j R right q l h. go rules templates count starts j R right q l h (eqb q p) refl;
+    hold = λ rules templates count starts j g R right q l h. go rules templates count starts j g R right q l h (eqb q p) refl;
   }
     where
-      go : (rules : Vocabularies.Tables) (templates : TemplateTables) (count : ℕ) (starts : List ℕ) (j : Job) → ReadAt s rules templates count starts points places heads j → RightGraph j graph
+      go : (rules : Vocabularies.Tables) (templates : TemplateTables) (count : ℕ) (starts : List ℕ) (j : Job) → templates .gaps ≡ gaps → ReadAt s rules templates count starts points places heads j → RightGraph j graph
           → (q : ℕ) → from ≤ q → q < p + 1 → (t : Bool) → eqb q p ≡ t → ShowHolds (j .script) (entries (j .proposal)) q
-      go rules templates count starts j R right q l h true e = rw (eqb-true q p e) (here rules templates count starts j R right)
-      go rules templates count starts j R right q l h false e = let n = eqb-false q p e in past .hold rules templates count starts j R right q l (omega (arith, h, n))
+      go rules templates count starts j g R right q l h true e = rw (eqb-true q p e) (here rules templates count starts j g R right)
+      go rules templates count starts j g R right q l h false e = let n = eqb-false q p e in past .hold rules templates count starts j g R right q l (omega (arith, h, n))
 
-  pub passes-more : (p : ℕ) → p < points → PassedBy s heads places points graph from p → (b : Bool) → b ≡ true → PassesBy s heads (getD places (p % 32) 0) p graph b
-      → PassedBy s heads places points graph from (p + 1)
-  passes-more p l past b e passes = passed-more p past λ rules templates count starts j R right.
-      subst (PassesBy s heads (getD places (p % 32) 0) p graph) e passes j (point-stands s rules templates count starts points places heads j R p l) right
+  pub passes-more : (p : ℕ) → p < points → PassedBy s heads gaps places points graph from p → (b : Bool) → b ≡ true → PassesBy s heads gaps (getD places (p % 32) 0) p graph b
+      → PassedBy s heads gaps places points graph from (p + 1)
+  passes-more p l past b e passes = passed-more p past λ rules templates count starts j g R right.
+      subst (PassesBy s heads gaps (getD places (p % 32) 0) p graph) e passes j
+      (subst (λ (ns : List ℕ). PointStands s heads ns (getD places (p % 32) 0) p j) g (point-stands s rules templates count starts points places heads j R p l)) right
 
 -- The shows of the points below p hold.
 module _ (π : Script) (E : ℕ → Environment) where

@@ -52,14 +52,21 @@ fn fault_at(p: usize, found: Shown) -> Verdict
 }
 
 // Whether a point, whose statement stands at an offset, shows nothing or this graph.
-fn is_passed_by(s: &[u8], heads: &[usize; 256], place: usize, p: usize, graph: &Graph) -> bool
-    ensures { λ r. ⌜ PassesBy (now (s .entry)) (now (heads .entry)) place p (now (graph .entry)) r ⌝ }
+fn is_passed_by(
+    s: &[u8],
+    heads: &[usize; 256],
+    gaps: &[u64; 32],
+    place: usize,
+    p: usize,
+    graph: &Graph,
+) -> bool
+    ensures { λ r. ⌜ PassesBy (now (s .entry)) (now (heads .entry)) (now (gaps .entry)) place p (now (graph .entry)) r ⌝ }
 {
     match shows::showing_at(s, place) {
         Showing::Nothing => true,
-        Showing::Variable(x) => {
+        Showing::Page(source) => {
             let mut other = graphs::none();
-            shows::shown_graph(s, heads, p, x, &mut other);
+            shows::shown_graph(s, heads, gaps, p, source, &mut other);
             graphs::same(graph, &other)
         }
     }
@@ -69,16 +76,17 @@ fn is_passed_by(s: &[u8], heads: &[usize; 256], place: usize, p: usize, graph: &
 fn other_show(
     s: &[u8],
     heads: &[usize; 256],
+    gaps: &[u64; 32],
     places: &[usize; 32],
     points: usize,
     graph: &Graph,
     from: usize,
 ) -> usize
-    ensures { λ r. ⌜ PassedBy (now (s .entry)) (now (heads .entry)) (now (places .entry)) points (now (graph .entry)) from r ⌝ }
+    ensures { λ r. ⌜ PassedBy (now (s .entry)) (now (heads .entry)) (now (gaps .entry)) (now (places .entry)) points (now (graph .entry)) from r ⌝ }
 {
     let mut q = from;
     while q < points {
-        if !is_passed_by(s, heads, places[q % 32], q, graph) {
+        if !is_passed_by(s, heads, gaps, places[q % 32], q, graph) {
             return q;
         }
         q += 1;
@@ -99,22 +107,23 @@ fn first_fault(
 ) -> Verdict
     ensures { λ r. ⌜ ((j : Job) → ReadAt (now (s .entry)) rules templates count (now (starts .entry)) points (now (places .entry)) (now (heads .entry)) j → AllCovered (j .script) (entries (j .proposal)) → ScriptVerdict (j .script) (entries (j .proposal)) (numbersOf r)) ⌝ }
 {
+    let gaps = templates.gaps;
     let mut p: usize = 0;
     while p < points {
         let place = places[p % 32];
         let showing = shows::showing_at(s, place);
-        let Showing::Variable(x) = showing else {
+        let Showing::Page(source) = showing else {
             p += 1;
             continue;
         };
         let mut graph = graphs::none();
-        shows::shown_graph(s, heads, p, x, &mut graph);
+        shows::shown_graph(s, heads, &gaps, p, source, &mut graph);
         let found = shows::decide(s, rules, templates, count, starts, &graph);
         let verdict = fault_at(p, found);
         if !verdicts::is_accepted(verdict) {
             return verdict;
         }
-        p = other_show(s, heads, places, points, &graph, p + 1);
+        p = other_show(s, heads, &gaps, places, points, &graph, p + 1);
     }
     Verdict::Accepted
 }

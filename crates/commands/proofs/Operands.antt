@@ -61,6 +61,7 @@ arms =
     ∷ (0x42 ∷ [])
     ∷ (0x41 ∷ [])
     ∷ (0x40 ∷ [])
+    ∷ (0x39 ∷ [])
     ∷ (0x36 ∷ [])
     ∷ (0x35 ∷ [])
     ∷ (0x34 ∷ 0x37 ∷ [])
@@ -87,6 +88,13 @@ unfolding operandsOf allInRange inRange
 plug s i =
     let e : i + 1 + 1 ≡ i + 2 = omega arith in
     simp (e, and-assoc, and-true)
+
+-- Those of a show in a frame: the template between the variable and the gap has none.
+pub frame : (s : List ℕ) (i : ℕ) → (leb (byte s i) 3 && leb (byte s (i + 2)) 7) ≡ allInRange (operandsOf 0x39) s i
+unfolding operandsOf allInRange inRange
+frame s i =
+    let e : i + 1 + 1 ≡ i + 2 = omega arith in
+    simp (e, and-true)
 
 pub string-range : (x : ℕ) → ltb x strings ≡ leb x 63
 string-range x = leb·suc-suc x 63

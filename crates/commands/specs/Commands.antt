@@ -1,13 +1,12 @@
--- The commands of document 01, "A job, command by command", and of document 02's F-2 (`29`): which operands each has, the operands'
--- ranges, where it may stand, and what is read at an offset. A command's first byte is written as there, in hexadecimal. `04`, `26` and
--- `27` have no operand and one place each; they are told where clauses and items are read.
+-- The commands of document 01, "A job, command by command", and of document 02's F-2 (`29`) and F-3 (`39`): which operands each has, the
+-- operands' ranges, where it may stand, and what is read at an offset. A command's first byte is written as there, in hexadecimal. `04`,
+-- `26` and `27` have no operand and one place each; they are told where clauses and items are read.
 use Prim.Native.Nat.{ℕ, zero, suc, _+_, _*_}
 use mathlib.Core.List.{List, [], _∷_}
 use mathlib.Core.Bool.{Bool, true, cond, _&&_, _||_, not}
 use lib.ListN.{length, getD}
 use lib.Dec.{leb, ltb, eqb}
 pub use Rattle.strings.specs.Strings.{strings, emptyString}
-use Rattle.verdicts.specs.declared.Form.{Form}
 use Rattle.verdicts.specs.declared.Form.the-variants.{Ended, NotAllowed, OutOfRange}
 use Rattle.commands.specs.declared.Context.{Context}
 use Rattle.commands.specs.declared.Context.the-variants.{Rules, Attributes, Contents, Formulas, Templates, TemplateItems, TemplateAttributes, PageItems, PageAttributes, FirstStatement, Statements, Heads, TemplateHoldings, StringHoldings}
@@ -63,6 +62,7 @@ formats =
     ∷ (0x35 ▸ variable ∷ variable ∷ gap ∷ variable ∷ point ∷ point ∷ [])
     ∷ (0x36 ▸ variable ∷ variable ∷ gap ∷ variable ∷ point ∷ point ∷ [])
     ∷ (0x37 ▸ variable ∷ point ∷ point ∷ [])
+    ∷ (0x39 ▸ variable ∷ template ∷ gap ∷ point ∷ point ∷ [])
     ∷ (0x40 ▸ point ∷ entry ∷ [])
     ∷ (0x41 ▸ template ∷ [])
     ∷ (0x42 ▸ template ∷ gap ∷ template ∷ [])
@@ -140,8 +140,8 @@ allowed TemplateItems c = between 0x21 0x23 c || eqb c 0x29
 allowed TemplateAttributes c = either 0x24 0x25 c
 allowed PageItems c = either 0x21 0x23 c || eqb c 0x29
 allowed PageAttributes c = either 0x24 0x28 c
-allowed FirstStatement c = between 0x30 0x38 c
-allowed Statements c = between 0x30 0x38 c || eqb c 0x3F
+allowed FirstStatement c = between 0x30 0x39 c
+allowed Statements c = between 0x30 0x39 c || eqb c 0x3F
 allowed Heads c = either 0x40 0x4F c
 allowed TemplateHoldings c = between 0x41 0x46 c
 allowed StringHoldings c = either 0x47 0x48 c

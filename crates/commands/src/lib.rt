@@ -114,8 +114,8 @@ pub fn is_allowed(context: Context, code: u8) -> bool
         Context::TemplateAttributes => is_either(0x24, 0x25, code),
         Context::PageItems => is_either(0x21, 0x23, code) || code == 0x29,
         Context::PageAttributes => is_either(0x24, 0x28, code),
-        Context::FirstStatement => is_between(0x30, 0x38, code),
-        Context::Statements => is_between(0x30, 0x38, code) || code == 0x3F,
+        Context::FirstStatement => is_between(0x30, 0x39, code),
+        Context::Statements => is_between(0x30, 0x39, code) || code == 0x3F,
         Context::Heads => is_either(0x40, 0x4F, code),
         Context::TemplateHoldings => is_between(0x41, 0x46, code),
         Context::StringHoldings => is_either(0x47, 0x48, code),
@@ -141,6 +141,7 @@ pub fn operand_bytes(code: u8) -> usize
         0x34 | 0x37 => 3,
         0x35 => 6,
         0x36 => 6,
+        0x39 => 5,
         0x40 => 2,
         0x41 => 1,
         0x42 => 3,
@@ -188,6 +189,14 @@ fn is_plug(s: &[u8], i: usize) -> bool
     are_most(s, i, 3, 3) && are_most(s, i + 2, 7, 3)
 }
 
+// A variable, a template, which has no range, and a gap.
+fn is_frame(s: &[u8], i: usize) -> bool
+    requires { ⌜ i + 2 < 2 ^ 64 ⌝ }
+    ensures { λ r. ⌜ r ≡ allInRange (operandsOf 0x39) (now (s .entry)) i ⌝ }
+{
+    is_most(s, i, 3) && is_most(s, i + 2, 7)
+}
+
 // Whether the operands of a command that stands at an offset are in range.
 fn in_range(s: &[u8], at: usize, code: u8) -> bool
     requires { ⌜ at < 2 ^ 63 ⌝ }
@@ -209,6 +218,7 @@ fn in_range(s: &[u8], at: usize, code: u8) -> bool
         0x34 | 0x37 => is_most(s, i, 3),
         0x35 => is_plug(s, i),
         0x36 => is_plug(s, i),
+        0x39 => is_frame(s, i),
         0x40 => is_most(s, i + 1, 7),
         0x41 => true,
         0x42 => is_most(s, i + 1, 7),

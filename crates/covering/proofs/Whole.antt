@@ -1,11 +1,10 @@
 -- The start, and all points together.
-use Prim.Native.Nat.{ℕ, zero, suc, _+_, _*_, _-_, _≤_, _<_}
+use Prim.Native.Nat.{ℕ, _+_, _*_, _-_, _≤_, _<_}
 use mathlib.Core.Path.{_≡_, refl, sym, _∙_}
-use mathlib.Core.List.{List, [], _∷_}
+use mathlib.Core.List.{List}
 use mathlib.Core.Bool.{Bool, true, false, and-false, false≢true}
-use native.Mathlib.Nat.{le-of-suc-le-suc}
 use native.Mathlib.Omega.{arith}
-use lib.ListN.{length, getD}
+use lib.ListN.{length, getD, List·getD-eq-default}
 use lib.Dec.{eqb, ltb}
 use borrow.Author.Tests.{eqb-true, eqb-false, lt-ltb, le-ltb, ltb-true, ltb-false}
 use Rattle.verdicts.specs.declared.Cover.{Cover}
@@ -15,6 +14,7 @@ use Rattle.commands.specs.declared.Context.the-variants.{TemplateHoldings, Stri
 use Rattle.pages.specs.Items.{gapIn, attributeGapIn}
 use Rattle.pages.specs.Items as Items
 use Rattle.programs.specs.Program.{Statement, stop, templateVariable, stringVariable, statementAt}
+use Rattle.programs.proofs.Points.{statement-element}
 use Rattle.summaries.specs.Proposal.{root, edge, string, gapFrom, attributeGapFrom, Head, Holding}
 use Rattle.summaries.specs.ProposalReading.{variableOf}
 use Rattle.summaries.specs.Summaries.{Summary, Environment, Within, fragment, saysClaim, saysString, held, under, entries}
@@ -61,10 +61,7 @@ module _ (s heads : List ℕ) (hs : List Head) (entry : EntriesAt s heads hs 0) 
 
 -- No statement stands past the last point.
 pub past-stops : (ts : List Statement) (p : ℕ) → length ts ≤ p → statementAt ts p ≡ stop
-unfolding statementAt
-past-stops [] p h = refl
-past-stops (t ∷ ts) zero h = absurd (omega arith)
-past-stops (t ∷ ts) (suc p) h = past-stops ts p (le-of-suc-le-suc h)
+past-stops ts p h = statement-element ts p ∙ List·getD-eq-default ts stop h
 
 module _ (π : Script) (E : ℕ → Environment) where
   -- The steps of the points below p are covered.

@@ -19,7 +19,8 @@ use Rattle.strings.specs.contracts.Promises.{holdsValue}
 use Rattle.entries.specs.contracts.Passing.{passed, wholly, withoutRoots, plugging, filling, Unfilled, Decides}
 use Rattle.entries.proofs.Tests.{decided-true, decided-false, decides-map}
 use Rattle.sets.proofs.Booleans.{or-left, or-right, or-cases, and-right}
-use Rattle.graphs.specs.contracts.Graphs.{InWords, Keeps}
+use Rattle.graphs.specs.contracts.Graphs.{InWords, Keeps, holds}
+use Rattle.graphs.specs.contracts.Promises.{Joins}
 use Rattle.graphs.proofs.Claims.{says-alone}
 use Rattle.graphs.proofs.Storing.{keeps-same}
 
@@ -129,7 +130,7 @@ module _ (g roots : ℕ) (first second : Passing) (U : Unfilled (λ none. pluggi
   plug-same (gapFrom k n) f = rw (U .is, W .is, not-eight k f) (pick (eqb k g) (S (gapFrom k n)) (T (gapFrom k n)))
   plug-same (attributeGapFrom h n) f = rw (U .is, W .is, not-eight h f) (both (S (attributeGapFrom h n)) (T (attributeGapFrom h n)))
 
-  pub plug-keeps : (graph : List ℕ) → Keeps graph (λ c. passed first S c || passed second T c) → Keeps graph (plugSummary g S T)
+  plug-keeps : (graph : List ℕ) → Keeps graph (λ c. passed first S c || passed second T c) → Keeps graph (plugSummary g S T)
   plug-keeps graph K = keeps-same graph _ _ (λ c w. plug-same c (in-words-low c w)) K
 
   module _ (R : Summary) (low-S : Low S) (low-T : Low T) where
@@ -159,6 +160,13 @@ module _ (g roots : ℕ) (first second : Passing) (U : Unfilled (λ none. pluggi
 
     pub plug-decides : (a b : Bool) → a ≡ true → Decides a (Within (passed first S) R) → Decides b (Within (passed second T) R) → Decides b (Within (plugSummary g S T) R)
     plug-decides a b e c d = decides-map b (both-within (decided-true a c e)) plugged-in-within d
+
+-- Both graphs passed, and joined.
+pub plugged-joined : (g roots : ℕ) (first second : Passing) → Unfilled (λ none. plugging none g roots) first → Unfilled withoutRoots second
+    → (S T : Summary) (a b b′ r : List ℕ) (changed : Bool) → Keeps b T → ((n : ℕ) → member roots n ≡ holds b (root n)) → Keeps a (passed first S) → Keeps b′ (passed second T) → Joins a b′ r changed
+    → Keeps r (plugSummary g S T)
+plugged-joined g roots first second U W S T a b b′ r changed K is L M J =
+    plug-keeps g roots first second U W S T (λ n. K .same (root n) tt ∙ sym (is n)) r (J .keeps _ _ L M)
 
 -- A plug of strings.
 fill-string : (a q o y : Bool) → (a || ((q && o) && y)) ≡ (a || (q && (o && y)))

@@ -402,6 +402,16 @@ pub fn pass(graph: &mut Graph, how: Passing)
     pass_attribute(graph, how.attribute, how.strings);
 }
 
+// The first graph then holds its value with that of the second in place of a gap; the second is left without its roots.
+pub fn plug(graph: &mut Graph, gap: u8, second: &mut Graph)
+    ensures { λ _. ⌜ ((S T : Summary) → Keeps (now (graph .entry)) S → Keeps (now (second .entry)) T → Keeps (now (graph .exit)) (plugSummary gap S T)) ⌝ }
+{
+    let plugged = plugging(gap, graphs::roots(second));
+    pass(graph, plugged);
+    pass(second, without_roots());
+    graphs::join(graph, second);
+}
+
 // A template is an origin of a gap, if it has the gap: gap k is bit k, attribute gap h is bit 8 + h.
 fn add_origin(graph: &mut Graph, k: u8, n: u8, gaps: u64)
     requires { ⌜ k < 16 ⌝ }

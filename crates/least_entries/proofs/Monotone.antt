@@ -7,10 +7,10 @@ use mathlib.Core.Bool.{Bool, true, false, cond, _&&_, _||_, false≢true}
 use mathlib.Core.Option.{some, none}
 use lib.Dec.{eqb}
 use Rattle.pages.specs.Items.{Attribute, Item, Items}
-use Rattle.programs.specs.Program.{Act, copyTemplate, setTemplate, copyString, setString, anyString, plug, plugString, show, Statement, step, stop, statementAt, templateVariable, stringVariable}
+use Rattle.programs.specs.Program.{Act, copyTemplate, setTemplate, copyString, setString, anyString, plug, plugString, show, showFramed, Statement, step, stop, statementAt, templateAt, templateVariable, stringVariable}
 use Rattle.programs.specs.Runs.{closing}
 use Rattle.summaries.specs.Proposal.{root, edge, string, gapFrom, attributeGapFrom}
-use Rattle.summaries.specs.Summaries.{Summary, Strings, Environment, Within, plugSummary, plugStringSummary, transfer}
+use Rattle.summaries.specs.Summaries.{Summary, Strings, Environment, Within, fragment, plugSummary, plugStringSummary, transfer}
 use Rattle.summaries.specs.Languages.{isTaken, closedSummary, AttributesDerive, no-attribute, fixed, filled, Derives, nothing, item-then, ItemDerives, text-stays, blank-stays, gap-takes, element-keeps, Language, summaryShown, closedIfShown, statementGraph, graphShown}
 use Rattle.jobs.specs.Job.{Script}
 use Rattle.jobs.specs.JobVerdict.{ShowHolds}
@@ -73,6 +73,7 @@ sets-grow φs (anyString y) = λ t e. e
 sets-grow φs (plug x x′ g x″) = tt
 sets-grow φs (plugString x x′ h y) = tt
 sets-grow φs (show x) = tt
+sets-grow φs (showFramed x t g) = tt
 
 module _ (φs : List Items) (E F : Environment) (b : Below E F) where
   grow : Related Within Within E F
@@ -126,6 +127,16 @@ pub shown-grows : (φs : List Items) (program : List Statement) (E F : ℕ → E
 unfolding graphShown
 shown-grows φs program E F p b G = of-statement (statementAt program p) refl
   where
+    of-shown : (S S′ : Summary) → Within S S′ → graphShown φs program F p ≡ some (closedSummary S′) → some (closedSummary S) ≡ some G → ShownWithin φs program F p G
+    of-shown S S′ w s q =
+        let shown : Summary = closedSummary S in
+        let same : shown ≡ G = cc in
+        record {
+          graph = closedSummary S′;
+          shows = s;
+          within = subst (λ (H : Summary). Within H (closedSummary S′)) same (closed-grows S S′ w);
+        }
+
     of-act : (a : Act) (n m : ℕ) → statementAt program p ≡ step a n m → closedIfShown (summaryShown φs a (E p)) ≡ some G → ShownWithin φs program F p G
     of-act (copyTemplate x x′) n m s q = absurd (shows-none q)
     of-act (setTemplate x t) n m s q = absurd (shows-none q)
@@ -134,14 +145,11 @@ shown-grows φs program E F p b G = of-statement (statementAt program p) refl
     of-act (anyString y) n m s q = absurd (shows-none q)
     of-act (plug x x′ g x″) n m s q = absurd (shows-none q)
     of-act (plugString x x′ h y) n m s q = absurd (shows-none q)
-    of-act (show x) n m s q =
-        let shown : Summary = closedSummary (E p .template x) in
-        let same : shown ≡ G = cc in
-        record {
-          graph = closedSummary (F p .template x);
-          shows = rw s;
-          within = subst (λ (H : Summary). Within H (closedSummary (F p .template x))) same (closed-grows (E p .template x) (F p .template x) (b (templateVariable x)));
-        }
+    of-act (show x) n m s q = of-shown (E p .template x) (F p .template x) (b (templateVariable x)) (rw s) q
+    of-act (showFramed x t g) n m s q =
+        let frame : Summary = fragment t (templateAt φs t) in
+        of-shown (plugSummary g frame (E p .template x)) (plugSummary g frame (F p .template x))
+        (plug-grows g frame frame (E p .template x) (F p .template x) (λ c e. e) (b (templateVariable x))) (rw s) q
 
     of-statement : (t : Statement) → statementAt program p ≡ t → statementGraph φs t (E p) ≡ some G → ShownWithin φs program F p G
     of-statement (step a n m) s q = of-act a n m s q

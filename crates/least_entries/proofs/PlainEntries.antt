@@ -10,7 +10,7 @@ use lib.Dec.{eqb}
 use borrow.Author.Tests.{eqb-true, eq-eqb}
 use Rattle.commands.specs.Commands.{strings}
 use Rattle.pages.specs.Items.{Items}
-use Rattle.programs.specs.Program.{Act, copyTemplate, setTemplate, copyString, setString, anyString, plug, plugString, show, step, Variable, templateVariable, stringVariable}
+use Rattle.programs.specs.Program.{Act, copyTemplate, setTemplate, copyString, setString, anyString, plug, plugString, show, showFramed, step, Variable, templateVariable, stringVariable}
 use Rattle.summaries.specs.Proposal.{root, edge, string, gapFrom, attributeGapFrom}
 use Rattle.summaries.specs.ProposalReading.{variableOf}
 use Rattle.summaries.specs.Summaries.{Summary, Strings, Environment, Within, transfer}
@@ -59,6 +59,7 @@ module _ (u s : ℕ) (other : strings ≤ u) where
   sets-carry count φs (plug x x′ g x″) i = tt
   sets-carry count φs (plugString x x′ h y) i = tt
   sets-carry count φs (show x) i = tt
+  sets-carry count φs (showFramed x t g) i = tt
 
   -- What may be held beside E if u carries s.
   abbrev carried-claims : Summary → Summary

@@ -12,7 +12,7 @@ use Rattle.vocabularies.specs.Vocabulary.{Vocabulary}
 use Rattle.pages.specs.declared.Kind.the-variants.{Template}
 use Rattle.pages.specs.Items.{Value, open-gap, Attribute, Item, text, blank, gap, element, Items, none, more, gapIn, gapInItem, isOpenGap, openIn, attributeGapIn, attributeGapInItem}
 use Rattle.pages.specs.Items as Items
-use Rattle.programs.specs.Program.{Act, copyTemplate, setTemplate, copyString, setString, anyString, plug, plugString, show, Statement, step, statementAt, Variable, templateVariable, stringVariable, named, templateAt}
+use Rattle.programs.specs.Program.{Act, copyTemplate, setTemplate, copyString, setString, anyString, plug, plugString, show, showFramed, Statement, step, statementAt, Variable, templateVariable, stringVariable, named, templateAt}
 use Rattle.summaries.specs.Proposal.{Claim, root, edge, string, gapFrom, attributeGapFrom}
 use Rattle.summaries.specs.ProposalReading.{variableOf}
 use Rattle.summaries.specs.Summaries.{Summary, Strings, Environment, fragment, plugSummary, plugStringSummary, transfer}
@@ -173,6 +173,7 @@ module _ (count : ℕ) where
     sets-fit (plug x x′ g x″) i = tt
     sets-fit (plugString x x′ h y) i = tt
     sets-fit (show x) i = tt
+    sets-fit (showFramed x t g) i = tt
 
     transfer-fits : (a : Act) → ActInRange count a → (E : Environment) → ((x : ℕ) → Fits (E .template x)) → (x : ℕ) → Fits (transfer φs a E .template x)
     transfer-fits a i E f =

@@ -5,7 +5,7 @@ use mathlib.Core.List.{List}
 use mathlib.Core.Bool.{Bool, true, false, cond}
 use lib.Dec.{eqb}
 use Rattle.pages.specs.Items.{Items}
-use Rattle.programs.specs.Program.{Act, copyTemplate, setTemplate, copyString, setString, anyString, plug, plugString, show, templateAt}
+use Rattle.programs.specs.Program.{Act, copyTemplate, setTemplate, copyString, setString, anyString, plug, plugString, show, showFramed, templateAt}
 use Rattle.programs.specs.Runs.{update}
 use Rattle.summaries.specs.Summaries.{Summary, Strings, Environment, fragment, plugSummary, plugStringSummary, transferTemplate, transferString}
 
@@ -28,6 +28,7 @@ module _ (R : Summary → Summary → Type 0) (Q : Strings → Strings → Type 
   SetRelated φs (plug x x′ g x″) = Unit {0}
   SetRelated φs (plugString x x′ h y) = Unit {0}
   SetRelated φs (show x) = Unit {0}
+  SetRelated φs (showFramed x t g) = Unit {0}
 
   pub record PlugsKeep : Type 0 where
     pub plugs : (g : ℕ) (S S′ T T′ : Summary) → R S S′ → R T T′ → R (plugSummary g S T) (plugSummary g S′ T′)
@@ -47,6 +48,7 @@ module _ (R : Summary → Summary → Type 0) (Q : Strings → Strings → Type 
     template-related (plug x x′ g x″) s = update-related R x _ _ _ _ (keep .plugs g _ _ _ _ (r .template x′) (r .template x″)) (r .template)
     template-related (plugString x x′ h y) s = update-related R x _ _ _ _ (keep .fills h _ _ _ _ (r .template x′) (r .string y)) (r .template)
     template-related (show x) s = r .template
+    template-related (showFramed x t g) s = r .template
 
     pub string-related : (a : Act) → SetRelated φs a → (y : ℕ) → Q (transferString a E y) (transferString a F y)
     string-related (copyTemplate x x′) s = r .string
@@ -57,3 +59,4 @@ module _ (R : Summary → Summary → Type 0) (Q : Strings → Strings → Type 
     string-related (plug x x′ g x″) s = r .string
     string-related (plugString x x′ h y) s = r .string
     string-related (show x) s = r .string
+    string-related (showFramed x t g) s = r .string

@@ -1,5 +1,5 @@
--- A job that was read from bytes has all that the theorems about its shows ask: of its vocabulary, its templates and its graphs. The
--- first two are given by its script alone.
+-- A job that was read from bytes has all that the theorems about its shows ask: of its vocabulary, its templates, its program and its
+-- graphs. All but the last are given by its script alone.
 use Prim.Native.Nat.{ℕ}
 use mathlib.Core.Path.{_≡_}
 use mathlib.Core.List.{List}
@@ -7,19 +7,20 @@ use mathlib.Core.Option.{some}
 use lib.ListN.{length}
 use Rattle.commands.specs.Reading.{whole, enough}
 use Rattle.vocabularies.specs.Vocabulary.{declared}
-use Rattle.programs.specs.ProgramReading.{program}
 use Rattle.summaries.specs.Summaries.{Summary, Environment, entries}
 use Rattle.summaries.specs.Languages.{graphShown}
 use Rattle.jobs.specs.Job.{Script, Job, script, job}
-use Rattle.agreement.proofs.Readings.{Gives, gives, given, gives-any, gives-then, gives-alone}
+use Rattle.agreement.proofs.Readings.{Gives, gives, given, gives-then, gives-alone}
 use Rattle.patterns.specs.contracts.Given.{Bounded, NamesInRange, SoundVocabulary}
 use Rattle.patterns.proofs.ReadVocabularies.{Bytes, vocabulary-sound}
 use Rattle.patterns.proofs.ReadTemplates.{templates-in-range}
+use Rattle.patterns.proofs.ReadPrograms.{TemplatesThere, program-there}
 use Rattle.patterns.proofs.ReadProposals.{proposal-in-range, shown-bounded}
 
 pub record GivenScript (π : Script) : Type 0 where
   pub vocabulary : SoundVocabulary (π .vocabulary)
   pub templates : NamesInRange (π .templates)
+  pub program : TemplatesThere (length (π .templates)) (π .program)
 
 pub record GivenShows (π : Script) (E : ℕ → Environment) : Type 0 where
   pub script : GivenScript π
@@ -30,14 +31,14 @@ unfolding script
 gives-script s bytes =
     gives-then (vocabulary-sound s bytes) λ D next v.
     gives-then (templates-in-range (declared (D .rules)) s (enough s) 0 next) λ φs next′ t.
-    gives-then (gives-any (program (enough s) (length φs) s next′)) λ ts end _. gives (record { vocabulary = v; templates = t })
+    gives-then (program-there (length φs) s (enough s) next′) λ ts end p. gives (record { vocabulary = v; templates = t; program = p })
 
 gives-job : (s : List ℕ) → Bytes s → Gives (Unit {0}) (λ j end. GivenShows (j .script) (entries (j .proposal))) (job s)
 unfolding job
 gives-job s bytes = gives-alone s
     (gives-then (gives-script s bytes) λ π next g.
     gives-then (proposal-in-range (length (π .templates)) s (length (π .program)) (enough s) 0 next) λ hs end h.
-    gives (record { script = g; graphs = shown-bounded (π .templates) (π .program) hs h }))
+    gives (record { script = g; graphs = shown-bounded (π .templates) (π .program) hs h (g .program) }))
 
 pub job-given : (s : List ℕ) → Bytes s → (j : Job) (end : ℕ) → job s ≡ whole j end → GivenShows (j .script) (entries (j .proposal))
 job-given s bytes j end = given (gives-job s bytes)

@@ -16,16 +16,18 @@ use Rattle.commands.specs.Commands.{byte, strings, allowed, operandsOf, inRange
 use Rattle.commands.specs.Commands as Commands
 use Rattle.pages.specs.Items.{Items}
 use Rattle.pages.specs.RightPages.{_∈_}
-use Rattle.programs.specs.Program.{Act, copyTemplate, setTemplate, copyString, setString, plug, plugString, show, Variable, templateVariable, Statement, step, stop, statementAt}
+use Rattle.programs.specs.Program.{Act, copyTemplate, setTemplate, copyString, setString, plug, plugString, show, showFramed, Variable, templateVariable, Statement, step, stop, statementAt, templateAt}
 use Rattle.programs.specs.Program as Program
+use Rattle.programs.specs.ProgramReading.{actTemplatesThere, templatesThere}
 use Rattle.summaries.specs.Proposal.{root, edge, string, gapFrom, attributeGapFrom, Holding, claim, anyAt, oneString, anyString, Head}
 use Rattle.summaries.specs.ProposalReading.{holdingAt, holdingThere, rank, holdings, variableOf, holdingContext, proposal}
-use Rattle.summaries.specs.Summaries.{Summary, Environment, sameCode, saysClaim, held, sameVariable, under, entries}
+use Rattle.summaries.specs.Summaries.{Summary, Environment, fragment, plugSummary, sameCode, saysClaim, held, sameVariable, under, entries}
 use Rattle.summaries.specs.Languages.{closedSummary, summaryShown, closedIfShown, statementGraph, graphShown}
 use Rattle.agreement.proofs.Readings.{Gives, gives, refuses, runs-out, gives-when, gives-then}
 use Rattle.patterns.specs.contracts.Given.{Bounded}
 use Rattle.sets.proofs.Booleans.{or-cases, and-left, and-right}
 use Rattle.patterns.proofs.Ranges.{Ranged, ranges-of, gives-ranged}
+use Rattle.patterns.proofs.ReadPrograms.{TemplatesThere}
 
 -- An item names templates that are there, and no string outside the named ones.
 abbrev pub NamedHolding : Holding → Type 0
@@ -175,51 +177,70 @@ module _ (count : ℕ) where
 none-is-some : {A : Type 0} {a : A} → none ≡ some a → ⊥
 none-is-some q = let z : _≡_ {A = ℕ} 0 1 = cc in omega arith
 
--- The closed graph of items in range is bounded.
-closed-bounded : (φs : List Items) (fs : List Holding) → HoldingsInRange (length φs) fs → Bounded φs (closedSummary (held saysClaim fs))
-closed-bounded φs fs h = record { roots = roots; edges = edges; others-alike = alike }
-  where
-    S : Summary
-    S = held saysClaim fs
+-- What items in range hold is bounded; so is a template that is there, what a plug makes of bounded summaries, and the closed graph.
+held-bounded : (φs : List Items) (fs : List Holding) → HoldingsInRange (length φs) fs → Bounded φs (held saysClaim fs)
+held-bounded φs fs h = record {
+  roots = λ r e. let (f, i, p) = held-by saysClaim fs (root r) e in root-there (length φs) f r (h f i) p;
+  edges = λ n g m e. let (f, i, p) = held-by saysClaim fs (edge n g m) e in edge-there (length φs) f n g m (h f i) p;
+  others-alike = λ n k s l. held-same saysClaim fs (string n k s) (string n k strings) (λ f i. strings-alike (length φs) f n k s (h f i) l);
+}
 
-    roots : (r : ℕ) → S (root r) ≡ true → r ≤ length φs
-    roots r e = let (f, i, p) = held-by saysClaim fs (root r) e in root-there (length φs) f r (h f i) p
+fragment-bounded : (φs : List Items) (t : ℕ) → t ≤ length φs → Bounded φs (fragment t (templateAt φs t))
+fragment-bounded φs t there = record {
+  roots = λ r e. let same = eqb-true r t e in omega arith;
+  edges = λ n g m e. absurd (false≢true e);
+  others-alike = λ n k s l. refl;
+}
 
-    edges : (n g m : ℕ) → (S (edge n g m) || (eqb m 0 && S (gapFrom g n))) ≡ true → m ≤ length φs
-    edges n g m e = ⊎-elim
-        (λ p. let (f, i, q) = held-by saysClaim fs (edge n g m) p in edge-there (length φs) f n g m (h f i) q)
+module _ (φs : List Items) (S : Summary) (b : Bounded φs S) where
+  plug-bounded : (g : ℕ) (T : Summary) → Bounded φs T → Bounded φs (plugSummary g S T)
+  plug-bounded g T c = record {
+    roots = b .roots;
+    edges = λ n k m e. ⊎-elim
+        (λ p. ⊎-elim (b .edges n k m) (c .edges n k m) (or-cases (S (edge n k m)) (T (edge n k m)) p))
+        (λ p. c .roots m (and-right (eqb k g && S (gapFrom k n)) (T (root m)) p))
+        (or-cases (S (edge n k m) || T (edge n k m)) (eqb k g && S (gapFrom k n) && T (root m)) e);
+    others-alike = λ n k s l. rw (b .others-alike n k s l, c .others-alike n k s l);
+  }
+
+  closed-bounded : Bounded φs (closedSummary S)
+  closed-bounded = record {
+    roots = b .roots;
+    edges = λ n g m e. ⊎-elim
+        (b .edges n g m)
         (λ p. let z = eqb-true m 0 (and-left (eqb m 0) (S (gapFrom g n)) p) in omega arith)
-        (or-cases (S (edge n g m)) (eqb m 0 && S (gapFrom g n)) e)
-
-    alike : (n k s : ℕ) → strings ≤ s
-        → (S (string n k s) || (eqb s 0 && S (attributeGapFrom k n))) ≡ (S (string n k strings) || (eqb strings 0 && S (attributeGapFrom k n)))
-    alike n k s l = rw (
-      held-same saysClaim fs (string n k s) (string n k strings) (λ f i. strings-alike (length φs) f n k s (h f i) l),
-      ne-eqb s 0 (λ e. omega arith),
-    )
+        (or-cases (S (edge n g m)) (eqb m 0 && S (gapFrom g n)) e);
+    others-alike = λ n k s l. rw (b .others-alike n k s l, ne-eqb s 0 (λ e. omega arith));
+  }
 
 -- The graph that a point shows.
-pub shown-bounded : (φs : List Items) (program : List Statement) (hs : List Head) → HeadsInRange (length φs) hs
+pub shown-bounded : (φs : List Items) (program : List Statement) (hs : List Head) → HeadsInRange (length φs) hs → TemplatesThere (length φs) program
     → (p : ℕ) (G : Summary) → graphShown φs program (entries hs) p ≡ some G → Bounded φs G
 unfolding graphShown entries
-shown-bounded φs program hs h p G e = of-statement (statementAt program p) e
+shown-bounded φs program hs h there p G e = of-statement (statementAt program p) (there p) e
   where
     E : Environment
     E = entries hs p
 
-    of-entry : (x : ℕ) → Bounded φs (closedSummary (E .template x))
-    of-entry x = closed-bounded φs (under hs p (templateVariable x)) (under-in-range (length φs) hs p (templateVariable x) h)
+    of-entry : (x : ℕ) → Bounded φs (E .template x)
+    of-entry x = held-bounded φs (under hs p (templateVariable x)) (under-in-range (length φs) hs p (templateVariable x) h)
 
-    of-act : (a : Act) → closedIfShown (summaryShown φs a E) ≡ some G → Bounded φs G
-    of-act (copyTemplate x x′) q = absurd (none-is-some q)
-    of-act (setTemplate x t) q = absurd (none-is-some q)
-    of-act (copyString y y′) q = absurd (none-is-some q)
-    of-act (setString y t) q = absurd (none-is-some q)
-    of-act (Program.anyString y) q = absurd (none-is-some q)
-    of-act (plug x x′ g x″) q = absurd (none-is-some q)
-    of-act (plugString x x′ k y) q = absurd (none-is-some q)
-    of-act (show x) q = let shown : Summary = closedSummary (E .template x) in let same : shown ≡ G = cc in subst (Bounded φs) same (of-entry x)
+    of-shown : (S : Summary) → Bounded φs S → some (closedSummary S) ≡ some G → Bounded φs G
+    of-shown S b q = let same : closedSummary S ≡ G = cc in subst (Bounded φs) same (closed-bounded φs S b)
 
-    of-statement : (t : Statement) → statementGraph φs t E ≡ some G → Bounded φs G
-    of-statement stop q = absurd (none-is-some q)
-    of-statement (step a n m) q = of-act a q
+    of-act : (a : Act) → actTemplatesThere (length φs) a ≡ true → closedIfShown (summaryShown φs a E) ≡ some G → Bounded φs G
+    of-act (copyTemplate x x′) t q = absurd (none-is-some q)
+    of-act (setTemplate x k) t q = absurd (none-is-some q)
+    of-act (copyString y y′) t q = absurd (none-is-some q)
+    of-act (setString y s) t q = absurd (none-is-some q)
+    of-act (Program.anyString y) t q = absurd (none-is-some q)
+    of-act (plug x x′ g x″) t q = absurd (none-is-some q)
+    of-act (plugString x x′ k y) t q = absurd (none-is-some q)
+    of-act (show x) t q = of-shown (E .template x) (of-entry x) q
+    of-act (showFramed x k g) t q =
+        of-shown (plugSummary g (fragment k (templateAt φs k)) (E .template x))
+        (plug-bounded φs _ (fragment-bounded φs k (leb-true k (length φs) t)) g (E .template x) (of-entry x)) q
+
+    of-statement : (t : Statement) → templatesThere (length φs) t ≡ true → statementGraph φs t E ≡ some G → Bounded φs G
+    of-statement stop t q = absurd (none-is-some q)
+    of-statement (step a n m) t q = of-act a t q

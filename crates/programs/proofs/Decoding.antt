@@ -42,4 +42,5 @@ module _ (s : List ℕ) (at : ℕ) (ranges : allInRange (operandsOf (byte s at))
       (λ e. (low 0x35 0 e refl, low 0x35 1 e refl, low-gap 0x35 2 e refl, low 0x35 3 e refl))
       (λ e. (low 0x36 0 e refl, low 0x36 1 e refl, low-gap 0x36 2 e refl, low 0x36 3 e refl))
       (λ e. low 0x37 0 e refl)
+      (λ e. (low 0x39 0 e refl, low-gap 0x39 2 e refl))
       tt

@@ -6,4 +6,7 @@ mod Here
 mod Naming
 mod Reading
 mod Whole
+pub mod Replacing
+pub mod Points
+pub mod Frames
 pub mod Laws

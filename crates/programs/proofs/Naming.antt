@@ -9,7 +9,7 @@ use Rattle.sets.specs.Sets.{member}
 use Rattle.sets.proofs.Laws.{member-zero}
 use Rattle.programs.specs.declared.Act.{Act}
 use Rattle.programs.specs.declared.Statement.{Statement}
-use Rattle.programs.specs.Program.{copyTemplate, setTemplate, copyString, setString, anyString, plug, plugString, show, stop, Variable, templateVariable, stringVariable, actNames, statementNames}
+use Rattle.programs.specs.Program.{copyTemplate, setTemplate, copyString, setString, anyString, plug, plugString, show, showFramed, stop, Variable, templateVariable, stringVariable, actNames, statementNames}
 use Rattle.programs.specs.contracts.Promises.{asAct, asStatement, ActFits, StatementFits, numberOf, IsVariable, isTemplate, isString, Adds, Names}
 
 same-shifted : (k y : ℕ) → eqb (4 + k) (4 + y) ≡ eqb k y
@@ -83,6 +83,10 @@ plug-string-names x y g z (stringVariable k) = refl
 pub show-names : (x : ℕ) (v : Variable) → isTemplate x v ≡ actNames (show x) v
 show-names x (templateVariable k) = refl
 show-names x (stringVariable k) = refl
+
+pub show-framed-names : (x t g : ℕ) (v : Variable) → isTemplate x v ≡ actNames (showFramed x t g) v
+show-framed-names x t g (templateVariable k) = refl
+show-framed-names x t g (stringVariable k) = refl
 
 pub no-names : Names (statementNames stop) 0
 no-names = record { holds = none }

@@ -10,7 +10,7 @@ use lib.Seq.{slice, slice-cons, slice-empty}
 use lib.Dec.{eqb}
 use borrow.Author.Tests.{ne-eqb, eqb-true, not-true, not-false}
 use Rattle.programs.specs.declared.Statement as Declared
-use Rattle.programs.specs.Program.{copyTemplate, setTemplate, copyString, setString, anyString, plug, plugString, show, Statement, step, stop}
+use Rattle.programs.specs.Program.{copyTemplate, setTemplate, copyString, setString, anyString, plug, plugString, show, showFramed, Statement, step, stop}
 use Rattle.programs.specs.contracts.Promises.{asStatement, statementHere, placedAt, placed}
 use Rattle.programs.specs.ProgramReading.{statementOf, pointsThere, strayed}
 
@@ -28,9 +28,10 @@ pub read-cases : (P : Statement → Type 0) (code : ℕ) (o : ℕ → ℕ)
     → (code ≡ 0x35 → P (step (plug (o 1) (o 2) (o 3) (o 4)) (o 5) (o 6)))
     → (code ≡ 0x36 → P (step (plugString (o 1) (o 2) (o 3) (o 4)) (o 5) (o 6)))
     → (code ≡ 0x37 → P (step (show (o 1)) (o 2) (o 3)))
+    → (code ≡ 0x39 → P (step (showFramed (o 1) (o 2) (o 3)) (o 4) (o 5)))
     → P stop
     → P (statementOf code o)
-read-cases P code o c30 c31 c32 c33 c34 c35 c36 c37 c38 =
+read-cases P code o c30 c31 c32 c33 c34 c35 c36 c37 c39 c38 =
     picked P (eqb code 0x30) _ _ (λ e. c30 (eqb-true _ _ e)) λ _.
     picked P (eqb code 0x31) _ _ (λ e. c31 (eqb-true _ _ e)) λ _.
     picked P (eqb code 0x32) _ _ (λ e. c32 (eqb-true _ _ e)) λ _.
@@ -38,15 +39,16 @@ read-cases P code o c30 c31 c32 c33 c34 c35 c36 c37 c38 =
     picked P (eqb code 0x34) _ _ (λ e. c34 (eqb-true _ _ e)) λ _.
     picked P (eqb code 0x35) _ _ (λ e. c35 (eqb-true _ _ e)) λ _.
     picked P (eqb code 0x36) _ _ (λ e. c36 (eqb-true _ _ e)) λ _.
-    picked P (eqb code 0x37) _ _ (λ e. c37 (eqb-true _ _ e)) λ _. c38
+    picked P (eqb code 0x37) _ _ (λ e. c37 (eqb-true _ _ e)) λ _.
+    picked P (eqb code 0x39) _ _ (λ e. c39 (eqb-true _ _ e)) λ _. c38
 
--- The command is none of `30` to `37`, as a match has it.
+-- The command is none of `30` to `37` and `39`, as a match has it.
 abbrev pub NoneOfThese : ℕ → Type 0
-NoneOfThese code = ((((((((Unit {0}) × (code ≡ 0x30 → ⊥)) × (code ≡ 0x31 → ⊥)) × (code ≡ 0x32 → ⊥)) × (code ≡ 0x33 → ⊥)) × (code ≡ 0x34 → ⊥)) × (code ≡ 0x35 → ⊥)) × (code ≡ 0x36 → ⊥)) × (code ≡ 0x37 → ⊥)
+NoneOfThese code = (((((((((Unit {0}) × (code ≡ 0x30 → ⊥)) × (code ≡ 0x31 → ⊥)) × (code ≡ 0x32 → ⊥)) × (code ≡ 0x33 → ⊥)) × (code ≡ 0x34 → ⊥)) × (code ≡ 0x35 → ⊥)) × (code ≡ 0x36 → ⊥)) × (code ≡ 0x37 → ⊥)) × (code ≡ 0x39 → ⊥)
 
 pub no-step : (code : ℕ) (o : ℕ → ℕ) → NoneOfThese code → statementOf code o ≡ stop
 no-step code o n =
-    rw (ne-eqb code 0x30 (n .0 .0 .0 .0 .0 .0 .0 .1), ne-eqb code 0x31 (n .0 .0 .0 .0 .0 .0 .1), ne-eqb code 0x32 (n .0 .0 .0 .0 .0 .1), ne-eqb code 0x33 (n .0 .0 .0 .0 .1), ne-eqb code 0x34 (n .0 .0 .0 .1), ne-eqb code 0x35 (n .0 .0 .1), ne-eqb code 0x36 (n .0 .1), ne-eqb code 0x37 (n .1))
+    rw (ne-eqb code 0x30 (n .0 .0 .0 .0 .0 .0 .0 .0 .1), ne-eqb code 0x31 (n .0 .0 .0 .0 .0 .0 .0 .1), ne-eqb code 0x32 (n .0 .0 .0 .0 .0 .0 .1), ne-eqb code 0x33 (n .0 .0 .0 .0 .0 .1), ne-eqb code 0x34 (n .0 .0 .0 .0 .1), ne-eqb code 0x35 (n .0 .0 .0 .1), ne-eqb code 0x36 (n .0 .0 .1), ne-eqb code 0x37 (n .0 .1), ne-eqb code 0x39 (n .1))
 
 pub next-place : (places : List ℕ) (count i : ℕ) → i < count → count ≤ length places → slice i count places ≡ getD places i 0 ∷ slice (i + 1) count places
 next-place places count i here most = rw (add-one i) (slice-cons i count places 0 here most)

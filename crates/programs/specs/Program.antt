@@ -1,5 +1,5 @@
--- Programs as trees (document 01, "A job, command by command", Program; source 000, section 2, "Programs"). The statement of point i
--- is the i-th of the list, from 0. Variables x and y are 0 to 3, templates are numbered from 1, template 0 is empty.
+-- Programs as trees (document 01, "A job, command by command", Program, and document 02, F-3; source 000, section 2, "Programs"). The
+-- statement of point i is the i-th of the list, from 0. Variables x and y are 0 to 3, templates are numbered from 1, template 0 is empty.
 use Prim.Native.Nat.{ℕ, zero, suc}
 use mathlib.Core.List.{List, [], _∷_}
 use mathlib.Core.Bool.{Bool, false, _||_}
@@ -15,6 +15,8 @@ pub data Act : Type 0 where
   plug : ℕ → ℕ → ℕ → ℕ → Act
   plugString : ℕ → ℕ → ℕ → ℕ → Act
   show : ℕ → Act
+  -- `39 x t g`: a show of template t, the frame, with x in place of all its gaps g.
+  showFramed : ℕ → ℕ → ℕ → Act
 
 -- A statement with its two next points, or `38`.
 pub data Statement : Type 0 where
@@ -41,6 +43,7 @@ actNamesTemplate (anyString y) v = false
 actNamesTemplate (plug x x′ g x″) v = eqb v x || eqb v x′ || eqb v x″
 actNamesTemplate (plugString x x′ h y) v = eqb v x || eqb v x′
 actNamesTemplate (show x) v = eqb v x
+actNamesTemplate (showFramed x t g) v = eqb v x
 
 abbrev pub actNamesString : Act → ℕ → Bool
 actNamesString (copyTemplate x x′) v = false
@@ -51,6 +54,7 @@ actNamesString (anyString y) v = eqb v y
 actNamesString (plug x x′ g x″) v = false
 actNamesString (plugString x x′ h y) v = eqb v y
 actNamesString (show x) v = false
+actNamesString (showFramed x t g) v = false
 
 abbrev pub actNames : Act → Variable → Bool
 actNames a (templateVariable x) = actNamesTemplate a x

@@ -1,4 +1,5 @@
--- Reading a program (document 01, "A job, command by command", Program). Next points are tested at `3F`, when their number is known.
+-- Reading a program (document 01, "A job, command by command", Program; document 02, F-3). Next points are tested at `3F`, when their
+-- number is known.
 use Prim.Native.Nat.{ℕ, zero, suc, _+_}
 use mathlib.Core.List.{List, [], _∷_, map}
 use mathlib.Core.Bool.{Bool, true, cond, _&&_}
@@ -10,7 +11,7 @@ use Rattle.commands.specs.declared.Context.{Context}
 use Rattle.commands.specs.declared.Context.the-variants.{FirstStatement, Statements}
 use Rattle.commands.specs.Commands.{byte}
 use Rattle.commands.specs.Reading.{Read, whole, refused, unfinished, andThen, onCommand, when}
-use Rattle.programs.specs.Program.{Act, copyTemplate, setTemplate, copyString, setString, anyString, plug, plugString, show, Statement, step, stop}
+use Rattle.programs.specs.Program.{Act, copyTemplate, setTemplate, copyString, setString, anyString, plug, plugString, show, showFramed, Statement, step, stop}
 
 -- A statement where it stands.
 pub record Placed : Type 0 where
@@ -28,7 +29,8 @@ statementOf code o =
     (cond (eqb code 0x35) (step (plug (o 1) (o 2) (o 3) (o 4)) (o 5) (o 6))
     (cond (eqb code 0x36) (step (plugString (o 1) (o 2) (o 3) (o 4)) (o 5) (o 6))
     (cond (eqb code 0x37) (step (show (o 1)) (o 2) (o 3))
-    stop)))))))
+    (cond (eqb code 0x39) (step (showFramed (o 1) (o 2) (o 3)) (o 4) (o 5))
+    stop))))))))
 
 abbrev pub statementRead : List ℕ → ℕ → ℕ → Statement
 statementRead s at code = statementOf code (λ i. byte s (at + i))
@@ -43,6 +45,7 @@ actTemplatesThere count (anyString y) = true
 actTemplatesThere count (plug x x′ g x″) = true
 actTemplatesThere count (plugString x x′ h y) = true
 actTemplatesThere count (show x) = true
+actTemplatesThere count (showFramed x t g) = leb t count
 
 abbrev pub templatesThere : ℕ → Statement → Bool
 templatesThere count (step a p q) = actTemplatesThere count a

@@ -1,5 +1,5 @@
--- Runs of a program (document 01, "A run"). A run knows the templates and the statements of a job and a list of choices, and no
--- proposal. Values are lists of items with gaps still open; strings are all numbers, of which 0 to 63 are the named ones.
+-- Runs of a program (document 01, "A run"; document 02, F-3). A run knows the templates and the statements of a job and a list of
+-- choices, and no proposal. Values are lists of items with gaps still open; strings are all numbers, of which 0 to 63 are the named ones.
 use Prim.Native.Nat.{ℕ}
 use mathlib.Core.List.{List, [], _∷_, _++_}
 use mathlib.Core.Bool.{Bool, cond}
@@ -8,7 +8,7 @@ use mathlib.Core.Option as Option
 use lib.Dec.{eqb}
 use Rattle.commands.specs.Commands.{emptyString}
 use Rattle.pages.specs.Items.{Value, string, open-gap, Attribute, Item, text, blank, gap, element, Items, none, more, one, _⋈_}
-use Rattle.programs.specs.Program.{Act, copyTemplate, setTemplate, copyString, setString, anyString, plug, plugString, show, Statement, step, stop, statementAt, templateAt}
+use Rattle.programs.specs.Program.{Act, copyTemplate, setTemplate, copyString, setString, anyString, plug, plugString, show, showFramed, Statement, step, stop, statementAt, templateAt}
 
 abbrev pub filledValue : (ℕ → Option Value) → Value → Option Value
 filledValue fill (string s) = some (string s)
@@ -96,6 +96,7 @@ module _ (templates : List Items) where
   actTemplates (plug x x′ g x″) X Y = update x (plugged g (X x″) (X x′)) X
   actTemplates (plugString x x′ h y) X Y = update x (pluggedString h (Y y) (X x′)) X
   actTemplates (show x) X Y = X
+  actTemplates (showFramed x t g) X Y = X
 
 -- What a statement does to the string variables; `s` is the choice's string.
 abbrev pub actStrings : Act → ℕ → (ℕ → ℕ) → ℕ → ℕ
@@ -107,9 +108,11 @@ actStrings (anyString y) s Y = update y s Y
 actStrings (plug x x′ g x″) s Y = Y
 actStrings (plugString x x′ h y) s Y = Y
 actStrings (show x) s Y = Y
+actStrings (showFramed x t g) s Y = Y
 
 module _ (templates : List Items) where
-  -- The pages that a statement shows: one at a show, none elsewhere.
+  -- The pages that a statement shows: one at a show, none elsewhere. In a frame it is the frame's template with the variable's items in
+  -- place of each gap g.
   abbrev pub actPages : Act → (ℕ → Items) → List Items
   actPages (copyTemplate x x′) X = []
   actPages (setTemplate x t) X = []
@@ -119,6 +122,7 @@ module _ (templates : List Items) where
   actPages (plug x x′ g x″) X = []
   actPages (plugString x x′ h y) X = []
   actPages (show x) X = closed (X x) ∷ []
+  actPages (showFramed x t g) X = closed (plugged g (X x) (templateAt templates t)) ∷ []
 
   abbrev pub after : Statement → Choice → State → State
   after (step a p q) c σ = record {

@@ -32,6 +32,7 @@ pub enum Act {
     Plug(u8, u8, u8, u8),
     PlugString(u8, u8, u8, u8),
     Show(u8),
+    ShowFramed(u8, u8, u8),
 }
 
 // A statement with its two next points, or `38`.
@@ -75,6 +76,7 @@ pub fn statement_at(s: &[u8], here: Position) -> Statement
         0x35 => step_at(s, here, Act::Plug(a, b, c, d), 5),
         0x36 => step_at(s, here, Act::PlugString(a, b, c, d), 5),
         0x37 => step_at(s, here, Act::Show(a), 2),
+        0x39 => step_at(s, here, Act::ShowFramed(a, b, c), 4),
         _ => Statement::Stop,
     }
 }
@@ -88,7 +90,7 @@ fn statement_context(before: usize) -> Context
     Context::Statements
 }
 
-// Whether the template that an act names is there: only `31` names one.
+// Whether the template that an act names is there: `31` and `39` name one.
 fn act_template_there(act: Act, templates: usize) -> bool
     ensures { λ r. ⌜ r ≡ actTemplatesThere templates (asAct act) ⌝ }
 {
@@ -101,6 +103,7 @@ fn act_template_there(act: Act, templates: usize) -> bool
         Act::Plug(_, _, _, _) => true,
         Act::PlugString(_, _, _, _) => true,
         Act::Show(_) => true,
+        Act::ShowFramed(_, t, _) => (t as usize) <= templates,
     }
 }
 
@@ -167,6 +170,7 @@ fn act_names(act: Act) -> u64
         Act::Plug(x, y, _, z) => with_template(x, with_template(y, with_template(z, 0))),
         Act::PlugString(x, y, _, z) => with_template(x, with_template(y, with_string(z, 0))),
         Act::Show(x) => with_template(x, 0),
+        Act::ShowFramed(x, _, _) => with_template(x, 0),
     }
 }
 

@@ -11,7 +11,7 @@ use Rattle.vocabularies.specs.Facts.{withFacts}
 use Rattle.vocabularies.specs.VocabularyReading.{vocabularySlice}
 use Rattle.pages.specs.Items.{Items, string, open-gap, text, blank, gap, element, one, none, more}
 use Rattle.pages.specs.ItemReading.{pageSlice}
-use Rattle.programs.specs.Program.{Act, copyTemplate, setTemplate, copyString, setString, plug, plugString, show, step, stop, templateVariable, stringVariable}
+use Rattle.programs.specs.Program.{Act, copyTemplate, setTemplate, copyString, setString, plug, plugString, show, showFramed, step, stop, templateVariable, stringVariable}
 use Rattle.summaries.specs.Proposal.{Claim, root, edge, gapFrom, attributeGapFrom, Holding, claim, anyAt, oneString}
 use Rattle.jobs.specs.Job.{Job, job}
 use Rattle.worked_examples.specs.J1.{vocabularyPart, j1}
@@ -60,6 +60,7 @@ each-job = record {
         ∷ step (plug 0 1 7 2) 0 8
         ∷ step (plugString 0 1 7 3) 0 8
         ∷ step (show 0) 0 8
+        ∷ step (showFramed 3 1 7) 0 9
         ∷ stop
         ∷ [];
   };
@@ -81,7 +82,7 @@ each-bytes =
     ++ (0x20 ∷ 0x23 ∷ 0x01 ∷ 0x24 ∷ 0x00 ∷ 0x05 ∷ 0x25 ∷ 0x01 ∷ 0x07 ∷ 0x21 ∷ 0x29 ∷ 0x22 ∷ 0x07 ∷ 0x26 ∷ 0x27 ∷ 0x2F ∷ [])
     ++ (0x30 ∷ 0x00 ∷ 0x03 ∷ 0x00 ∷ 0x08 ∷ 0x31 ∷ 0x01 ∷ 0x01 ∷ 0x00 ∷ 0x08 ∷ 0x32 ∷ 0x00 ∷ 0x03 ∷ 0x00 ∷ 0x08 ∷ 0x33 ∷ 0x01 ∷ 0x3F ∷ 0x00 ∷ 0x08 ∷ [])
     ++ (0x34 ∷ 0x02 ∷ 0x00 ∷ 0x08 ∷ 0x35 ∷ 0x00 ∷ 0x01 ∷ 0x07 ∷ 0x02 ∷ 0x00 ∷ 0x08 ∷ 0x36 ∷ 0x00 ∷ 0x01 ∷ 0x07 ∷ 0x03 ∷ 0x00 ∷ 0x08 ∷ [])
-    ++ (0x37 ∷ 0x00 ∷ 0x00 ∷ 0x08 ∷ 0x38 ∷ 0x3F ∷ [])
+    ++ (0x37 ∷ 0x00 ∷ 0x00 ∷ 0x08 ∷ 0x39 ∷ 0x03 ∷ 0x01 ∷ 0x07 ∷ 0x00 ∷ 0x09 ∷ 0x38 ∷ 0x3F ∷ [])
     ++ (0x40 ∷ 0x00 ∷ 0x03 ∷ 0x41 ∷ 0x00 ∷ 0x41 ∷ 0x01 ∷ 0x42 ∷ 0x01 ∷ 0x07 ∷ 0x01 ∷ 0x43 ∷ 0x01 ∷ 0x07 ∷ 0x3F ∷ 0x44 ∷ 0x01 ∷ 0x07 ∷ [])
     ++ (0x45 ∷ 0x07 ∷ 0x01 ∷ 0x46 ∷ 0x07 ∷ 0x01 ∷ 0x40 ∷ 0x00 ∷ 0x04 ∷ 0x47 ∷ 0x00 ∷ 0x47 ∷ 0x3F ∷ 0x48 ∷ 0x40 ∷ 0x08 ∷ 0x00 ∷ 0x4F ∷ [])
 
@@ -89,12 +90,12 @@ each-written : written-job each-job ≡ each-bytes
 unfolding written-job
 each-written = refl
 
-each-read : job each-bytes ≡ whole each-job 115
+each-read : job each-bytes ≡ whole each-job 121
 unfolding job command ruleOf withFacts
 each-read = refl
 
 each-in-range : JobInRange each-job
-each-in-range = job-written each-bytes each-job 115 (are-bytes each-bytes refl) each-read .in-range
+each-in-range = job-written each-bytes each-job 121 (are-bytes each-bytes refl) each-read .in-range
 
 -- Blank text, and element 1 with attribute 0, string 5, and attribute 3, a string that has no name; in it a text and element 2, which is empty.
 abbrev page : Items

@@ -6,7 +6,7 @@ use lib.ListN.{length}
 use Rattle.vocabularies.specs.Vocabulary.{Vocabulary, declared}
 use Rattle.pages.specs.declared.Kind.the-variants.{Template}
 use Rattle.pages.specs.Items.{Items}
-use Rattle.programs.specs.Program.{Act, copyTemplate, setTemplate, copyString, setString, plug, plugString, show, Statement, step, stop, Variable, templateVariable, stringVariable}
+use Rattle.programs.specs.Program.{Act, copyTemplate, setTemplate, copyString, setString, plug, plugString, show, showFramed, Statement, step, stop, Variable, templateVariable, stringVariable}
 use Rattle.summaries.specs.Proposal.{Claim, root, edge, gapFrom, attributeGapFrom, Holding, claim, anyAt, oneString, Head}
 use Rattle.jobs.specs.Job.{Job}
 use Rattle.round_trip.specs.Written.{written-vocabulary, written-items}
@@ -37,6 +37,7 @@ module _ (count points : ℕ) (c : count ≤ 31) (p : points ≤ 32) where
   act-bytes (plug x x′ g x″) i = omega arith
   act-bytes (plugString x x′ h y) i = omega arith
   act-bytes (show x) i = omega arith
+  act-bytes (showFramed x t g) i = omega arith
 
   statement-bytes : (t : Statement) → StatementInRange count points t → Bytes (written-statement t)
   unfolding Bytes

@@ -12,7 +12,7 @@ use Rattle.commands.specs.declared.Context.the-variants.{FirstStatement, Statem
 use Rattle.commands.specs.declared.Decoded.the-variants.{Moved}
 use Rattle.commands.specs.Commands.{allInRange, allowed, operandsOf, operandBytes, command}
 use Rattle.commands.specs.Reading.{whole}
-use Rattle.programs.specs.Program.{Act, copyTemplate, setTemplate, copyString, setString, plug, plugString, show, Statement, step, stop}
+use Rattle.programs.specs.Program.{Act, copyTemplate, setTemplate, copyString, setString, plug, plugString, show, showFramed, Statement, step, stop}
 use Rattle.programs.specs.ProgramReading.{Placed, statementRead, templatesThere, statementContext, statements, pointsThere, strayed, program}
 use Rattle.round_trip.specs.WrittenJob.{written-statement, written-program}
 use Rattle.round_trip.specs.JobInRange.{StatementInRange, StatementsInRange, ProgramInRange}
@@ -67,6 +67,9 @@ module _ (before count points : ℕ) (s : List ℕ) (at : ℕ) where
       (rw (byte-at 1 r, byte-at 2 r, byte-at 3 r, byte-at 4 r, byte-at 5 r, byte-at 6 r)) refl
   stated w (step (show x) p q) i r =
       states 0x37 r refl refl refl (omega arith) (rw (le-leb x 3 (i .0))) (rw (byte-at 1 r, byte-at 2 r, byte-at 3 r)) refl
+  stated w (step (showFramed x t g) p q) i r =
+      states 0x39 r refl refl refl (omega arith) (rw (le-leb x 3 (i .0 .0), le-leb g 7 (i .0 .2))) (rw (byte-at 1 r, byte-at 2 r, byte-at 3 r, byte-at 4 r, byte-at 5 r))
+      (le-leb t count (i .0 .1))
   stated w stop i r = states 0x38 r refl refl refl (omega arith) refl refl refl
 
 -- Statements where they are written.

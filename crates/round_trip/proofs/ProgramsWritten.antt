@@ -34,11 +34,11 @@ record StatementRead (s : List ℕ) (count at : ℕ) (t : Statement) (next : ℕ
   does : DoesInRange count t
 
 module _ (s : List ℕ) (count at next : ℕ) (x : Context) where
-  statement-read : (code : ℕ) → 0x30 ≤ code → code ≤ 0x38 → Taken x s at code next → templatesThere count (statementRead s at code) ≡ true
+  statement-read : (code : ℕ) → 0x30 ≤ code → code ≤ 0x39 → Taken x s at code next → templatesThere count (statementRead s at code) ≡ true
       → StatementRead s count at (statementRead s at code) next
   unfolding operandsOf operandBytes
   statement-read code low high t there =
-      one-of {low = 0x30} {n = 9} (
+      one-of {low = 0x30} {n = 10} (
       (λ e. let t′ = rw e at t in rw e (record { span = taken-span t′; does = omega (arith, taken-fits t′) }))
       or (λ e. let t′ = rw e at t in
       let h : byte s (at + 2) ≤ count = leb-true (byte s (at + 2)) count (rw e at there) in
@@ -50,6 +50,9 @@ module _ (s : List ℕ) (count at next : ℕ) (x : Context) where
       or (λ e. let t′ = rw e at t in rw e (record { span = taken-span t′; does = omega (arith, taken-fits t′) }))
       or (λ e. let t′ = rw e at t in rw e (record { span = taken-span t′; does = omega (arith, taken-fits t′) }))
       or (λ e. rw e (record { span = taken-span (rw e at t); does = tt }))
+      or (λ e. let t′ = rw e at t in
+      let h : byte s (at + 2) ≤ count = leb-true (byte s (at + 2)) count (rw e at there) in
+      rw e (record { span = taken-span t′; does = omega (arith, taken-fits t′) }))
       or done
       )
       low (omega arith)
@@ -63,13 +66,13 @@ some-before before e = by-test (eqb before 0) refl e
     by-test true z e = absurd (let f : _≡_ {A = ℕ} 0 1 = cc in omega arith)
     by-test false z e = omega (arith, eqb-false before 0 z)
 
-is-statement : (before code : ℕ) → allowed (statementContext before) code ≡ true → eqb code 0x3F ≡ false → (0x30 ≤ code) × (code ≤ 0x38)
+is-statement : (before code : ℕ) → allowed (statementContext before) code ≡ true → eqb code 0x3F ≡ false → (0x30 ≤ code) × (code ≤ 0x39)
 unfolding allowed
 is-statement before code e n =
-    let both = and-eq-true-iff (leb 0x30 code) (leb code 0x38) .0 (by-test (eqb before 0) e) in
-    (leb-true 0x30 code (both .0), leb-true code 0x38 (both .1))
+    let both = and-eq-true-iff (leb 0x30 code) (leb code 0x39) .0 (by-test (eqb before 0) e) in
+    (leb-true 0x30 code (both .0), leb-true code 0x39 (both .1))
   where
-    by-test : (b : Bool) → allowed (cond b FirstStatement Statements) code ≡ true → (leb 0x30 code && leb code 0x38) ≡ true
+    by-test : (b : Bool) → allowed (cond b FirstStatement Statements) code ≡ true → (leb 0x30 code && leb code 0x39) ≡ true
     by-test true e = e
     by-test false e = rw (n, or-false) at e
 

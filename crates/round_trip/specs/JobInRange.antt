@@ -1,6 +1,6 @@
 -- Which jobs have all their parts in range (document 01, "A job, command by command", Templates, Program, Proposal and the last
--- paragraph; "Verdicts", 5 and 8). The numbers here are the document's own, not those of the definitions that read, but for the number of
--- named strings, 64.
+-- paragraph; "Verdicts", 5 and 8; document 02, F-3, for `39`). The numbers here are the document's own, not those of the definitions that
+-- read, but for the number of named strings, 64.
 use Prim.Native.Nat.{ℕ, _≤_, _<_}
 use mathlib.Core.Path.{_≡_}
 use mathlib.Core.Logic.{_⊎_}
@@ -10,7 +10,7 @@ use Rattle.commands.specs.Commands.{strings}
 use Rattle.vocabularies.specs.Vocabulary.{Vocabulary}
 use Rattle.pages.specs.declared.Kind.the-variants.{Template}
 use Rattle.pages.specs.Items.{Items}
-use Rattle.programs.specs.Program.{Act, copyTemplate, setTemplate, copyString, setString, plug, plugString, show, Statement, step, stop, Variable, templateVariable, stringVariable}
+use Rattle.programs.specs.Program.{Act, copyTemplate, setTemplate, copyString, setString, plug, plugString, show, showFramed, Statement, step, stop, Variable, templateVariable, stringVariable}
 use Rattle.summaries.specs.Proposal.{Claim, root, edge, gapFrom, attributeGapFrom, Holding, claim, anyAt, oneString, Head}
 use Rattle.jobs.specs.Job.{Script, Job}
 use Rattle.round_trip.specs.Written.{written-vocabulary}
@@ -36,6 +36,7 @@ ActInRange templates (Act.anyString y) = y ≤ 3
 ActInRange templates (plug x x′ g x″) = (x ≤ 3) × (x′ ≤ 3) × (g ≤ 7) × (x″ ≤ 3)
 ActInRange templates (plugString x x′ h y) = (x ≤ 3) × (x′ ≤ 3) × (h ≤ 7) × (y ≤ 3)
 ActInRange templates (show x) = x ≤ 3
+ActInRange templates (showFramed x t g) = (x ≤ 3) × (t ≤ templates) × (g ≤ 7)
 
 -- Next points are there.
 abbrev pub StatementInRange : ℕ → ℕ → Statement → Type 0

@@ -1,10 +1,10 @@
--- Jobs written out as bytes (document 01, "A job, command by command"): vocabulary, templates, program and proposal, in order. What is
--- written of a proposal stands with it.
+-- Jobs written out as bytes (document 01, "A job, command by command"; document 02, F-3, for `39`): vocabulary, templates, program and
+-- proposal, in order. What is written of a proposal stands with it.
 use Prim.Native.Nat.{ℕ, _+_}
 use mathlib.Core.List.{List, [], _∷_, _++_}
 use lib.ListN.{length}
 use Rattle.pages.specs.Items.{Items}
-use Rattle.programs.specs.Program.{Act, copyTemplate, setTemplate, copyString, setString, plug, plugString, show, Statement, step, stop}
+use Rattle.programs.specs.Program.{Act, copyTemplate, setTemplate, copyString, setString, plug, plugString, show, showFramed, Statement, step, stop}
 pub use Rattle.summaries.specs.WrittenProposal.{written-holding, written-variable}
 unfoldable pub use Rattle.summaries.specs.WrittenProposal.{written-holdings, written-head, written-proposal}
 use Rattle.jobs.specs.Job.{Script, Job}
@@ -36,6 +36,7 @@ written-act (Act.anyString y) = 0x34 ∷ y ∷ []
 written-act (plug x x′ g x″) = 0x35 ∷ x ∷ x′ ∷ g ∷ x″ ∷ []
 written-act (plugString x x′ h y) = 0x36 ∷ x ∷ x′ ∷ h ∷ y ∷ []
 written-act (show x) = 0x37 ∷ x ∷ []
+written-act (showFramed x t g) = 0x39 ∷ x ∷ t ∷ g ∷ []
 
 abbrev pub written-statement : Statement → List ℕ
 written-statement (step a p q) = written-act a ++ p ∷ q ∷ []

@@ -1,7 +1,7 @@
 // The shows of a job (document 01, "Verdicts", 11 and 12): what a point shows, and what is wrong in the pages of its language.
 ghost use mathlib.Core.Path.{_≡_};
 ghost use Prim.Native.Nat.{_<_};
-ghost use Rattle.shows.specs.contracts.Promises.{ShowsAt, HoldsShown, TabledBy, DecidesShow, isOther, LowestRoot, shownOf, WrongElements};
+ghost use Rattle.shows.specs.contracts.Promises.{ShowsAt, HoldsEntry, HoldsSource, HoldsShown, TabledBy, DecidesShow, isOther, LowestRoot, shownOf, WrongElements};
 use commands::Position;
 use graphs::Graph;
 use pages::MOST_TEMPLATES;
@@ -12,10 +12,17 @@ use schemes::EMPTY;
 use schemes::OTHER;
 use vocabularies::Tables;
 
-// What a point shows: nothing, or the value of a template variable.
+// What a point shows: nothing, or a page.
 pub enum Showing {
     Nothing,
+    Page(Source),
+}
+
+// What the page of a show is made from: the value of a template variable; or a template, the frame, with that value in place of its gap
+// (document 02, F-3).
+pub enum Source {
     Variable(u8),
+    Framed { x: u8, frame: u8, gap: u8 },
 }
 
 // What is found at a show: nothing; a root template with a page that is not exactly the root element (11); or an element that is
@@ -55,7 +62,8 @@ pub fn showing_at(s: &[u8], place: usize) -> Showing
         return Showing::Nothing;
     };
     match act {
-        Act::Show(x) => Showing::Variable(x),
+        Act::Show(x) => Showing::Page(Source::Variable(x)),
+        Act::ShowFramed(x, frame, gap) => Showing::Page(Source::Framed { x, frame, gap }),
         Act::CopyTemplate(_, _) => Showing::Nothing,
         Act::SetTemplate(_, _) => Showing::Nothing,
         Act::CopyString(_, _) => Showing::Nothing,
@@ -66,11 +74,61 @@ pub fn showing_at(s: &[u8], place: usize) -> Showing
     }
 }
 
-// The graph, which is lent empty, then holds what a show of the variable at the point shows: its entry there, closed.
-pub fn shown_graph(s: &[u8], heads: &[usize; 256], p: usize, x: u8, graph: &mut Graph)
-    ensures { λ _. ⌜ HoldsShown (now (s .entry)) (now (heads .entry)) p x (now (graph .entry)) (now (graph .exit)) ⌝ }
+// The graph, which is lent empty, then holds the entry of a template variable at the point.
+fn load_entry(s: &[u8], heads: &[usize; 256], p: usize, x: u8, graph: &mut Graph)
+    ensures { λ _. ⌜ HoldsEntry (now (s .entry)) (now (heads .entry)) p x (now (graph .entry)) (now (graph .exit)) ⌝ }
 {
     entries::load(s, covering::template_head(heads, p, x as usize), graph);
+}
+
+// The graph, which is lent empty, then holds the frame with the entry of a template variable in place of its gap.
+fn load_framed(
+    s: &[u8],
+    heads: &[usize; 256],
+    gaps: &[u64; 32],
+    p: usize,
+    x: u8,
+    frame: u8,
+    gap: u8,
+    graph: &mut Graph,
+)
+    ensures { λ _. ⌜ HoldsSource (now (s .entry)) (now (heads .entry)) (now (gaps .entry)) p (Source.Framed x frame gap) (now (graph .entry)) (now (graph .exit)) ⌝ }
+{
+    entries::add_template(graph, frame, gaps[(frame % 32) as usize]);
+    let mut value = graphs::none();
+    load_entry(s, heads, p, x, &mut value);
+    entries::plug(graph, gap, &mut value);
+}
+
+// The graph, which is lent empty, then holds what the page is made from.
+fn load_source(
+    s: &[u8],
+    heads: &[usize; 256],
+    gaps: &[u64; 32],
+    p: usize,
+    source: Source,
+    graph: &mut Graph,
+)
+    ensures { λ _. ⌜ HoldsSource (now (s .entry)) (now (heads .entry)) (now (gaps .entry)) p source (now (graph .entry)) (now (graph .exit)) ⌝ }
+{
+    match source {
+        Source::Variable(x) => load_entry(s, heads, p, x, graph),
+        Source::Framed { x, frame, gap } => load_framed(s, heads, gaps, p, x, frame, gap, graph),
+    }
+}
+
+// The graph, which is lent empty, then holds what a show of a page at the point shows: what it is made from, closed.
+pub fn shown_graph(
+    s: &[u8],
+    heads: &[usize; 256],
+    gaps: &[u64; 32],
+    p: usize,
+    source: Source,
+    graph: &mut Graph,
+)
+    ensures { λ _. ⌜ HoldsShown (now (s .entry)) (now (heads .entry)) (now (gaps .entry)) p source (now (graph .entry)) (now (graph .exit)) ⌝ }
+{
+    load_source(s, heads, gaps, p, source, graph);
     graphs::close(graph);
 }
 

@@ -1,39 +1,26 @@
 -- What is made of a variable, by the way in which it is made.
 use Prim.Native.Nat.{ℕ, _%_, _<_}
-use mathlib.Core.Path.{_≡_, sym, _∙_}
+use mathlib.Core.Path.{_≡_}
 use mathlib.Core.List.{List}
-use mathlib.Core.Bool.{Bool, true}
+use mathlib.Core.Bool.{true}
 use native.Mathlib.Omega.{arith}
 use lib.ListN.{length, getD}
 use lib.Dec.{eqb}
-use Rattle.sets.specs.Sets.{member}
 use Rattle.strings.specs.Strings.{strings}
 use Rattle.strings.specs.declared.Values.{Values}
 use Rattle.strings.specs.contracts.Promises.{holdsValue}
 use Rattle.pages.specs.Items.{Items}
 use Rattle.pages.specs.contracts.Gaps.{GapsAre, GapsTable}
 use Rattle.programs.specs.Program.{templateAt}
-use Rattle.summaries.specs.Proposal.{root}
-use Rattle.summaries.specs.Summaries.{Summary, fragment, plugSummary, plugStringSummary}
+use Rattle.summaries.specs.Summaries.{fragment, plugSummary, plugStringSummary}
 use Rattle.transfers.specs.declared.Made.{Made}
 use Rattle.transfers.specs.declared.Made.the-variants.{Value, Template, Plugged, Filled}
 use Rattle.transfers.specs.declared.MadeString.{MadeString}
 use Rattle.transfers.specs.declared.MadeString.the-variants as MadeStrings
 use Rattle.transfers.specs.contracts.Ways.{summaryMade, stringsMade, MadeFits, StringMadeFits, MadeThere}
-use Rattle.graphs.specs.contracts.Graphs.{holds, Keeps}
-use Rattle.graphs.specs.contracts.Promises.{Joins}
-use Rattle.entries.specs.declared.Passing.{Passing}
-use Rattle.entries.specs.contracts.Passing.{passed, withoutRoots, plugging, Unfilled}
-use Rattle.entries.proofs.Transfers.{plug-keeps}
+use Rattle.graphs.specs.contracts.Graphs.{Keeps}
 use Rattle.states.specs.contracts.States.{entriesIn}
 use Rattle.states.specs.contracts.Promises.{GraphTaken, ValuesTaken}
-
--- The value that is plugged and the value plugged in, passed and joined.
-pub plugged-joined : (g roots : ℕ) (first second : Passing) → Unfilled (λ none. plugging none g roots) first → Unfilled withoutRoots second
-    → (S T : Summary) (a b b′ r : List ℕ) (changed : Bool) → Keeps b T → ((n : ℕ) → member roots n ≡ holds b (root n)) → Keeps a (passed first S) → Keeps b′ (passed second T) → Joins a b′ r changed
-    → Keeps r (plugSummary g S T)
-plugged-joined g roots first second U W S T a b b′ r changed K is L M J =
-    plug-keeps g roots first second U W S T (λ n. K .same (root n) tt ∙ sym (is n)) r (J .keeps _ _ L M)
 
 module _ (work gaps : List ℕ) (p : ℕ) (way : Made) (r : List ℕ) where
   abbrev Makes : Type 0

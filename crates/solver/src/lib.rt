@@ -49,10 +49,7 @@ fn plugged_graph(work: &[u64], p: usize, x: usize, g: u8, y: usize) -> Graph
 {
     let mut first = states::graph_at(work, p, x);
     let mut second = states::graph_at(work, p, y);
-    let plugged = entries::plugging(g, graphs::roots(&second));
-    entries::pass(&mut first, plugged);
-    entries::pass(&mut second, entries::without_roots());
-    graphs::join(&mut first, &second);
+    entries::plug(&mut first, g, &mut second);
     first
 }
 

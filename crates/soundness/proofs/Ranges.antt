@@ -13,7 +13,7 @@ use Rattle.verdicts.specs.declared.Form.the-variants.{TooMany, Missing}
 use Rattle.commands.specs.Commands.{byte, operandsOf, allInRange}
 use Rattle.commands.specs.Reading.{Read, whole, refused, andThen, when}
 use Rattle.commands.proofs.Laws.{moved, andThen-whole, onCommand-whole, when-whole}
-use Rattle.programs.specs.Program.{copyTemplate, setTemplate, copyString, setString, anyString, plug, plugString, show, Statement, step, stop, Variable, templateVariable, stringVariable, statementNames, named}
+use Rattle.programs.specs.Program.{copyTemplate, setTemplate, copyString, setString, anyString, plug, plugString, show, showFramed, Statement, step, stop, Variable, templateVariable, stringVariable, statementNames, named}
 use Rattle.programs.specs.ProgramReading.{Placed, statementOf, statementRead, statementContext, statements, strayed, unlessStrayed, program, templatesThere, mostPoints}
 use Rattle.sets.proofs.Booleans.{or-cases, and-left, and-right}
 use Rattle.soundness.proofs.Run.{InRange}
@@ -71,6 +71,11 @@ module _ (s : List ℕ) (at : ℕ) where
     show-bounded h (templateVariable x) e = same x (o 1) e (and-left _ true h)
     show-bounded h (stringVariable y) e = absurd (false≢true e)
 
+    show-framed-bounded : allInRange (operandsOf 0x39) s (at + 1) ≡ true → Bounded (step (showFramed (o 1) (o 2) (o 3)) (o 4) (o 5))
+    unfolding allInRange operandsOf
+    show-framed-bounded h (templateVariable x) e = same x (o 1) e (and-left _ _ h)
+    show-framed-bounded h (stringVariable y) e = absurd (false≢true e)
+
     copy-template-bounded : allInRange (operandsOf 0x30) s (at + 1) ≡ true → Bounded (step (copyTemplate (o 1) (o 2)) (o 3) (o 4))
     unfolding allInRange operandsOf
     copy-template-bounded h (templateVariable x) e = either-of x (o 1) (o 2) e (and-left _ _ h) (operand-2 true h)
@@ -118,7 +123,8 @@ module _ (s : List ℕ) (at : ℕ) where
         (one-of Bounded (eqb code 0x34) _ _ (λ e. any-string-bounded (ranges 0x34 e))
         (one-of Bounded (eqb code 0x35) _ _ (λ e. plug-bounded (ranges 0x35 e))
         (one-of Bounded (eqb code 0x36) _ _ (λ e. plug-string-bounded (ranges 0x36 e))
-        (one-of Bounded (eqb code 0x37) _ _ (λ e. show-bounded (ranges 0x37 e)) stop-bounded)))))))
+        (one-of Bounded (eqb code 0x37) _ _ (λ e. show-bounded (ranges 0x37 e))
+        (one-of Bounded (eqb code 0x39) _ _ (λ e. show-framed-bounded (ranges 0x39 e)) stop-bounded))))))))
 
 -- Every statement that is read names variables in range, and so does the program.
 AllBounded : List Statement → Type 0

@@ -1,8 +1,8 @@
 -- The values of a run are always described by a covering summary, and so every page shown is right.
-use Prim.Native.Nat.{ℕ, zero, suc, _+_, _-_, _<_}
-use mathlib.Core.Path.{_≡_, refl, sym, ap, subst}
+use Prim.Native.Nat.{ℕ, _+_, _-_, _<_}
+use mathlib.Core.Path.{_≡_, refl, sym, ap, subst, _∙_}
 use mathlib.Core.List.{List, [], _∷_, List·Memᴰ·append-cases, List·Memᴰ·eq-of-singleton, List·Memᴰ·not-nil}
-use mathlib.Core.Bool.{Bool, true, false, cond, _||_, false≢true}
+use mathlib.Core.Bool.{Bool, true, false, cond, _||_}
 use mathlib.Core.Option.{some}
 use mathlib.Core.Logic.{_⊎_, ⊎-elim}
 use native.Mathlib.Omega.{arith}
@@ -10,12 +10,13 @@ use borrow.Author.Tests.{lt-ltb, le-ltb, eq-eqb}
 use lib.Dec.{eqb, ltb}
 use Rattle.pages.specs.Items.{Items, none}
 use Rattle.pages.specs.RightPages.{Right, _∈_}
-use Rattle.programs.specs.Program.{Act, copyTemplate, setTemplate, copyString, setString, anyString, plug, plugString, show, Statement, step, stop, Variable, templateVariable, stringVariable, actNames, statementNames, named, statementAt}
+use Rattle.programs.specs.Program.{Act, copyTemplate, setTemplate, copyString, setString, anyString, plug, plugString, show, showFramed, Statement, step, stop, Variable, templateVariable, stringVariable, actNames, named, statementAt}
 use Rattle.programs.specs.Runs.{Choice, State, start, actTemplates, actStrings, actPages, after, stepped, runFrom, shown, closed}
+use Rattle.programs.proofs.Points.{names-of}
 use Rattle.summaries.specs.ProposalReading.{variableOf}
 use Rattle.summaries.specs.Summaries.{Summary, Strings, Environment, transferTemplate, transferString, transfer, fragment}
 use Rattle.summaries.specs.Covering.{WithinAt, StepCovered, startEnvironment}
-use Rattle.summaries.specs.Languages.{closedSummary, statementGraph, graphShown}
+use Rattle.summaries.specs.Languages.{closedSummary, closedIfShown, summaryShown, statementGraph, graphShown}
 use Rattle.jobs.specs.Job.{Script}
 use Rattle.jobs.specs.JobVerdict.{AllCovered, ShowHolds, StatementHolds}
 use Rattle.sets.proofs.Booleans.{or-left, or-right}
@@ -27,13 +28,6 @@ use Rattle.soundness.proofs.Shows.{shown-in-language, template-zero}
 pub record InRange (ts : List Statement) : Type 0 where
   pub template : (x : ℕ) → named ts (templateVariable x) ≡ true → x < 4
   pub string : (y : ℕ) → named ts (stringVariable y) ≡ true → y < 4
-
--- What a statement of the program names, the program names.
-names-of : (ts : List Statement) (p : ℕ) (v : Variable) → statementNames (statementAt ts p) v ≡ true → named ts v ≡ true
-unfolding statementAt named
-names-of [] p v e = absurd (false≢true e)
-names-of (t ∷ ts) zero v e = or-left (statementNames t v) (named ts v) e
-names-of (t ∷ ts) (suc p) v e = or-right (statementNames t v) (named ts v) (names-of ts p v e)
 
 module _ {A B : Type 0} (R : A → B → Type 0) where
   cond-both : (b : Bool) {x y : A} {x′ y′ : B} → R x x′ → R y y′ → R (cond b x y) (cond b x′ y′)
@@ -67,6 +61,7 @@ module _ (φs : List Items) (E : Environment) (X : ℕ → Items) (Y : ℕ → �
       (hX x′ (n (templateVariable x′) (or-right (eqb x′ x) (eqb x′ x′) (eq-eqb x′ x′ refl)))))
       (hX k e)
   act-templates (show x) n k e = hX k e
+  act-templates (showFramed x t g) n k e = hX k e
 
   act-strings : (a : Act) (s : ℕ) → ((v : Variable) → actNames a v ≡ true → N v ≡ true) → (k : ℕ) → N (stringVariable k) ≡ true
       → transferString a E k (actStrings a s Y k) ≡ true
@@ -78,6 +73,7 @@ module _ (φs : List Items) (E : Environment) (X : ℕ → Items) (Y : ℕ → �
   act-strings (plug x x′ g x″) s n k e = hY k e
   act-strings (plugString x x′ h y) s n k e = hY k e
   act-strings (show x) s n k e = hY k e
+  act-strings (showFramed x t g) s n k e = hY k e
 
 module _ (π : Script) (E : ℕ → Environment) (in-range : InRange (π .program)) (covered : AllCovered π E) (shows : (p : ℕ) → ShowHolds π E p) where
   -- What holds at each point of a run.
@@ -107,10 +103,10 @@ module _ (π : Script) (E : ℕ → Environment) (in-range : InRange (π .progra
     pages = λ page m. absurd (List·Memᴰ·not-nil m);
   }
 
-  graph-at : (p : ℕ) {q q′ : ℕ} (x : ℕ) → statementAt (π .program) p ≡ step (show x) q q′
-      → graphShown (π .templates) (π .program) E p ≡ some (closedSummary (E p .template x))
+  graph-at : (p : ℕ) {q q′ : ℕ} (a : Act) → statementAt (π .program) p ≡ step a q q′
+      → graphShown (π .templates) (π .program) E p ≡ closedIfShown (summaryShown (π .templates) a (E p))
   unfolding graphShown
-  graph-at p x e = ap (λ (t : Statement). statementGraph (π .templates) t (E p)) e
+  graph-at p a e = ap (λ (t : Statement). statementGraph (π .templates) t (E p)) e
 
   -- The step to a next point, in the terms of covering.
   module _ (σ : State) (i : Invariant σ) (a : Act) (q q′ : ℕ) (at : statementAt (π .program) (σ .point) ≡ step a q q′) where
@@ -138,22 +134,28 @@ module _ (π : Script) (E : ℕ → Environment) (in-range : InRange (π .progra
         (actStrings a s (σ .string) y)
         (act-strings (π .templates) (E (σ .point)) (σ .template) (σ .string) (named (π .program)) (i .template) (i .string) a s names y n)
 
-    -- A page that the step shows is right.
-    new-page : (page : Items) → page ∈ actPages (π .templates) a (σ .template) → Right (π .vocabulary) page
-    new-page page m = go a at m
-      where
-        go : (b : Act) → statementAt (π .program) (σ .point) ≡ step b q q′ → page ∈ actPages (π .templates) b (σ .template) → Right (π .vocabulary) page
-        go (copyTemplate x x′) e m = absurd (List·Memᴰ·not-nil m)
-        go (setTemplate x t) e m = absurd (List·Memᴰ·not-nil m)
-        go (copyString y y′) e m = absurd (List·Memᴰ·not-nil m)
-        go (setString y t) e m = absurd (List·Memᴰ·not-nil m)
-        go (anyString y) e m = absurd (List·Memᴰ·not-nil m)
-        go (plug x x′ g x″) e m = absurd (List·Memᴰ·not-nil m)
-        go (plugString x x′ h y) e m = absurd (List·Memᴰ·not-nil m)
-        go (show x) e m = subst (Right (π .vocabulary)) (sym (List·Memᴰ·eq-of-singleton m))
-            (shows (σ .point) (closedSummary (E (σ .point) .template x))
-            (graph-at (σ .point) x e) (closed (σ .template x))
-            (shown-in-language (i .template x (names-of (π .program) (σ .point) (templateVariable x) (rw e (eq-eqb x x refl))))))
+    -- A page that the summary shown describes is right.
+    described-right : (S : Summary) → summaryShown (π .templates) a (E (σ .point)) ≡ some S
+        → {v page : Items} → Holds S (π .templates) v → page ∈ (closed v ∷ []) → Right (π .vocabulary) page
+    described-right S s {v} h m = subst (Right (π .vocabulary)) (sym (List·Memᴰ·eq-of-singleton m))
+        (shows (σ .point) (closedSummary S) (graph-at (σ .point) a at ∙ ap closedIfShown s) (closed v) (shown-in-language h))
+
+    named-holds : (x : ℕ) → actNames a (templateVariable x) ≡ true → Holds (E (σ .point) .template x) (π .templates) (σ .template x)
+    named-holds x e = i .template x (names (templateVariable x) e)
+
+  -- A page that the step shows is right.
+  new-page : (σ : State) (i : Invariant σ) (a : Act) (q q′ : ℕ) → statementAt (π .program) (σ .point) ≡ step a q q′
+      → (page : Items) → page ∈ actPages (π .templates) a (σ .template) → Right (π .vocabulary) page
+  new-page σ i (copyTemplate x x′) q q′ e page m = absurd (List·Memᴰ·not-nil m)
+  new-page σ i (setTemplate x t) q q′ e page m = absurd (List·Memᴰ·not-nil m)
+  new-page σ i (copyString y y′) q q′ e page m = absurd (List·Memᴰ·not-nil m)
+  new-page σ i (setString y t) q q′ e page m = absurd (List·Memᴰ·not-nil m)
+  new-page σ i (anyString y) q q′ e page m = absurd (List·Memᴰ·not-nil m)
+  new-page σ i (plug x x′ g x″) q q′ e page m = absurd (List·Memᴰ·not-nil m)
+  new-page σ i (plugString x x′ h y) q q′ e page m = absurd (List·Memᴰ·not-nil m)
+  new-page σ i (show x) q q′ e page m = described-right σ i (show x) q q′ e _ refl (named-holds σ i (show x) q q′ e x (eq-eqb x x refl)) m
+  new-page σ i (showFramed x t g) q q′ e page m = described-right σ i (showFramed x t g) q q′ e _ refl
+      (plug-holds g (set-template (π .templates) t) (named-holds σ i (showFramed x t g) q q′ e x (eq-eqb x x refl))) m
 
   keeps : (c : Choice) (σ : State) (t : Statement) → statementAt (π .program) (σ .point) ≡ t → Invariant σ → Invariant (after (π .templates) t c σ)
   keeps c σ stop e i = i

@@ -1,18 +1,18 @@
 -- Each statement keeps values described: what its transfer function makes of the summaries describes what a run makes of the values.
 use Prim.Native.Nat.{ℕ}
-use mathlib.Core.Path.{_≡_, refl, ap, subst, _∙_}
+use mathlib.Core.Path.{_≡_, refl, subst, _∙_}
 use mathlib.Core.List.{List, [], _∷_}
 use mathlib.Core.Bool.{Bool, true, false, cond, _&&_, _||_}
-use mathlib.Core.Option.{Option, some}
+use mathlib.Core.Option.{some}
 use lib.Dec.{eqb}
 use borrow.Author.Tests.{eq-eqb}
 use Rattle.pages.specs.Items.{Value, string, open-gap, Attribute, Item, text, blank, gap, element, Items, none, more, one, _⋈_, gapIn, gapInItem, attributeGapIn, attributeGapInItem, openIn, isOpenGap}
 use Rattle.programs.specs.Program.{templateAt}
-use Rattle.programs.specs.Runs.{replaced, replacedItem, filled, filledBefore, filledValue, stay, stayOpen, plugged, pluggedString}
+use Rattle.programs.specs.Runs.{stay, stayOpen, plugged, pluggedString}
+use Rattle.programs.proofs.Replacing.{unchanged}
 use Rattle.summaries.specs.Proposal.{Claim, root, edge, gapFrom, attributeGapFrom}
 use Rattle.summaries.specs.Proposal as Proposal
 use Rattle.summaries.specs.Summaries.{Summary, Strings, fragment, plugSummary, plugStringSummary}
-use Rattle.summaries.specs.Languages as Languages
 use Rattle.sets.proofs.Booleans.{or-left, or-right, and-both}
 use Rattle.soundness.proofs.Described.{FillsWith, takes, stays, AttributesDescribed, no-attribute, fixed, holds, Describes, nothing, item-then, DescribesItem, text-stays, blank-stays, gap-stays, gap-takes, element-keeps, described-replaced}
 
@@ -21,34 +21,6 @@ pub record Holds (S : Summary) (φs : List Items) (v : Items) : Type 0 where
   pub origin : ℕ
   pub is-root : S (root origin) ≡ true
   pub describes : Describes S φs origin (templateAt φs origin) v
-
--- A replacement that changes nothing.
-value-unchanged : (v : Value) → filledValue stayOpen v ≡ some v
-value-unchanged (string s) = refl
-value-unchanged (open-gap h) = refl
-
-attributes-unchanged : (δ : List Attribute) → filled stayOpen δ ≡ δ
-unfolding filled
-attributes-unchanged [] = refl
-attributes-unchanged (a ∷ δ) =
-    ap (λ (o : Option Value). filledBefore (a .name) o (filled stayOpen δ)) (value-unchanged (a .value))
-    ∙ ap (λ (δ′ : List Attribute). a ∷ δ′) (attributes-unchanged δ)
-
-mutual
-  unfolding replaced _⋈_
-
-  unchanged : (φ : Items) → replaced stay stayOpen φ ≡ φ
-  unchanged none = refl
-  unchanged (more i φ) =
-      ap (λ (ψ : Items). ψ ⋈ replaced stay stayOpen φ) (item-unchanged i) ∙ ap (more i) (unchanged φ)
-
-  item-unchanged : (i : Item) → replacedItem stay stayOpen i ≡ one i
-  item-unchanged text = refl
-  item-unchanged blank = refl
-  item-unchanged (gap g) = refl
-  item-unchanged (element e mark δ φ) =
-      ap (λ (δ′ : List Attribute). one (element e mark δ′ (replaced stay stayOpen φ))) (attributes-unchanged δ)
-      ∙ ap (λ (φ′ : Items). one (element e mark δ φ′)) (unchanged φ)
 
 -- What S holds but for its roots, T holds.
 pub record Extends (S T : Summary) : Type 0 where
@@ -59,7 +31,7 @@ pub record Extends (S T : Summary) : Type 0 where
 
 pub extended : {S T : Summary} {φs : List Items} {n : ℕ} {φ v : Items} → Extends S T → Describes S φs n φ v → Describes T φs n φ v
 extended {S} {T} {φs} {n} {φ} {v} x d =
-    subst (Describes T φs n φ) (unchanged v)
+    subst (Describes T φs n φ) (unchanged stay stayOpen v (λ g e. refl) (λ h e. refl))
     (described-replaced S T φs stay stayOpen (x .edges) (x .strings)
     (λ k g e. gap-stays (x .gaps k g e)) (λ k h e. stays (x .attribute-gaps k h e)) d)
 

@@ -4,4 +4,5 @@ pub mod Here
 pub mod Reading
 mod Heads
 pub mod Steps
+pub mod Frames
 pub mod Laws

@@ -8,10 +8,10 @@ use mathlib.Core.Option.{Option, some, none}
 use lib.Dec.{eqb}
 use Rattle.pages.specs.Items.{open-gap, Attribute, Item, text, blank, gap, element, Items, more, one, _⋈_}
 use Rattle.pages.specs.Items as Items
-use Rattle.programs.specs.Program.{Act, copyTemplate, setTemplate, copyString, setString, anyString, plug, plugString, show, Statement, step, stop, statementAt, templateAt}
+use Rattle.programs.specs.Program.{Act, copyTemplate, setTemplate, copyString, setString, anyString, plug, plugString, show, showFramed, Statement, step, stop, statementAt, templateAt}
 use Rattle.programs.specs.Runs.{closing}
 use Rattle.summaries.specs.Proposal.{root, edge, string, gapFrom, attributeGapFrom}
-use Rattle.summaries.specs.Summaries.{Summary, Environment}
+use Rattle.summaries.specs.Summaries.{Summary, Environment, fragment, plugSummary}
 
 -- Whether a string is what an open attribute gap takes.
 abbrev pub isTaken : Option ℕ → ℕ → Bool
@@ -55,7 +55,9 @@ module _ (φs : List Items) (G : Summary) where
   abbrev pub Language : Items → Type 0
   Language page = (r : ℕ) × DerivedFrom r page
 
--- The summary that a statement shows: a show's variable's entry, nothing elsewhere.
+-- The summary that a statement shows. At a show: its variable's entry. At a show in a frame (document 02, F-3): what a load of the frame's
+-- template and a plug of the variable's entry into its gap give; the root is the frame's template, and the graphs join even if that
+-- template lacks the gap. Elsewhere: nothing.
 abbrev pub summaryShown : List Items → Act → Environment → Option Summary
 summaryShown φs (copyTemplate x x′) E = none
 summaryShown φs (setTemplate x t) E = none
@@ -65,6 +67,7 @@ summaryShown φs (anyString y) E = none
 summaryShown φs (plug x x′ g x″) E = none
 summaryShown φs (plugString x x′ h y) E = none
 summaryShown φs (show x) E = some (E .template x)
+summaryShown φs (showFramed x t g) E = some (plugSummary g (fragment t (templateAt φs t)) (E .template x))
 
 abbrev pub closedIfShown : Option Summary → Option Summary
 closedIfShown none = none
@@ -78,3 +81,7 @@ statementGraph φs stop E = none
 unfoldable pub graphShown : List Items → List Statement → (ℕ → Environment) → ℕ → Option Summary
 unfolding statementAt
 graphShown φs program E p = statementGraph φs (statementAt program p) (E p)
+
+-- The language of a show: that of the graph that its point shows.
+abbrev pub LanguageAt : List Items → List Statement → (ℕ → Environment) → ℕ → Items → Type 0
+LanguageAt φs program E p page = (G : Summary) × (graphShown φs program E p ≡ some G) × Language φs G page

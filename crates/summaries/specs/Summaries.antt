@@ -7,7 +7,7 @@ use mathlib.Core.List.{List, [], _∷_}
 use mathlib.Core.Bool.{Bool, true, false, cond, _&&_, _||_}
 use lib.Dec.{eqb}
 use Rattle.pages.specs.Items.{Items, gapIn, attributeGapIn}
-use Rattle.programs.specs.Program.{Act, copyTemplate, setTemplate, copyString, setString, anyString, plug, plugString, show, Variable, templateVariable, stringVariable, templateAt}
+use Rattle.programs.specs.Program.{Act, copyTemplate, setTemplate, copyString, setString, anyString, plug, plugString, show, showFramed, Variable, templateVariable, stringVariable, templateAt}
 use Rattle.programs.specs.Runs.{update}
 use Rattle.summaries.specs.Proposal.{Claim, root, edge, string, gapFrom, attributeGapFrom, Holding, claim, anyAt, oneString, Head}
 use Rattle.summaries.specs.Proposal as Proposal
@@ -54,7 +54,8 @@ plugStringSummary h S Y (gapFrom g n) = S (gapFrom g n)
 plugStringSummary h S Y (attributeGapFrom k n) = cond (eqb k h) false (S (attributeGapFrom k n))
 
 module _ (φs : List Items) where
-  -- The transfer function of each statement on the template variables; a show and the statements on strings leave them.
+  -- The transfer function of each statement on the template variables; a show, in a frame or not, and the statements on strings leave
+  -- them.
   abbrev pub transferTemplate : Act → Environment → ℕ → Summary
   transferTemplate (copyTemplate x x′) E = update x (E .template x′) (E .template)
   transferTemplate (setTemplate x t) E = update x (fragment t (templateAt φs t)) (E .template)
@@ -64,6 +65,7 @@ module _ (φs : List Items) where
   transferTemplate (plug x x′ g x″) E = update x (plugSummary g (E .template x′) (E .template x″)) (E .template)
   transferTemplate (plugString x x′ h y) E = update x (plugStringSummary h (E .template x′) (E .string y)) (E .template)
   transferTemplate (show x) E = E .template
+  transferTemplate (showFramed x t g) E = E .template
 
 abbrev pub transferString : Act → Environment → ℕ → Strings
 transferString (copyTemplate x x′) E = E .string
@@ -74,6 +76,7 @@ transferString (anyString y) E = update y (λ t. true) (E .string)
 transferString (plug x x′ g x″) E = E .string
 transferString (plugString x x′ h y) E = E .string
 transferString (show x) E = E .string
+transferString (showFramed x t g) E = E .string
 
 abbrev pub transfer : List Items → Act → Environment → Environment
 transfer φs a E = record { template = transferTemplate φs a E; string = transferString a E }

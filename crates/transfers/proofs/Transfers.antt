@@ -1,16 +1,16 @@
 -- The transfer functions of the acts are the ways in which they make the values of variables, and the numbers of these are in range.
 use Prim.Native.Nat.{ℕ, _≤_, _<_}
 use native.Mathlib.Omega.{arith}
-use mathlib.Core.Path.{_≡_, refl, sym}
+use mathlib.Core.Path.{_≡_, refl}
 use mathlib.Core.List.{List}
 use mathlib.Core.Bool.{Bool, true, false, cond}
 use lib.Dec.{eqb}
 use borrow.Author.Tests.{leb-true}
 use Rattle.pages.specs.Items.{Items}
-use Rattle.programs.specs.Program.{Act, copyTemplate, setTemplate, copyString, setString, anyString, plug, plugString, show}
+use Rattle.programs.specs.Program.{Act, copyTemplate, setTemplate, copyString, setString, anyString, plug, plugString, show, showFramed}
 use Rattle.programs.specs.ProgramReading.{actTemplatesThere}
 use Rattle.programs.specs.contracts.Promises.{ActFits}
-use Rattle.summaries.specs.Summaries.{Summary, Strings, Environment, transferTemplate, transferString}
+use Rattle.summaries.specs.Summaries.{Environment, transferTemplate, transferString}
 use Rattle.transfers.specs.declared.Made.{Made}
 use Rattle.transfers.specs.declared.Made.the-variants.{Value}
 use Rattle.transfers.specs.declared.MadeString.{MadeString}
@@ -31,6 +31,7 @@ module _ (φs : List Items) (E : Environment) where
   made-is (plug y z g w) x = chosen (eqb x y) x _
   made-is (plugString y z h w) x = chosen (eqb x y) x _
   made-is (show y) x = refl
+  made-is (showFramed y t g) x = refl
 
 module _ (E : Environment) where
   string-chosen : (b : Bool) (y : ℕ) (new : MadeString) → cond b (stringsMade E new) (E .string y) ≡ stringsMade E (cond b new (MadeStrings.Value y))
@@ -46,6 +47,7 @@ module _ (E : Environment) where
   string-made-is (plug x z g w) y = refl
   string-made-is (plugString x z h w) y = refl
   string-made-is (show x) y = refl
+  string-made-is (showFramed x t g) y = refl
 
 module _ (x : ℕ) (low : x < 4) where
   fits-chosen : (b : Bool) (new : Made) → MadeFits new → MadeFits (cond b new (Value x))
@@ -61,6 +63,7 @@ module _ (x : ℕ) (low : x < 4) where
   made-fits count few (plug y z g w) f t = fits-chosen (eqb x y) _ (f .1, f .2, f .3)
   made-fits count few (plugString y z h w) f t = fits-chosen (eqb x y) _ (f .1, f .2, f .3)
   made-fits count few (show y) f t = low
+  made-fits count few (showFramed y k g) f t = low
 
 module _ (y : ℕ) (low : y < 4) where
   string-fits-chosen : (b : Bool) (new : MadeString) → StringMadeFits new → StringMadeFits (cond b new (MadeStrings.Value y))
@@ -76,6 +79,7 @@ module _ (y : ℕ) (low : y < 4) where
   string-made-fits (plug x z g w) f = low
   string-made-fits (plugString x z h w) f = low
   string-made-fits (show x) f = low
+  string-made-fits (showFramed x t g) f = low
 
 module _ (x count : ℕ) where
   there-chosen : (b : Bool) (new : Made) → MadeThere count new → MadeThere count (cond b new (Value x))
@@ -91,3 +95,4 @@ module _ (x count : ℕ) where
   made-there (plug y z g w) t = there-chosen (eqb x y) _ tt
   made-there (plugString y z h w) t = there-chosen (eqb x y) _ tt
   made-there (show y) t = tt
+  made-there (showFramed y k g) t = tt

@@ -39,6 +39,7 @@ pub fn template_made(act: Act, x: u8) -> Made
         Act::SetString(_, _) => Made::Value(x),
         Act::AnyString(_) => Made::Value(x),
         Act::Show(_) => Made::Value(x),
+        Act::ShowFramed(_, _, _) => Made::Value(x),
     }
 }
 
@@ -65,6 +66,7 @@ pub fn string_made(act: Act, y: u8) -> MadeString
         Act::Plug(_, _, _, _) => MadeString::Value(y),
         Act::PlugString(_, _, _, _) => MadeString::Value(y),
         Act::Show(_) => MadeString::Value(y),
+        Act::ShowFramed(_, _, _) => MadeString::Value(y),
     }
 }
 

@@ -8,4 +8,5 @@ pub mod Derivations
 pub mod RightPages
 pub mod JudgingJ1
 pub mod BlankText
+pub mod Frames
 pub mod Proposals

@@ -84,13 +84,13 @@ unfolding job command ruleOf withFacts
 reads = refl
 
 -- A variant that cannot be read: its bytes, the refusal, and the offset.
-record Unreadable : Type 0 where
-  bytes : List ℕ
-  form : Form
-  at : ℕ
+pub record Unreadable : Type 0 where
+  pub bytes : List ℕ
+  pub form : Form
+  pub at : ℕ
 
 -- Bytes with new ones in place of the n from an offset on.
-abbrev edited : ℕ → ℕ → List ℕ → List ℕ → List ℕ
+abbrev pub edited : ℕ → ℕ → List ℕ → List ℕ → List ℕ
 edited at n new s = take at s ++ new ++ drop (at + n) s
 
 abbrev variants : List Unreadable
@@ -125,7 +125,7 @@ variants =
     ∷ record { bytes = edited 204 0 (0x47 ∷ 0x09 ∷ []) attributeJob; form = NotRising; at = 204 }
     ∷ []
 
-abbrev AllRefused : List Unreadable → Type 0
+abbrev pub AllRefused : List Unreadable → Type 0
 AllRefused [] = Unit {0}
 AllRefused (u ∷ us) = (job (u .bytes) ≡ refused (u .form) (u .at)) × AllRefused us
 

@@ -24,7 +24,7 @@ frame = one (element 1 20 [] (one (gap 0)))
 abbrev pub body : Items
 body = one (element 2 27 [] (one text))
 
-abbrev head : ℕ → ℕ → List Claim → Head
+abbrev pub head : ℕ → ℕ → List Claim → Head
 head p x cs = record { point = p; variable = templateVariable x; holdings = map claim cs }
 
 abbrev pub j1-job : Job

@@ -10,7 +10,7 @@ use Rattle.summaries.specs.Languages.{Language, closedSummary, graphShown, noth
 use Rattle.worked_examples.proofs.ReadingJ1.{j1-job}
 use Rattle.worked_examples.proofs.Runs.{first}
 
-abbrev page : Items
+abbrev pub page : Items
 page = one (element 1 20 [] (one (element 2 27 [] (one text))))
 
 pub shows : shown (j1-job .script .templates) (j1-job .script .program) (first ∷ first ∷ first ∷ first ∷ []) ≡ page ∷ []

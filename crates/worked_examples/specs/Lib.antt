@@ -1,2 +1,3 @@
 pub mod J1
 pub mod AttributeJob
+pub mod FramedJob

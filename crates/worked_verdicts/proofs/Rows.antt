@@ -1,4 +1,4 @@
--- Every row of the tables has the verdict that it says. Two rounds of pattern sets are enough for every row.
+-- Every row of the tables has the verdict that it says. Three rounds of pattern sets are enough for every row.
 use Prim.Native.Nat.{ℕ, zero, suc}
 use native.Mathlib.Omega.{arith}
 use mathlib.Core.Path.{_≡_, refl, sym, ap, subst}
@@ -12,7 +12,7 @@ use Rattle.verdicts.specs.declared.Numbers.{Numbers}
 use Rattle.commands.specs.Commands.{command}
 use Rattle.vocabularies.specs.Vocabulary.{ruleOf, isIn}
 use Rattle.vocabularies.specs.Facts.{withFacts}
-use Rattle.pages.specs.Items.{gapIn}
+use Rattle.pages.specs.Items.{gapIn, attributeGapIn}
 use Rattle.pages.specs.RightPages.{_∈_}
 use Rattle.judging.specs.contracts.Judgement.{precedes, holdsValue, truthOf}
 use Rattle.programs.specs.Program.{templateAt}
@@ -25,6 +25,7 @@ use Rattle.patterns.proofs.ReadVocabularies.{Bytes}
 use Rattle.sets.proofs.Booleans.{and-left, and-right}
 use Rattle.worked_verdicts.specs.Table.{Row, RowHolds, table}
 use Rattle.worked_verdicts.specs.BlankText.{blankTable}
+use Rattle.worked_verdicts.specs.Frames.{framedTable}
 use Rattle.worked_verdicts.proofs.Verdicts.{verdictBy, verdict-by}
 
 abbrev areBytes : List ℕ → Bool
@@ -42,14 +43,14 @@ record Answer : Type 0 where
   numbers : Option Numbers
 
 abbrev computed : Row → Answer
-computed r = record { bytes = areBytes (r .bytes); numbers = verdictBy 2 (r .bytes) }
+computed r = record { bytes = areBytes (r .bytes); numbers = verdictBy 3 (r .bytes) }
 
 abbrev stated : Row → Answer
 stated r = record { bytes = true; numbers = some (r .numbers) }
 
-answers : (map computed table ≡ map stated table) × (map computed blankTable ≡ map stated blankTable)
-unfolding verdictBy command ruleOf withFacts gapIn templateAt sameCode held wrongUnder classOf join patternOf isIn precedes holdsValue truthOf
-answers = (refl, refl)
+answers : (map computed table ≡ map stated table) × (map computed blankTable ≡ map stated blankTable) × (map computed framedTable ≡ map stated framedTable)
+unfolding verdictBy command ruleOf withFacts gapIn attributeGapIn templateAt sameCode held wrongUnder classOf join patternOf isIn precedes holdsValue truthOf
+answers = (refl, refl, refl)
 
 same-at : {A B : Type 0} (f g : A → B) (xs : List A) → map f xs ≡ map g xs → (a : A) → a ∈ xs → f a ≡ g a
 same-at f g [] e a i = absurd (List·Memᴰ·not-nil i)
@@ -61,12 +62,15 @@ same-at f g (x ∷ xs) e a i =
 each-holds : (rows : List Row) → map computed rows ≡ map stated rows → (r : Row) → r ∈ rows → RowHolds r
 each-holds rows all r i =
     let e : computed r ≡ stated r = same-at computed stated rows all r i in
-    let is = verdict-by 2 (r .bytes) (are-bytes (r .bytes) (ap (λ (a : Answer). a .bytes) e)) (r .numbers) (ap (λ (a : Answer). a .numbers) e) in
+    let is = verdict-by 3 (r .bytes) (are-bytes (r .bytes) (ap (λ (a : Answer). a .bytes) e)) (r .numbers) (ap (λ (a : Answer). a .numbers) e) in
     record { is = is; only = λ v h. unique h is }
 
--- The theorem for all rows of the marked cases, and that for jobs with blank text.
+-- The theorem for all rows of the marked cases, and those for jobs with blank text and with frames.
 pub rows-hold : (r : Row) → r ∈ table → RowHolds r
 rows-hold = each-holds table (answers .0)
 
 pub blank-rows-hold : (r : Row) → r ∈ blankTable → RowHolds r
 blank-rows-hold = each-holds blankTable (answers .1)
+
+pub framed-rows-hold : (r : Row) → r ∈ framedTable → RowHolds r
+framed-rows-hold = each-holds framedTable (answers .2)

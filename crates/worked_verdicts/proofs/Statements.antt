@@ -7,7 +7,7 @@ use lib.Dec.{eqb}
 use Rattle.commands.specs.Commands.{emptyString}
 use Rattle.pages.specs.Items.{Items}
 use Rattle.pages.specs.Items as Items
-use Rattle.programs.specs.Program.{Act, copyTemplate, setTemplate, copyString, setString, anyString, plug, plugString, show, Statement, step, Variable, templateVariable, stringVariable, templateAt, named}
+use Rattle.programs.specs.Program.{Act, copyTemplate, setTemplate, copyString, setString, anyString, plug, plugString, show, showFramed, Statement, step, Variable, templateVariable, stringVariable, templateAt, named}
 use Rattle.summaries.specs.Proposal.{Holding, oneString, Head}
 use Rattle.summaries.specs.Proposal as Proposal
 use Rattle.summaries.specs.Summaries.{fragment, transfer, transferTemplate, transferString, saysClaim, saysString, held, under, entries}
@@ -37,6 +37,7 @@ templateItems φs (anyString y) E v = E (templateVariable v)
 templateItems φs (plug x x′ g x″) E v = cond (eqb v x) (plugItems (E (templateVariable x′)) (E (templateVariable x″))) (E (templateVariable v))
 templateItems φs (plugString x x′ h y) E v = cond (eqb v x) (fillItems h (E (templateVariable x′)) (E (stringVariable y))) (E (templateVariable v))
 templateItems φs (show x) E v = E (templateVariable v)
+templateItems φs (showFramed x t g) E v = E (templateVariable v)
 
 abbrev stringItems : Act → (Variable → List Holding) → ℕ → List Holding
 stringItems (copyTemplate x x′) E v = E (stringVariable v)
@@ -47,6 +48,7 @@ stringItems (anyString y) E v = cond (eqb v y) (Proposal.anyString ∷ []) (E (s
 stringItems (plug x x′ g x″) E v = E (stringVariable v)
 stringItems (plugString x x′ h y) E v = E (stringVariable v)
 stringItems (show x) E v = E (stringVariable v)
+stringItems (showFramed x t g) E v = E (stringVariable v)
 
 module _ (φs : List Items) (hs : List Head) (p : ℕ) where
   abbrev E : Variable → List Holding
@@ -62,6 +64,7 @@ module _ (φs : List Items) (hs : List Head) (p : ℕ) where
   templates-list (plug x x′ g x″) v = either-lists saysClaim WholeTemplate (eqb v x) _ _ _ _ (plug-lists g (E (templateVariable x′)) (E (templateVariable x″))) (entry-lists (E (templateVariable v)))
   templates-list (plugString x x′ h y) v = either-lists saysClaim WholeTemplate (eqb v x) _ _ _ _ (fill-lists h (E (templateVariable x′)) (E (stringVariable y))) (entry-lists (E (templateVariable v)))
   templates-list (show x) v = entry-lists (E (templateVariable v))
+  templates-list (showFramed x t g) v = entry-lists (E (templateVariable v))
 
   strings-listed : (a : Act) (v : ℕ) → ListsString (transferString a (entries hs p) v) (stringItems a E v)
   unfolding entries
@@ -73,6 +76,7 @@ module _ (φs : List Items) (hs : List Head) (p : ℕ) where
   strings-listed (plug x x′ g x″) v = strings-list (E (stringVariable v))
   strings-listed (plugString x x′ h y) v = strings-list (E (stringVariable v))
   strings-listed (show x) v = strings-list (E (stringVariable v))
+  strings-listed (showFramed x t g) v = strings-list (E (stringVariable v))
 
   -- The step to a next point.
   abbrev stepWithin : Act → ℕ → Variable → Bool

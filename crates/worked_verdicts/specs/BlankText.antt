@@ -1,4 +1,5 @@
--- Jobs with blank text (document 02, F-2), in a table like that of the marked cases: J1 with other templates.
+-- Jobs with blank text (document 02, F-2), in a table like that of the marked cases: J1 with other templates, in the last row with another
+-- program too.
 use mathlib.Core.List.{List, [], _∷_}
 use Rattle.verdicts.specs.Printed.{prints}
 use Rattle.worked_examples.specs.J1.{templatesPart, programPart, proposalPart}
@@ -6,7 +7,7 @@ use Rattle.worked_verdicts.specs.Table.{Row, exchanged, variant}
 
 abbrev pub blankTable : List Row
 blankTable =
-    -- Blank text beside the root, in element 1, which may hold no text, and around element 2, which is plugged in: accepted as J1 is.
+    -- Blank text beside the root, in element 1, which may hold no text, and in and around element 2, which is plugged in: accepted as J1 is.
     record {
       bytes = variant (
           0x20 ∷ 0x29 ∷ 0x23 ∷ 0x01 ∷ 0x29 ∷ 0x29 ∷ 0x22 ∷ 0x00 ∷ 0x29 ∷ 0x26 ∷ 0x29 ∷ 0x27

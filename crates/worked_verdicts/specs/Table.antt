@@ -16,7 +16,7 @@ pub record Row : Type 0 where
   pub bytes : List ℕ
   pub numbers : Numbers
 
--- What a row claims: document 01 gives these bytes these numbers, and no others.
+-- What a row claims: these bytes get these numbers, and no others.
 abbrev pub RowHolds : Row → Type 0
 RowHolds r = TheVerdict (JobVerdict (r .bytes)) (r .numbers)
 

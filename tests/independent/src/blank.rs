@@ -1,34 +1,24 @@
 //! Blank text in records: scattered among items, put where it may not stand, and taken out again.
 
 use crate::damage::commands;
+use crate::making::Much;
 use crate::random::Random;
 use crate::reader::*;
 
-/// How much blank text a record gets.
-#[derive(Clone, Copy, PartialEq, Eq, Debug)]
-pub enum Blank {
-    Little,
-    Much,
-}
-
-impl Blank {
-    pub fn is_much(self) -> bool {
-        self == Blank::Much
-    }
-
+impl Much {
     /// The item that fills a record up to its length.
     pub fn filler(self) -> u8 {
         match self {
-            Blank::Little => 0x21,
-            Blank::Much => 0x29,
+            Much::Blank => 0x29,
+            _ => 0x21,
         }
     }
 
     /// A page, or the templates of a job, with blank text at some of the places where items may stand.
     pub fn scatter(self, random: &mut Random, bytes: &[u8]) -> Vec<u8> {
         let percent = match self {
-            Blank::Little => random.pick(&[0, 0, 10, 30]),
-            Blank::Much => random.pick(&[15, 40, 90]),
+            Much::Blank => random.pick(&[15, 40, 90]),
+            _ => random.pick(&[0, 0, 10, 30]),
         };
         let mut result = Vec::with_capacity(2 * bytes.len());
         for command in commands(bytes) {

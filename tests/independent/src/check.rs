@@ -1,10 +1,9 @@
 //! Checking a job: reading, covering, then each show over its whole language.
 
-use crate::cover::covering;
+use crate::cover::{covering, shown};
 use crate::graph::Graph;
 use crate::job::Job;
 use crate::patterns::{Clause, Patterns, WordFacts};
-use crate::program::Statement;
 use crate::reader::*;
 use crate::summary::members;
 use crate::templates::Element;
@@ -19,16 +18,26 @@ pub fn check(job: &[u8]) -> Verdict {
     if verdict != ACCEPTED {
         return verdict;
     }
-    let clauses = clauses(&job);
-    for (point, at) in job.program.points.iter().enumerate() {
-        let Statement::Show(x) = at.statement else { continue };
-        let graph = Graph::new(&job.templates, job.entries.summary(point, x));
-        if let Some(root) = not_the_root(&job, &graph) {
-            return [NOT_THE_ROOT, point as u32, root as u32, 0];
-        }
-        if let Some((template, offset)) = wrong_element(&job, &clauses, &graph) {
-            return [WRONG_ELEMENT, point as u32, template as u32, offset];
-        }
+    let refused = shows(&job).map(|(_, verdict)| verdict).find(|verdict| *verdict != ACCEPTED);
+    refused.unwrap_or(ACCEPTED)
+}
+
+/// Each show, framed or not, by its point, with the verdict that it would get if it were the first.
+pub fn shows(job: &Job) -> impl Iterator<Item = (usize, Verdict)> + '_ {
+    let clauses = clauses(job);
+    job.program.points.iter().enumerate().filter_map(move |(point, at)| {
+        let summary = shown(at.statement, &job.templates, &job.entries, point)?;
+        Some((point, show(job, &clauses, point, &Graph::new(&job.templates, &summary))))
+    })
+}
+
+/// 11 and 12, or acceptance.
+fn show(job: &Job, clauses: &[Clause], point: usize, graph: &Graph) -> Verdict {
+    if let Some(root) = not_the_root(job, graph) {
+        return [NOT_THE_ROOT, point as u32, root as u32, 0];
+    }
+    if let Some((template, offset)) = wrong_element(job, clauses, graph) {
+        return [WRONG_ELEMENT, point as u32, template as u32, offset];
     }
     ACCEPTED
 }

@@ -30,7 +30,25 @@ pub fn transfer<'a>(statement: Statement, templates: &Templates, entries: &'a En
             let strings = entries.strings(point, plugged);
             Change::Summary(to, Cow::Owned(plug_string(summary(from), gap as usize, strings)))
         }
-        Statement::Show(_) | Statement::Stop => Change::Nothing,
+        Statement::Show(_) | Statement::Framed(..) | Statement::Stop => Change::Nothing,
+    }
+}
+
+/// What a statement shows, its gaps still open; nothing if it is no show. A framed show is a template load, a plug and
+/// a show, though no variable is loaded or plugged: the graphs and origins join even where the frame lacks the gap.
+pub fn shown<'a>(
+    statement: Statement,
+    templates: &Templates,
+    entries: &'a Entries,
+    point: usize,
+) -> Option<Cow<'a, Summary>> {
+    match statement {
+        Statement::Show(x) => Some(Cow::Borrowed(entries.summary(point, x))),
+        Statement::Framed(x, template, gap) => {
+            let frame = fragment(templates, template);
+            Some(Cow::Owned(plug(&frame, gap as usize, entries.summary(point, x))))
+        }
+        _ => None,
     }
 }
 

@@ -57,7 +57,7 @@ fn effect(statement: Statement) -> Effect {
         Statement::String(to, _) | Statement::AnyString(to) => (VARIABLES + to, [NO_SOURCE; 2]),
         Statement::Plug(to, from, gap, plugged) => (to, [(from, ORIGINS + gap as usize), (plugged, ROOTS)]),
         Statement::PlugString(to, from, gap, _) => (to, [(from, ATTRIBUTE_ORIGINS + gap as usize), NO_SOURCE]),
-        Statement::Show(_) | Statement::Stop => (NO_VARIABLE, [NO_SOURCE; 2]),
+        Statement::Show(_) | Statement::Framed(..) | Statement::Stop => (NO_VARIABLE, [NO_SOURCE; 2]),
     };
     Effect { changed, sources }
 }

@@ -20,6 +20,9 @@ pub fn all() -> Vec<Vec<u8>> {
     jobs.extend(many_templates());
     jobs.extend(many_points());
     jobs.extend(blank_templates());
+    jobs.extend(framed_operands());
+    jobs.extend(framed_points());
+    jobs.extend(framed_gaps());
     jobs
 }
 
@@ -163,7 +166,7 @@ fn many_points() -> Vec<Vec<u8>> {
             jobs.push(job(&shortest(), &TEMPLATES, &[&first[..], &stops, end, &[0x3F]].concat()));
         }
         for fault in
-            [[0x31, 0, 9, 0, 0], [0x31, 4, 1, 0, 0], [0x31, 0, 1, 32, 0], [0x31, 0, 1, 0, 31], [0x39, 0, 0, 0, 0]]
+            [[0x31, 0, 9, 0, 0], [0x31, 4, 1, 0, 0], [0x31, 0, 1, 32, 0], [0x31, 0, 1, 0, 31], [0x3A, 0, 0, 0, 0]]
         {
             let program = [&vec![0x38; count - 1][..], &fault, &[0x3F]].concat();
             jobs.push(job(&shortest(), &TEMPLATES, &program));
@@ -203,4 +206,67 @@ fn gaps_among_blank(count: usize, beside: &[u8], fragment: &[u8]) -> Vec<u8> {
     let gaps = [0x22, 0, 0x29].repeat(count);
     let templates = [&[0x20], beside, &[0x23, 1], &gaps, &[0x26, 0x27, 0x20], fragment, &[0x27, 0x2F]].concat();
     job(&vocabulary, &templates, &PLUGGING)
+}
+
+/// Variable, template and gap of a framed show on both sides of their limits, and the job's end in it.
+fn framed_operands() -> Vec<Vec<u8>> {
+    let page = &TEMPLATES[..6];
+    let mut jobs = Vec::new();
+    for count in [1, 31] {
+        let templates = [page, &[0x20, 0x27].repeat(count - 1), &[0x2F]].concat();
+        for x in [0, 3, 4, 255] {
+            for t in [0, 1, count as u8, count as u8 + 1, 255] {
+                for gap in [0, 7, 8, 255] {
+                    let program = [0x39, x, t, gap, 1, 1, 0x38, 0x3F];
+                    jobs.push(job(&shortest(), &templates, &program));
+                    // Faults in operands that are there don't count where others are not.
+                    if gap == 8 {
+                        let whole = [&shortest()[..], &templates, &program].concat();
+                        jobs.extend((2..8).map(|fewer| whole[..whole.len() - fewer].to_vec()));
+                    }
+                }
+            }
+        }
+    }
+    jobs
+}
+
+/// Framed shows as the last point that there may be, and as one too many; next points there and not.
+fn framed_points() -> Vec<Vec<u8>> {
+    let mut jobs = Vec::new();
+    for count in [1, 2, 31, 32, 33] {
+        let stops = vec![0x38; count - 1];
+        for next in [0, count as u8 - 1, count as u8, 255] {
+            for [p, q] in [[next, 0], [0, next], [next, next]] {
+                for [x, t, gap] in [[0, 1, 0], [3, 0, 7], [4, 1, 0], [0, 2, 0], [0, 1, 8], [4, 2, 8]] {
+                    let program = [&stops[..], &[0x39, x, t, gap, p, q, 0x3F]].concat();
+                    jobs.push(job(&shortest(), &TEMPLATES, &program));
+                }
+            }
+        }
+        // Every point a framed show.
+        let shows: Vec<u8> = (0..count as u8).flat_map(|point| [0x39, point % 4, 1, point % 8, 0, point]).collect();
+        jobs.push(job(&shortest(), &TEMPLATES, &[&shows[..], &[0x3F]].concat()));
+    }
+    jobs
+}
+
+/// The root may hold one text at most. Its gaps, many or one, take template 2, or the frame itself, or both.
+fn framed_gaps() -> Vec<Vec<u8>> {
+    let vocabulary = [0x01, 1, 0x03, 0, 0x03, 1, 0x04, 0x16, 0, 0, 0x05, 1];
+    let mut jobs = Vec::new();
+    for count in [1, 2, 32_000] {
+        for fragment in [&[0x29][..], &[0x21], &[0x22, 0], &[0x22, 0, 0x21], &[0x23, 1, 0x22, 0, 0x26]] {
+            let gaps = [0x22, 0].repeat(count);
+            let templates = [&[0x20, 0x23, 1], &gaps[..], &[0x26, 0x27, 0x20], fragment, &[0x27, 0x2F]].concat();
+            for [loaded, p, q] in [[2, 1, 1], [1, 1, 1], [2, 0, 1], [1, 0, 1]] {
+                let program = [0x31, 0, loaded, p, q, 0x39, 0, 1, 0, 2, 1, 0x38, 0x3F];
+                jobs.push(job(&vocabulary, &templates, &program));
+            }
+            // Both, since either may have been loaded last.
+            let program = [0x31, 0, 1, 1, 2, 0x31, 0, 2, 2, 0, 0x39, 0, 1, 0, 3, 0, 0x38, 0x3F];
+            jobs.push(job(&vocabulary, &templates, &program));
+        }
+    }
+    jobs
 }

@@ -3,16 +3,21 @@
 
 use crate::damage::operands;
 use crate::job::Job;
+use crate::program::Statement;
 use crate::random::Random;
 use crate::summary::*;
 
 const DEPTH: usize = 12;
 const LENGTH: usize = 3000;
 
-/// A page of the language of variable `x` shown at `point`, ended by `27`. Nothing where the draw leads nowhere, or too
-/// far.
-pub fn draw(random: &mut Random, job: &Job, bytes: &[u8], point: usize, x: u8) -> Option<Vec<u8>> {
-    let mut closed = job.entries.summary(point, x).clone();
+/// A page of the language of the show at `point`, ended by `27`. Nothing where there is no show, or the draw leads
+/// nowhere, or too far.
+pub fn draw(random: &mut Random, job: &Job, bytes: &[u8], point: usize) -> Option<Vec<u8>> {
+    let mut closed = match job.program.points[point].statement {
+        Statement::Show(x) => job.entries.summary(point, x).clone(),
+        Statement::Framed(x, template, gap) => framed(job, job.entries.summary(point, x), template, gap.into()),
+        _ => return None,
+    };
     for gap in 0..8 {
         members(closed.origins[gap]).for_each(|origin| closed.add_edges(origin, gap, 1));
         members(closed.attribute_origins[gap]).for_each(|origin| closed.add_strings(origin, gap, 1));
@@ -22,6 +27,22 @@ pub fn draw(random: &mut Random, job: &Job, bytes: &[u8], point: usize, x: u8) -
     unfold(random, job, bytes, &closed, root, 0, &mut page)?;
     page.push(0x27);
     Some(page)
+}
+
+/// A summary with a frame as its only root, around what it was. The frame brings its own gaps, but for the one plugged.
+fn framed(job: &Job, inside: &Summary, template: u8, plugged: usize) -> Summary {
+    let frame = &job.templates.list[template as usize];
+    let mut result = inside.clone();
+    result.roots = 1 << template;
+    for gap in members(frame.gaps.into()) {
+        if gap == plugged {
+            result.add_edges(template.into(), gap, inside.roots);
+        } else {
+            result.origins[gap] |= 1 << template;
+        }
+    }
+    members(frame.attribute_gaps.into()).for_each(|gap| result.attribute_origins[gap] |= 1 << template);
+    result
 }
 
 fn pick(random: &mut Random, set: u32) -> Option<usize> {

@@ -1,5 +1,5 @@
 //! The page check of document 01: reading a job, checking it, judging one page. And of document 02: working out the
-//! proposal (F-1), blank text (F-2).
+//! proposal (F-1), blank text (F-2), shows inside a frame (F-3).
 
 pub mod check;
 pub mod cover;
@@ -20,9 +20,11 @@ pub mod templates;
 pub mod vocabulary;
 pub mod writer;
 
+pub mod apart;
 pub mod blank;
 pub mod blank_jobs;
 pub mod damage;
+pub mod frame_jobs;
 pub mod job_limits;
 pub mod language;
 pub mod large_scripts;

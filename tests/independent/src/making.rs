@@ -1,33 +1,53 @@
 //! What the programs that make records have in common: their arguments, and the two files that they write.
 
-use crate::blank::Blank;
 use crate::random::Random;
 use crate::records::push;
 use std::io;
 
+/// What records shall have much of. They have a little of all else.
+#[derive(Clone, Copy, PartialEq, Eq, Debug)]
+pub enum Much {
+    Nothing,
+    /// Blank text.
+    Blank,
+    /// Framed shows.
+    Frames,
+}
+
+impl Much {
+    /// The word that asks for it.
+    fn word(self) -> &'static str {
+        match self {
+            Much::Nothing => "",
+            Much::Blank => "blank",
+            Much::Frames => "frames",
+        }
+    }
+}
+
 pub struct Making {
     pub random: Random,
     pub count: usize,
-    pub blank: Blank,
+    pub much: Much,
     paths: [String; 2],
     records: Vec<u8>,
     lines: String,
 }
 
 impl Making {
-    /// The arguments are SEED, COUNT, a file for records and one for lines, and `blank` if there shall be much of it.
-    pub fn from_arguments(usage: &str) -> Making {
+    /// The arguments are SEED, COUNT, a file for records and one for lines, and a word if there shall be much of that.
+    pub fn from_arguments(usage: &str, of: &[Much]) -> Making {
         let arguments: Vec<String> = std::env::args().skip(1).collect();
         let [seed, count, records_path, lines_path, more @ ..] = &arguments[..] else { panic!("{usage}") };
-        let blank = match more {
-            [] => Blank::Little,
-            [word] if word == "blank" => Blank::Much,
-            _ => panic!("{usage}"),
+        let much = match more {
+            [] => Some(Much::Nothing),
+            [word] => of.iter().copied().find(|much| much.word() == word),
+            _ => None,
         };
         Making {
             random: Random::new(seed.parse().expect("SEED is a number")),
             count: count.parse().expect("COUNT is a number"),
-            blank,
+            much: much.unwrap_or_else(|| panic!("{usage}")),
             paths: [records_path.clone(), lines_path.clone()],
             records: Vec::new(),
             lines: String::new(),

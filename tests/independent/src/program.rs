@@ -6,7 +6,7 @@ use crate::templates::{Templates, GAPS};
 pub const VARIABLES: u8 = 4;
 const POINTS: usize = 32;
 
-/// Operands in the order of document 01.
+/// Operands in the order of the documents.
 #[derive(Clone, Copy, Debug)]
 pub enum Statement {
     Copy(u8, u8),
@@ -17,6 +17,7 @@ pub enum Statement {
     Plug(u8, u8, u8, u8),
     PlugString(u8, u8, u8, u8),
     Show(u8),
+    Framed(u8, u8, u8),
     Stop,
 }
 
@@ -42,7 +43,8 @@ impl Point {
         let y = |y: u8| 1u8 << (VARIABLES + y);
         match self.statement {
             Statement::Copy(to, from) => x(to) | x(from),
-            Statement::Template(to, _) | Statement::Show(to) => x(to),
+            Statement::Template(to, _) => x(to),
+            Statement::Show(shown) | Statement::Framed(shown, _, _) => x(shown),
             Statement::CopyString(to, from) => y(to) | y(from),
             Statement::String(to, _) | Statement::AnyString(to) => y(to),
             Statement::Plug(to, from, _, plugged) => x(to) | x(from) | x(plugged),
@@ -85,12 +87,9 @@ impl Program {
 
 fn statement(reader: &mut Reader, command: u8, templates: &Templates) -> Result<(Statement, [u8; 2]), Fault> {
     let at = reader.at;
-    let variables = |list: &[u8]| {
-        if list.iter().any(|&variable| variable >= VARIABLES) {
-            return Err(Fault::new(OUT_OF_RANGE, at));
-        }
-        Ok(())
-    };
+    let in_range = |operand: u8, below: u8| if operand < below { Ok(()) } else { Err(Fault::new(OUT_OF_RANGE, at)) };
+    let variables = |list: &[u8]| list.iter().try_for_each(|&variable| in_range(variable, VARIABLES));
+    let there = |t: u8| if templates.is_there(t) { Ok(()) } else { Err(Fault::new(NOT_THERE, at)) };
     match command {
         0x30 | 0x32 => {
             let [to, from, p, q] = reader.operands()?;
@@ -101,17 +100,13 @@ fn statement(reader: &mut Reader, command: u8, templates: &Templates) -> Result<
         0x31 => {
             let [to, template, p, q] = reader.operands()?;
             variables(&[to])?;
-            if !templates.is_there(template) {
-                return Err(Fault::new(NOT_THERE, at));
-            }
+            there(template)?;
             Ok((Statement::Template(to, template), [p, q]))
         }
         0x33 => {
             let [to, string, p, q] = reader.operands()?;
             variables(&[to])?;
-            if string >= 64 {
-                return Err(Fault::new(OUT_OF_RANGE, at));
-            }
+            in_range(string, 64)?;
             Ok((Statement::String(to, string), [p, q]))
         }
         0x34 | 0x37 => {
@@ -123,15 +118,20 @@ fn statement(reader: &mut Reader, command: u8, templates: &Templates) -> Result<
         0x35 | 0x36 => {
             let [to, from, gap, plugged, p, q] = reader.operands()?;
             variables(&[to, from, plugged])?;
-            if gap >= GAPS {
-                return Err(Fault::new(OUT_OF_RANGE, at));
-            }
+            in_range(gap, GAPS)?;
             let plug = if command == 0x35 { Statement::Plug } else { Statement::PlugString };
             Ok((plug(to, from, gap, plugged), [p, q]))
         }
         0x38 => {
             reader.at += 1;
             Ok((Statement::Stop, [0, 0]))
+        }
+        0x39 => {
+            let [shown, template, gap, p, q] = reader.operands()?;
+            variables(&[shown])?;
+            in_range(gap, GAPS)?;
+            there(template)?;
+            Ok((Statement::Framed(shown, template, gap), [p, q]))
         }
         _ => Err(Fault::new(NOT_ALLOWED, at)),
     }

@@ -1,11 +1,14 @@
 //! Jobs at random: with the least covering proposal or a larger one, damaged, or of commands at random.
 
-use crate::blank::{misplace, Blank};
+use crate::blank::misplace;
 use crate::blank_jobs;
 use crate::check::check;
 use crate::damage::{any_command, commands, damage};
+use crate::frame_jobs;
 use crate::job::Job;
 use crate::least::{least, with_least, write};
+use crate::making::Much;
+use crate::program::Statement;
 use crate::random::Random;
 use crate::random_vocabulary::*;
 use crate::reader::*;
@@ -14,13 +17,13 @@ use crate::reader::*;
 const AIMS: [(u32, usize); 12] =
     [(0, 36), (12, 18), (11, 6), (10, 9), (9, 4), (2, 4), (3, 6), (4, 4), (5, 4), (6, 3), (7, 2), (8, 4)];
 
-pub const COMMANDS: [u8; 44] = [
+pub const COMMANDS: [u8; 45] = [
     0x01, 0x02, 0x03, 0x04, 0x05, 0x10, 0x11, 0x12, 0x13, 0x14, 0x15, 0x16, 0x17, 0x20, 0x21, 0x22, 0x23, 0x24, 0x25,
-    0x26, 0x27, 0x28, 0x29, 0x2F, 0x30, 0x31, 0x32, 0x33, 0x34, 0x35, 0x36, 0x37, 0x38, 0x3F, 0x40, 0x41, 0x42, 0x43,
-    0x44, 0x45, 0x46, 0x47, 0x48, 0x4F,
+    0x26, 0x27, 0x28, 0x29, 0x2F, 0x30, 0x31, 0x32, 0x33, 0x34, 0x35, 0x36, 0x37, 0x38, 0x39, 0x3F, 0x40, 0x41, 0x42,
+    0x43, 0x44, 0x45, 0x46, 0x47, 0x48, 0x4F,
 ];
 
-pub fn job(random: &mut Random, blank: Blank) -> Vec<u8> {
+pub fn job(random: &mut Random, much: Much) -> Vec<u8> {
     if random.percent(2) {
         let count = random.below(30);
         return (0..count).flat_map(|_| any_command(random, &COMMANDS)).collect();
@@ -30,7 +33,7 @@ pub fn job(random: &mut Random, blank: Blank) -> Vec<u8> {
     let plugs = number == 0 && random.percent(60);
     let mut tries = 0;
     loop {
-        let job = attempt(random, blank, number);
+        let job = attempt(random, much, number);
         tries += 1;
         let fits = check(&job)[0] == number && (!plugs || commands(&job).iter().any(|command| command[0] == 0x42));
         if fits || tries == 300 {
@@ -39,8 +42,8 @@ pub fn job(random: &mut Random, blank: Blank) -> Vec<u8> {
     }
 }
 
-fn attempt(random: &mut Random, blank: Blank, number: u32) -> Vec<u8> {
-    let mut parts = Parts::random(random, blank);
+fn attempt(random: &mut Random, much: Much, number: u32) -> Vec<u8> {
+    let mut parts = Parts::random(random, much);
     match number {
         0 => {
             if check(&parts.with_proposal(random)) == ACCEPTED {
@@ -48,9 +51,17 @@ fn attempt(random: &mut Random, blank: Blank, number: u32) -> Vec<u8> {
             }
             parts.with_proposal(random)
         }
-        3 if blank.is_much() && random.percent(60) => {
+        3 if much == Much::Blank && random.percent(60) => {
             let job = parts.with_proposal(random);
             misplace(random, &job)
+        }
+        2..=4 | 8 if much == Much::Frames && random.percent(60) => {
+            let job = parts.with_proposal(random);
+            frame_jobs::damaged(random, &job)
+        }
+        6 if much == Much::Frames && random.percent(60) => {
+            parts.program = frame_jobs::one_too_many(random, &parts.program);
+            parts.with_proposal(random)
         }
         6 if random.percent(70) => {
             parts.make_too_many(random);
@@ -94,10 +105,13 @@ struct Parts {
 }
 
 impl Parts {
-    fn random(random: &mut Random, blank: Blank) -> Parts {
-        let (draft, templates, program) =
-            if blank.is_much() && random.percent(40) { blank_jobs::parts(random) } else { any_parts(random) };
-        Parts { draft, templates: blank.scatter(random, &templates), program }
+    fn random(random: &mut Random, much: Much) -> Parts {
+        let (draft, templates, program) = match much {
+            Much::Blank if random.percent(40) => blank_jobs::parts(random),
+            Much::Frames if random.percent(85) => frame_jobs::parts(random),
+            _ => any_parts(random),
+        };
+        Parts { draft, templates: much.scatter(random, &templates), program }
     }
 
     fn start(&self) -> Vec<u8> {
@@ -110,7 +124,7 @@ impl Parts {
         let Ok(mut job) = Job::read(&[&start[..], &[0x4F]].concat()) else {
             return [&start[..], &[0x4F]].concat();
         };
-        if random.percent(25) {
+        if random.percent(30) {
             enlarge(random, &mut job);
         }
         let entries = least(&job.program, &job.templates, job.entries);
@@ -189,7 +203,7 @@ fn any_parts(random: &mut Random) -> (Draft, Vec<u8>, Vec<u8>) {
 }
 
 /// Lets most elements stand in most others, so that plugs of any kind can be right.
-fn allow_more(random: &mut Random, draft: &mut Draft) {
+pub fn allow_more(random: &mut Random, draft: &mut Draft) {
     let elements = draft.elements();
     for rule in &mut draft.rules {
         rule.contents = elements.iter().copied().filter(|_| random.percent(95)).collect();
@@ -291,7 +305,7 @@ fn statement(random: &mut Random, pages: u8, fragments: u8, gaps: usize) -> Vec<
     let x = |random: &mut Random| random.below(4) as u8;
     let fragment = |random: &mut Random| random.from_to(1, 2) as u8;
     let gap = random.below(gaps) as u8;
-    match random.weighted(&[5, 4, 14, 36, 4, 5, 6, 14, 10, 2, 5]) {
+    match random.weighted(&[5, 4, 14, 36, 4, 5, 6, 14, 10, 2, 7, 2, 5]) {
         0 => vec![0x30, x(random), x(random)],
         1 => vec![0x31, 0, random.from_to(1, pages as usize) as u8],
         2 => vec![0x31, fragment(random), a_fragment(random, pages, fragments)],
@@ -308,19 +322,31 @@ fn statement(random: &mut Random, pages: u8, fragments: u8, gaps: usize) -> Vec<
         }
         8 => vec![0x37, 0],
         9 => vec![0x37, x(random)],
+        10 => vec![0x39, fragment(random), random.from_to(1, pages as usize) as u8, gap],
+        11 => vec![0x39, x(random), random.below((pages + fragments) as usize + 1) as u8, random.below(8) as u8],
         _ => vec![0x35, x(random), x(random), random.below(8) as u8, x(random)],
     }
 }
 
-/// Something held that needs not be.
+/// Something held that needs not be; often, if there is a framed show, of its variable about its template and its gap.
 fn enlarge(random: &mut Random, job: &mut Job) {
     let templates = job.templates.list.len();
+    let points = job.program.points.iter().enumerate();
+    let framed = points.filter_map(|(point, at)| match at.statement {
+        Statement::Framed(x, template, gap) => Some((point, x, template as usize, gap as usize)),
+        _ => None,
+    });
+    let framed: Vec<_> = framed.collect();
     for _ in 0..random.from_to(1, 3) {
-        let point = random.below(job.program.points.len());
-        let [n, m, gap] = [random.below(templates), random.below(templates), random.below(3)];
-        let x = random.below(4) as u8;
+        let m = random.below(templates);
+        let (kinds, (point, x, n, gap)) = if framed.is_empty() || random.percent(40) {
+            let point = random.below(job.program.points.len());
+            ([1; 7], (point, random.below(4) as u8, random.below(templates), random.below(3)))
+        } else {
+            ([1, 1, 1, 4, 1, 1, 1], random.pick(&framed))
+        };
         let summary = job.entries.summary_mut(point, x);
-        match random.below(7) {
+        match random.weighted(&kinds) {
             0 => summary.roots |= 1 << n,
             1 => summary.add_edges(n, gap, 1 << m),
             2 => summary.add_strings(n, gap, 1 << string(random)),

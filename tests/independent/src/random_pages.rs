@@ -1,8 +1,9 @@
 //! Page records at random: right ones, wrong ones in every way, and damaged ones.
 
-use crate::blank::{misplace, Blank};
+use crate::blank::misplace;
 use crate::damage::{any_command, damage};
 use crate::judge::judge;
+use crate::making::Much;
 use crate::random::Random;
 use crate::random_vocabulary::*;
 use crate::reader::*;
@@ -25,14 +26,14 @@ const PAGE_COMMANDS: [u8; 13] = [0x21, 0x23, 0x24, 0x26, 0x27, 0x28, 0x29, 0x21,
 /// Verdict numbers aimed at, with how many records of a hundred each shall get.
 const AIMS: [(u32, usize); 10] = [(0, 35), (12, 24), (11, 7), (2, 5), (3, 8), (4, 6), (5, 5), (6, 3), (7, 3), (8, 4)];
 
-pub fn record(random: &mut Random, blank: Blank) -> Record {
+pub fn record(random: &mut Random, much: Much) -> Record {
     if random.percent(1) {
-        return bytes(random, blank);
+        return bytes(random, much);
     }
     let (number, _) = AIMS[random.weighted(&AIMS.map(|(_, weight)| weight))];
     let mut tries = 0;
     loop {
-        let record = attempt(random, blank, number);
+        let record = attempt(random, much, number);
         tries += 1;
         // An aim that is missed for long is given up, so that every seed comes to an end.
         if record.verdict()[0] == number || tries == 500 {
@@ -41,12 +42,12 @@ pub fn record(random: &mut Random, blank: Blank) -> Record {
     }
 }
 
-fn attempt(random: &mut Random, blank: Blank, number: u32) -> Record {
-    let (draft, page) = right(random, blank);
+fn attempt(random: &mut Random, much: Much, number: u32) -> Record {
+    let (draft, page) = right(random, much);
     match number {
         0 => Record { vocabulary: draft.bytes(), page },
-        3 if blank.is_much() && random.percent(60) => misplaced(random, draft, page),
-        11 => not_the_root(random, blank, draft, page),
+        3 if much == Much::Blank && random.percent(60) => misplaced(random, draft, page),
+        11 => not_the_root(random, much, draft, page),
         12 => wrong(random, draft, page),
         6 if random.percent(80) => too_deep(random, draft, page),
         7 => too_many_facts(random, draft, page),
@@ -55,14 +56,14 @@ fn attempt(random: &mut Random, blank: Blank, number: u32) -> Record {
 }
 
 /// A page that is right, and a vocabulary whose clauses all hold in it.
-pub fn right(random: &mut Random, blank: Blank) -> (Draft, Vec<u8>) {
+pub fn right(random: &mut Random, much: Much) -> (Draft, Vec<u8>) {
     let mut draft = Draft::random(random);
     let mut page = Vec::new();
     let shape = Shape { deep: random.percent(20) };
     let mut budget = if shape.deep { random.from_to(5, 50) } else { random.from_to(1, 10) };
     element(random, &draft, draft.root, &shape, &mut budget, &mut page);
     page.push(0x27);
-    let page = blank.scatter(random, &page);
+    let page = much.scatter(random, &page);
     for _ in 0..random.weighted(&[5, 20, 30, 25, 15, 5]) {
         add_clause(random, &mut draft, &page);
     }
@@ -168,7 +169,7 @@ fn changed(random: &mut Random, draft: &Draft, page: &[u8]) -> Vec<u8> {
     list.concat()
 }
 
-fn not_the_root(random: &mut Random, blank: Blank, draft: Draft, page: Vec<u8>) -> Record {
+fn not_the_root(random: &mut Random, much: Much, draft: Draft, page: Vec<u8>) -> Record {
     let element = &page[..page.len() - 1];
     let page = match random.below(9) {
         0 => vec![0x27],
@@ -192,7 +193,7 @@ fn not_the_root(random: &mut Random, blank: Blank, draft: Draft, page: Vec<u8>) 
             page
         }
     };
-    Record { vocabulary: draft.bytes(), page: blank.scatter(random, &page) }
+    Record { vocabulary: draft.bytes(), page: much.scatter(random, &page) }
 }
 
 fn too_deep(random: &mut Random, mut draft: Draft, page: Vec<u8>) -> Record {
@@ -251,8 +252,8 @@ fn misplaced(random: &mut Random, draft: Draft, page: Vec<u8>) -> Record {
 }
 
 /// Commands or bytes at random, the page perhaps under a vocabulary that reads.
-fn bytes(random: &mut Random, blank: Blank) -> Record {
-    let (draft, _) = right(random, blank);
+fn bytes(random: &mut Random, much: Much) -> Record {
+    let (draft, _) = right(random, much);
     let vocabulary = match random.below(3) {
         0 => (0..random.below(30)).map(|_| random.byte()).collect(),
         1 => (0..random.below(12)).flat_map(|_| any_command(random, &VOCABULARY_COMMANDS)).collect(),
@@ -266,10 +267,10 @@ fn bytes(random: &mut Random, blank: Blank) -> Record {
 }
 
 /// One slice a byte too long: the vocabulary, or the page.
-pub fn too_long(random: &mut Random, blank: Blank, in_page: bool) -> Record {
-    let (draft, page) = right(random, blank);
+pub fn too_long(random: &mut Random, much: Much, in_page: bool) -> Record {
+    let (draft, page) = right(random, much);
     let mut record = Record { vocabulary: draft.bytes(), page };
     let slice = if in_page { &mut record.page } else { &mut record.vocabulary };
-    slice.resize(LONGEST + 1, blank.filler());
+    slice.resize(LONGEST + 1, much.filler());
     record
 }

@@ -1,23 +1,26 @@
 //! Scripts at random, that is jobs up to their `3F`: of all sizes and shapes, whole or damaged.
 
-use crate::blank::Blank;
 use crate::damage::damage;
+use crate::frame_jobs;
+use crate::making::Much;
 use crate::random::Random;
 use crate::random_jobs::{template, COMMANDS};
 use crate::random_vocabulary::*;
 use crate::vocabulary::Vocabulary;
 
-pub fn script(random: &mut Random, blank: Blank) -> Vec<u8> {
-    let mut parts = whole(random, blank);
+pub fn script(random: &mut Random, much: Much) -> Vec<u8> {
+    let mut parts = whole(random, much);
     match random.weighted(&[62, 4, 4, 1, 29]) {
         0 => {}
         1 => parts[2].push(random.pick(&[0x00, 0x38, 0x3F, 0x40, 0x4F])),
+        2 if much == Much::Frames && random.percent(50) => parts[2] = frame_jobs::one_too_many(random, &parts[2]),
         2 => add_many(random, &mut parts),
         3 => {
             // Before `05` and the root.
             let end = parts[0].len() - 2;
             parts[0].splice(end..end, [vec![0x04], many_facts(random, 9)].concat());
         }
+        _ if much == Much::Frames && random.percent(60) => return frame_jobs::damaged(random, &parts.concat()),
         _ => {
             for _ in 0..random.weighted(&[0, 80, 20]) {
                 // By parts, since statements are few among all commands.
@@ -40,8 +43,8 @@ fn add_many(random: &mut Random, [_, templates, program]: &mut [Vec<u8>; 3]) {
 }
 
 /// A script without a fault: vocabulary, templates, program.
-pub fn whole(random: &mut Random, blank: Blank) -> [Vec<u8>; 3] {
-    let shape = Shape::random(random);
+pub fn whole(random: &mut Random, much: Much) -> [Vec<u8>; 3] {
+    let shape = Shape::random(random, much);
     let mut draft = Draft::random(random);
     for _ in 0..random.below(3) {
         let index = random.below(draft.rules.len());
@@ -53,7 +56,7 @@ pub fn whole(random: &mut Random, blank: Blank) -> [Vec<u8>; 3] {
         }
     }
     let templates = shape.templates(random, &draft);
-    let templates = blank.scatter(random, &templates);
+    let templates = much.scatter(random, &templates);
     let program = shape.program(random);
     [draft.bytes(), templates, program]
 }
@@ -85,10 +88,12 @@ struct Shape {
     /// Gaps in templates; plugs go to absent ones too.
     gaps: usize,
     way: Way,
+    /// How often a statement is a framed show, where a load weighs 25.
+    frames: usize,
 }
 
 impl Shape {
-    fn random(random: &mut Random) -> Shape {
+    fn random(random: &mut Random, much: Much) -> Shape {
         let (templates, points) = match random.weighted(&[15, 35, 30, 15, 5]) {
             0 => (random.below(3), random.from_to(1, 3)),
             1 => (random.from_to(1, 5), random.from_to(2, 8)),
@@ -104,6 +109,7 @@ impl Shape {
             ys: random.rising(0, 4, ys),
             gaps: random.pick(&[1, 2, 3, 8]),
             way: random.pick(&[Way::On, Way::Round, Way::Back, Way::Anywhere]),
+            frames: if much == Much::Frames { 60 } else { 5 },
         }
     }
 
@@ -159,8 +165,8 @@ impl Shape {
     /// A statement without its next points.
     fn statement(&self, random: &mut Random) -> Vec<u8> {
         let x = |random: &mut Random| random.pick(&self.xs);
-        let kinds = if self.ys.is_empty() { 5 } else { 9 };
-        match random.weighted(&[25, 35, 8, 5, 3, 16, 7, 6, 5][..kinds]) {
+        let kinds = if self.ys.is_empty() { 6 } else { 10 };
+        match random.weighted(&[25, 35, 8, 5, 3, self.frames, 16, 7, 6, 5][..kinds]) {
             0 => vec![0x31, x(random), random.below(self.templates + 1) as u8],
             1 => {
                 let [to, from] = self.two(random, 60);
@@ -171,12 +177,13 @@ impl Shape {
             2 => vec![0x30, x(random), x(random)],
             3 => vec![0x37, x(random)],
             4 => vec![0x38],
-            5 => {
+            5 => vec![0x39, x(random), random.below(self.templates + 1) as u8, self.gap(random)],
+            6 => {
                 let [to, from] = self.two(random, 70);
                 vec![0x36, to, from, self.gap(random), random.pick(&self.ys)]
             }
-            6 => vec![0x33, random.pick(&self.ys), string(random)],
-            7 => vec![0x32, random.pick(&self.ys), random.pick(&self.ys)],
+            7 => vec![0x33, random.pick(&self.ys), string(random)],
+            8 => vec![0x32, random.pick(&self.ys), random.pick(&self.ys)],
             _ => vec![0x34, random.pick(&self.ys)],
         }
     }

@@ -132,15 +132,15 @@ pub fn print_inferred() -> io::Result<()> {
     out.flush()
 }
 
-/// The numbers, from 1, of the records that `lines` refuses with 3 at an offset where `29` stands. Lines older than F-2
-/// differ on no others.
-pub fn refused_at_blank(records: &mut Records, slices: usize, lines: &str) -> Vec<usize> {
+/// The numbers, from 1, of the records that `lines` refuses with 3 at an offset where one of these commands stands.
+/// Lines older than the commands differ on no others.
+pub fn refused_at(commands: &[u8], records: &mut Records, slices: usize, lines: &str) -> Vec<usize> {
     let mut refused = Vec::new();
     for (index, line) in lines.lines().enumerate() {
         let ranges: Vec<_> = (0..slices).map(|_| records.next_range().expect("fewer records than lines")).collect();
         let numbers: Vec<usize> = line.split(' ').filter_map(|word| word.parse().ok()).collect();
         let [3, offset, slice, 0] = numbers[..] else { continue };
-        if records.bytes[ranges[slice].clone()].get(offset) == Some(&0x29) {
+        if records.bytes[ranges[slice].clone()].get(offset).is_some_and(|command| commands.contains(command)) {
             refused.push(index + 1);
         }
     }

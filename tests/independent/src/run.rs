@@ -4,12 +4,20 @@
 use crate::damage::operands;
 use crate::job::Job;
 use crate::program::Statement;
+use crate::random::Random;
 
 /// The next point, and the string for `34`; 64 and above stand for strings outside 0-63.
 #[derive(Clone, Copy)]
 pub struct Choice {
     pub second: bool,
     pub string: u8,
+}
+
+impl Choice {
+    pub fn random(random: &mut Random) -> Choice {
+        let string = if random.percent(30) { 64 } else { random.below(64) as u8 };
+        Choice { second: random.percent(50), string }
+    }
 }
 
 pub struct Run<'a> {
@@ -32,19 +40,12 @@ impl<'a> Run<'a> {
         let at = self.job.program.points[self.point];
         match at.statement {
             Statement::Copy(to, from) => self.values[to as usize] = self.values[from as usize].clone(),
-            Statement::Template(to, template) => {
-                let items = self.job.templates.list[template as usize].bytes.clone();
-                self.values[to as usize] = self.bytes[items].to_vec();
-            }
+            Statement::Template(to, template) => self.values[to as usize] = self.template(template).to_vec(),
             Statement::CopyString(to, from) => self.strings[to as usize] = self.strings[from as usize],
             Statement::String(to, string) => self.strings[to as usize] = string,
             Statement::AnyString(to) => self.strings[to as usize] = choice.string,
             Statement::Plug(to, from, gap, plugged) => {
-                let items = &self.values[plugged as usize];
-                self.values[to as usize] = replace(&self.values[from as usize], |command| match command {
-                    [0x22, g] if *g == gap => Some(items.clone()),
-                    _ => None,
-                });
+                self.values[to as usize] = plug(&self.values[from as usize], gap, &self.values[plugged as usize]);
             }
             Statement::PlugString(to, from, gap, plugged) => {
                 let string = self.strings[plugged as usize];
@@ -53,15 +54,28 @@ impl<'a> Run<'a> {
                     _ => None,
                 });
             }
-            Statement::Show(x) => {
-                let mut page = close(&self.values[x as usize]);
-                page.push(0x27);
-                self.pages.push(page);
+            Statement::Show(x) => self.pages.push(page(&self.values[x as usize])),
+            Statement::Framed(x, template, gap) => {
+                let framed = plug(self.template(template), gap, &self.values[x as usize]);
+                self.pages.push(page(&framed));
             }
             Statement::Stop => return,
         }
         self.point = at.next[choice.second as usize] as usize;
     }
+
+    /// The items of a template.
+    fn template(&self, template: u8) -> &'a [u8] {
+        &self.bytes[self.job.templates.list[template as usize].bytes.clone()]
+    }
+}
+
+/// Other items in place of each gap of that number; their own gaps stay open.
+fn plug(items: &[u8], gap: u8, plugged: &[u8]) -> Vec<u8> {
+    replace(items, |command| match command {
+        [0x22, g] if *g == gap => Some(plugged.to_vec()),
+        _ => None,
+    })
 }
 
 fn attribute_with(attribute: u8, string: u8) -> Vec<u8> {
@@ -72,13 +86,15 @@ fn attribute_with(attribute: u8, string: u8) -> Vec<u8> {
     }
 }
 
-/// Nothing into each open gap, string 0 into each open attribute gap.
-fn close(items: &[u8]) -> Vec<u8> {
-    replace(items, |command| match command {
+/// What is shown: nothing in each open gap, string 0 in each open attribute gap.
+fn page(items: &[u8]) -> Vec<u8> {
+    let mut page = replace(items, |command| match command {
         [0x22, _] => Some(Vec::new()),
         [0x25, attribute, _] => Some(attribute_with(*attribute, 0)),
         _ => None,
-    })
+    });
+    page.push(0x27);
+    page
 }
 
 /// Puts other bytes in place of the commands for which there are some.

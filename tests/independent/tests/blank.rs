@@ -1,8 +1,9 @@
 //! Request F-2: blank text is an item, but no content anywhere.
 
-use independent::blank::{assert_only_moves, without, Blank};
+use independent::blank::{assert_only_moves, without};
 use independent::damage::commands;
 use independent::job::Job;
+use independent::making::Much;
 use independent::random::Random;
 use independent::random_scripts::whole;
 use independent::records::Lent;
@@ -92,7 +93,7 @@ fn runs_keep_it() {
     let mut random = Random::new(21);
     let (mut shown, mut blank) = (0, 0);
     for _ in 0..1500 {
-        let bytes = random_jobs::job(&mut random, Blank::Much);
+        let bytes = random_jobs::job(&mut random, Much::Blank);
         let Ok(job) = Job::read(&bytes) else { continue };
         let bare_bytes = without(&bytes);
         let Ok(bare_job) = Job::read(&bare_bytes) else { panic!("{bytes:02X?}") };
@@ -118,7 +119,7 @@ fn proposals_are_the_same() {
     let mut random = Random::new(22);
     let mut lent = Lent::default();
     for _ in 0..2000 {
-        let script = whole(&mut random, Blank::Much).concat();
+        let script = whole(&mut random, Much::Blank).concat();
         assert_eq!(lent.line(&script), lent.line(&without(&script)), "{script:02X?}");
     }
 }
@@ -172,13 +173,13 @@ fn made_records_have_it_everywhere() {
     let mut pages = Seen::default();
     let mut jobs = Seen::default();
     for _ in 0..4000 {
-        let record = random_pages::record(&mut random, Blank::Much);
+        let record = random_pages::record(&mut random, Much::Blank);
         let verdict = record.verdict();
         assert_only_moves(&record.page, verdict, |page| judge(&record.vocabulary, page));
         pages.note(&record.page, verdict);
     }
     for _ in 0..2500 {
-        let job = random_jobs::job(&mut random, Blank::Much);
+        let job = random_jobs::job(&mut random, Much::Blank);
         let verdict = check(&job);
         assert_only_moves(&job, verdict, check);
         jobs.note(&job, verdict);

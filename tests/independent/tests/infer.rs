@@ -1,9 +1,9 @@
 //! Request F-1: the smallest covering proposal, where it is written, and what else changes.
 
-use independent::blank::Blank;
 use independent::damage::commands;
 use independent::infer::WORK;
 use independent::least::with_least;
+use independent::making::Much;
 use independent::random::Random;
 use independent::random_scripts::{of_length, whole};
 use independent::reader::LONGEST;
@@ -187,7 +187,8 @@ fn proposals_of_any_length() {
 fn the_same_as_by_rounds() {
     let mut random = Random::new(11);
     let mut lent = Lent::default();
-    let scripts = (0..6000).map(|_| whole(&mut random, Blank::Little).concat()).chain(large_scripts::all());
+    let much = |index| if index % 2 == 0 { Much::Nothing } else { Much::Frames };
+    let scripts = (0..6000).map(|index| whole(&mut random, much(index)).concat()).chain(large_scripts::all());
     for script in scripts {
         let by_rounds = with_least(&script, &[]).unwrap();
         assert_eq!(lent.infer(&script), Ok(&by_rounds[script.len()..]), "{script:02X?}");
@@ -200,7 +201,7 @@ fn the_proposal_is_the_smallest() {
     let mut random = Random::new(12);
     let (mut covered, mut taken) = (0, 0);
     for _ in 0..400 {
-        let script = whole(&mut random, Blank::Little).concat();
+        let script = whole(&mut random, Much::Nothing).concat();
         let proposal = commands(&inferred(&script).unwrap());
         assert!(!proposal.windows(2).any(|two| two[0][0] == 0x40 && [0x40, 0x4F].contains(&two[1][0])));
         if script.len() + proposal.concat().len() > LONGEST {
@@ -224,7 +225,7 @@ fn accepted_whenever_another_proposal_is() {
     let mut random = Random::new(13);
     let mut accepted = 0;
     for _ in 0..1500 {
-        let job = random_jobs::job(&mut random, Blank::Little);
+        let job = random_jobs::job(&mut random, Much::Nothing);
         if check(&job) != [0; 4] {
             continue;
         }

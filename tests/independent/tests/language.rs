@@ -1,8 +1,8 @@
 //! Verdicts on shows against pages of their languages, drawn at random and judged one by one.
 
-use independent::blank::Blank;
 use independent::job::Job;
 use independent::language::draw;
+use independent::making::Much;
 use independent::program::Statement;
 use independent::random::Random;
 use independent::random_jobs;
@@ -12,37 +12,41 @@ const JOBS: usize = 1500;
 const DRAWS: usize = 400;
 
 /// A page drawn at this show that is not right, if one comes.
-fn wrong_page(random: &mut Random, job: &Job, bytes: &[u8], point: usize, x: u8) -> Option<[u32; 4]> {
+fn wrong_page(random: &mut Random, job: &Job, bytes: &[u8], point: usize) -> Option<[u32; 4]> {
     let vocabulary = &bytes[..job.vocabulary_end];
-    (0..DRAWS)
-        .filter_map(|_| draw(random, job, bytes, point, x))
-        .map(|page| judge(vocabulary, &page))
-        .find(|v| v[0] != 0)
+    (0..DRAWS).filter_map(|_| draw(random, job, bytes, point)).map(|page| judge(vocabulary, &page)).find(|v| v[0] != 0)
 }
 
 #[test]
 fn shows_are_judged_as_their_pages() {
-    judged_as_their_pages(7, Blank::Little);
+    judged_as_their_pages(7, Much::Nothing);
 }
 
 #[test]
 fn with_much_blank_text_too() {
-    judged_as_their_pages(8, Blank::Much);
+    judged_as_their_pages(8, Much::Blank);
 }
 
-fn judged_as_their_pages(seed: u64, blank: Blank) {
+#[test]
+fn with_many_framed_shows_too() {
+    judged_as_their_pages(9, Much::Frames);
+}
+
+fn judged_as_their_pages(seed: u64, much: Much) {
     let mut random = Random::new(seed);
     let (mut accepted, mut refused, mut unseen) = (0, 0, 0);
     for _ in 0..JOBS {
-        let bytes = random_jobs::job(&mut random, blank);
+        let bytes = random_jobs::job(&mut random, much);
         let verdict = check(&bytes);
         if !matches!(verdict[0], 0 | 11 | 12) {
             continue;
         }
         let Ok(job) = Job::read(&bytes) else { unreachable!() };
         for (point, at) in job.program.points.iter().enumerate() {
-            let Statement::Show(x) = at.statement else { continue };
-            let wrong = wrong_page(&mut random, &job, &bytes, point, x);
+            if !matches!(at.statement, Statement::Show(_) | Statement::Framed(..)) {
+                continue;
+            }
+            let wrong = wrong_page(&mut random, &job, &bytes, point);
             if verdict[0] == 0 || point < verdict[1] as usize {
                 assert_eq!(wrong, None, "accepted, but a page is wrong: {bytes:02X?}");
                 accepted += 1;

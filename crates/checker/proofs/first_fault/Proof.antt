@@ -1,6 +1,6 @@
 -- The shows of the points passed hold.
 use Prim.Native.Nat.{_-_}
-use mathlib.Core.Path.{sym, subst, _∙_}
+use mathlib.Core.Path.{refl, sym, subst, _∙_}
 use native.Mathlib.Omega.{arith}
 use borrow.Author.Tests.{not-true, not-false}
 use borrow.Author.Needs.{needs}
@@ -13,10 +13,10 @@ use Rattle.checker.proofs.first_fault.Statement.{statement}
 use Rattle.checker.proofs.first_fault.Tie as tie
 
 abbrev Inv-loop : tie.InvT-loop
-Inv-loop s rules templates count starts points places heads p₀ p = (j : Job) → ReadAt s rules templates count starts points places heads j → Below (j .script) (entries (j .proposal)) p
+Inv-loop s rules templates count starts points places heads gaps p₀ p = (j : Job) → ReadAt s rules templates count starts points places heads j → Below (j .script) (entries (j .proposal)) p
 
 abbrev μ-loop : tie.MeasureT-loop
-μ-loop s rules templates count starts points places heads p₀ p = points - p
+μ-loop s rules templates count starts points places heads gaps p₀ p = points - p
 
 loop-holds : tie.Need-loop-holds Inv-loop μ-loop
 loop-holds c j R q l = absurd (omega arith)
@@ -47,7 +47,7 @@ loop-again c j R =
     let l = c .before .before .before .before .before .loop in
     let h = c .before .before .before .before .loop-test .taken in
     let what = c .before .before .showing-at in
-    shows-go (j .script) (entries (j .proposal)) (l .p) (l .inv j R) (shows-nothing _ _ _ (l .p) j (point-stands _ _ _ _ _ _ _ _ j R (l .p) h) (what .result) (what .ensures) (c .enum-told .given .1))
+    shows-go (j .script) (entries (j .proposal)) (l .p) (l .inv j R) (shows-nothing _ _ _ _ (l .p) j (point-stands _ _ _ _ _ _ _ _ j R (l .p) h) (what .result) (what .ensures) (c .enum-told .given .1))
 
 none-requires : tie.Need-none-requires Inv-loop μ-loop
 none-requires c κs = search needs
@@ -66,11 +66,11 @@ is-accepted-requires c κs = search needs
 
 returns : tie.Need-returns Inv-loop μ-loop
 returns c j R covered =
-    let l = c .before .before .before .before .before .before .before .before .before .before .before .before .before .before .loop in
-    let h = c .before .before .before .before .before .before .before .before .before .before .before .before .before .loop-test .taken in
-    let what = c .before .before .before .before .before .before .before .before .before .before .before .showing-at in
-    let e = c .before .before .before .before .before .before .before .before .before .showing .given .1 in
-    let none = c .before .before .before .before .before .before .before .none in
+    let l = c .before .before .before .before .before .before .before .before .before .before .before .before .before .before .before .loop in
+    let h = c .before .before .before .before .before .before .before .before .before .before .before .before .before .before .loop-test .taken in
+    let what = c .before .before .before .before .before .before .before .before .before .before .before .before .showing-at in
+    let e = c .before .before .before .before .before .before .before .before .before .before .showing .given .1 in
+    let none = c .before .before .before .before .before .before .before .before .none in
     let loads = c .before .before .before .before .before .shown-graph .ensures in
     let decide = c .before .before .before .decide in
     let fault = c .before .before .fault-at in
@@ -85,27 +85,27 @@ other-show-requires : tie.Need-other-show-requires Inv-loop μ-loop
 other-show-requires c κs = search needs
 
 loop-less-2 : tie.Need-loop-less-2 Inv-loop μ-loop
-loop-less-2 c = omega (arith, c .other-show .ensures .forward, c .before .before .before .before .before .before .before .before .before .before .before .before .before .before .before .loop-test .taken)
+loop-less-2 c = omega (arith, c .other-show .ensures .forward, c .before .before .before .before .before .before .before .before .before .before .before .before .before .before .before .before .before .loop-test .taken)
 
 loop-again-2 : tie.Need-loop-again-2 Inv-loop μ-loop
 loop-again-2 c j R =
-    let l = c .before .before .before .before .before .before .before .before .before .before .before .before .before .before .before .before .loop in
-    let h = c .before .before .before .before .before .before .before .before .before .before .before .before .before .before .before .loop-test .taken in
-    let what = c .before .before .before .before .before .before .before .before .before .before .before .before .before .showing-at in
-    let e = c .before .before .before .before .before .before .before .before .before .before .before .showing .given .1 in
-    let none = c .before .before .before .before .before .before .before .before .before .none in
-    let loads = c .before .before .before .before .before .before .before .shown-graph .ensures in
-    let decide = c .before .before .before .before .before .decide in
-    let fault = c .before .before .before .before .fault-at in
-    let right = accepts-right (l .p) (decide .result) (fault .result) (fault .ensures) (sym (c .before .before .before .is-accepted .ensures) ∙ not-false _ (c .before .before .if1 .left)) in
+    let l = c .before .before .before .before .before .before .before .before .before .before .before .before .before .before .before .before .before .before .loop in
+    let h = c .before .before .before .before .before .before .before .before .before .before .before .before .before .before .before .before .before .loop-test .taken in
+    let what = c .before .before .before .before .before .before .before .before .before .before .before .before .before .before .before .showing-at in
+    let e = c .before .before .before .before .before .before .before .before .before .before .before .before .before .showing .given .1 in
+    let none = c .before .before .before .before .before .before .before .before .before .before .before .none in
+    let loads = c .before .before .before .before .before .before .before .before .shown-graph .ensures in
+    let decide = c .before .before .before .before .before .before .decide in
+    let fault = c .before .before .before .before .before .fault-at in
+    let right = accepts-right (l .p) (decide .result) (fault .result) (fault .ensures) (sym (c .before .before .before .before .is-accepted .ensures) ∙ not-false _ (c .before .before .before .if1 .left)) in
     shows-pass (j .script) (entries (j .proposal)) (l .p) (l .inv j R)
     (subst (ShowFound (j .script) (entries (j .proposal)) (l .p)) right (shows-graph _ _ _ _ _ _ _ _ j R (l .p) h (what .result) (what .ensures) _ e _ (none .ensures) _ loads (decide .result) (decide .ensures)))
     (c .other-show .result)
-    (c .other-show .ensures .hold _ _ _ _ j R (right-graph _ _ _ _ _ _ _ _ j R (l .p) h (what .result) (what .ensures) _ e _ (none .ensures) _ loads (decide .result) (decide .ensures) right))
+    (c .other-show .ensures .hold _ _ _ _ j refl R (right-graph _ _ _ _ _ _ _ _ j R (l .p) h (what .result) (what .ensures) _ e _ (none .ensures) _ loads (decide .result) (decide .ensures) right))
 
 returns-2 : tie.Need-returns-2 Inv-loop μ-loop
 returns-2 c j R covered =
-    shows-end (j .script) (entries (j .proposal)) (c .before .loop .p) (c .before .loop .inv j R) (c .before .before .before .args .points) (R .parts .of-script .points-are) (c .loop-test .left) covered
+    shows-end (j .script) (entries (j .proposal)) (c .before .loop .p) (c .before .loop .inv j R) (c .before .before .before .before .args .points) (R .parts .of-script .points-are) (c .loop-test .left) covered
 
 pub first-fault-spec : {M : Type 1} → statement M
 first-fault-spec =

@@ -10,8 +10,8 @@ showing-at-requires c κs = search needs
 enum-told : tie.Need-enum-told
 enum-told c = search needs
 
-enum-known-x : tie.Need-enum-known-x
-enum-known-x c = search needs
+enum-known-source : tie.Need-enum-known-source
+enum-known-source c = search needs
 
 none-requires : tie.Need-none-requires
 none-requires c κs = search needs
@@ -26,13 +26,13 @@ returns : tie.Need-returns
 returns c =
     let args = c .before .before .before .before .args in
     let what = c .before .before .showing-at in
-    nothing-passes (args .s .now) (args .heads .now) (args .place) (args .p) (args .graph .now) (what .result) (what .ensures) (c .enum-told .given .1)
+    nothing-passes (args .s .now) (args .heads .now) (args .gaps .now) (args .place) (args .p) (args .graph .now) (what .result) (what .ensures) (c .enum-told .given .1)
 
 returns-2 : tie.Need-returns-2
 returns-2 c =
     let args = c .before .before .before .before .before .before .before .before .before .before .args in
     let what = c .before .before .before .before .before .before .before .before .showing-at in
-    same-passes (args .s .now) (args .heads .now) (args .place) (args .p) (args .graph .now) (what .result) (what .ensures) _ (c .before .before .before .before .before .before .x .given .1) _ (c .before .before .before .before .none .ensures) _ (c .before .before .shown-graph .ensures) (c .same .result) (c .same .ensures)
+    same-passes (args .s .now) (args .heads .now) (args .gaps .now) (args .place) (args .p) (args .graph .now) (what .result) (what .ensures) _ (c .before .before .before .before .before .before .source .given .1) _ (c .before .before .before .before .none .ensures) _ (c .before .before .shown-graph .ensures) (c .same .result) (c .same .ensures)
 
 pub is-passed-by-spec : {M : Type 1} → statement M
 is-passed-by-spec =
@@ -40,7 +40,7 @@ is-passed-by-spec =
     (tie.spec
     showing-at-requires
     enum-told
-    enum-known-x
+    enum-known-source
     none-requires
     shown-graph-requires
     same-requires

@@ -8,13 +8,13 @@ use Rattle.checker.proofs.other_show.Statement.{statement}
 use Rattle.checker.proofs.other_show.Tie as tie
 
 abbrev Inv-loop : tie.InvT-loop
-Inv-loop s heads places points graph from q₀ q = PassedBy s heads places points graph from q
+Inv-loop s heads gaps places points graph from q₀ q = PassedBy s heads gaps places points graph from q
 
 abbrev μ-loop : tie.MeasureT-loop
-μ-loop s heads places points graph from q₀ q = points - q
+μ-loop s heads gaps places points graph from q₀ q = points - q
 
 loop-holds : tie.Need-loop-holds Inv-loop μ-loop
-loop-holds c = passed-none _ _ _ _ _ _
+loop-holds c = passed-none _ _ _ _ _ _ _
 
 mul-is-passed-by : tie.Need-mul-is-passed-by Inv-loop μ-loop
 mul-is-passed-by c = search needs
@@ -39,7 +39,7 @@ loop-again c =
     let args = c .before .before .before .before .before .before .args in
     let l = c .before .before .before .before .loop in
     let passes = c .before .is-passed-by in
-    passes-more (args .s .now) (args .heads .now) (args .places .now) (args .points) (args .graph .now) (args .from) (l .q) (c .before .before .before .loop-test .taken) (l .inv) (passes .result) (not-false _ (c .if1 .left)) (passes .ensures)
+    passes-more (args .s .now) (args .heads .now) (args .gaps .now) (args .places .now) (args .points) (args .graph .now) (args .from) (l .q) (c .before .before .before .loop-test .taken) (l .inv) (passes .result) (not-false _ (c .if1 .left)) (passes .ensures)
 
 returns-2 : tie.Need-returns-2 Inv-loop μ-loop
 returns-2 c = c .before .loop .inv

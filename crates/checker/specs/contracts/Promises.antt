@@ -46,12 +46,12 @@ abbrev pub RightGraph : Job → List ℕ → Type 0
 RightGraph j graph = (q : ℕ) (G : Summary) → shownAt j q ≡ some G → ((c : Claim) → InWords c → G c ≡ holds graph c) → ShowHolds (j .script) (entries (j .proposal)) q
 
 -- By the answer, the show of a point whose statement stands at an offset is right where every show of a graph is.
-abbrev pub PassesBy : List ℕ → List ℕ → ℕ → ℕ → List ℕ → Bool → Type 0
-PassesBy s heads place p graph false = Unit {0}
-PassesBy s heads place p graph true = (j : Job) → PointStands s heads place p j → RightGraph j graph → ShowHolds (j .script) (entries (j .proposal)) p
+abbrev pub PassesBy : List ℕ → List ℕ → List ℕ → ℕ → ℕ → List ℕ → Bool → Type 0
+PassesBy s heads gaps place p graph false = Unit {0}
+PassesBy s heads gaps place p graph true = (j : Job) → PointStands s heads gaps place p j → RightGraph j graph → ShowHolds (j .script) (entries (j .proposal)) p
 
 -- Where every show of a graph is right, those of the points from one up to another are.
-pub record PassedBy (s heads places : List ℕ) (points : ℕ) (graph : List ℕ) (from next : ℕ) : Type 0 where
+pub record PassedBy (s heads gaps places : List ℕ) (points : ℕ) (graph : List ℕ) (from next : ℕ) : Type 0 where
   pub forward : from ≤ next
   pub hold : (rules : Vocabularies.Tables) (templates : TemplateTables) (count : ℕ) (starts : List ℕ) (j : Job)
-      → ReadAt s rules templates count starts points places heads j → RightGraph j graph → (q : ℕ) → from ≤ q → q < next → ShowHolds (j .script) (entries (j .proposal)) q
+      → templates .gaps ≡ gaps → ReadAt s rules templates count starts points places heads j → RightGraph j graph → (q : ℕ) → from ≤ q → q < next → ShowHolds (j .script) (entries (j .proposal)) q

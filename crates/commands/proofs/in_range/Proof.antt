@@ -53,6 +53,9 @@ is-plug-requires c κs = search needs
 is-plug-requires-2 : tie.Need-is-plug-requires-2
 is-plug-requires-2 c κs = search needs
 
+is-frame-requires : tie.Need-is-frame-requires
+is-frame-requires c κs = search needs
+
 add-is-most : tie.Need-add-is-most
 add-is-most c = search needs
 
@@ -159,45 +162,50 @@ returns-14 c =
 returns-15 : tie.Need-returns-15
 unfolding operandsOf allInRange inRange
 returns-15 c =
-    rw (keyed (0x40 ∷ []) (point ∷ entry ∷ []) _ (refl, tt) (c .before .match .keys15), c .is-most6 .ensures) (simp and-true)
+    rw (keyed (0x39 ∷ []) (variable ∷ template ∷ gap ∷ point ∷ point ∷ []) _ (refl, tt) (c .before .match .keys15), c .is-frame .ensures)
 
 returns-16 : tie.Need-returns-16
 unfolding operandsOf allInRange inRange
-returns-16 c = rw (keyed (0x41 ∷ []) (template ∷ []) _ (refl, tt) (c .match .keys16))
+returns-16 c =
+    rw (keyed (0x40 ∷ []) (point ∷ entry ∷ []) _ (refl, tt) (c .before .match .keys16), c .is-most6 .ensures) (simp and-true)
 
 returns-17 : tie.Need-returns-17
 unfolding operandsOf allInRange inRange
-returns-17 c =
-    rw (keyed (0x42 ∷ []) (template ∷ gap ∷ template ∷ []) _ (refl, tt) (c .before .match .keys17), c .is-most7 .ensures) (simp and-true)
+returns-17 c = rw (keyed (0x41 ∷ []) (template ∷ []) _ (refl, tt) (c .match .keys17))
 
 returns-18 : tie.Need-returns-18
 unfolding operandsOf allInRange inRange
 returns-18 c =
-    rw (keyed (0x43 ∷ []) (template ∷ gap ∷ string ∷ []) _ (refl, tt) (c .before .match .keys18), c .are-most6 .ensures) (simp (and-true, string-range))
+    rw (keyed (0x42 ∷ []) (template ∷ gap ∷ template ∷ []) _ (refl, tt) (c .before .match .keys18), c .is-most7 .ensures) (simp and-true)
 
 returns-19 : tie.Need-returns-19
 unfolding operandsOf allInRange inRange
 returns-19 c =
-    rw (keyed (0x44 ∷ []) (template ∷ gap ∷ []) _ (refl, tt) (c .before .match .keys19), c .is-most8 .ensures) (simp and-true)
+    rw (keyed (0x43 ∷ []) (template ∷ gap ∷ string ∷ []) _ (refl, tt) (c .before .match .keys19), c .are-most6 .ensures) (simp (and-true, string-range))
 
 returns-20 : tie.Need-returns-20
 unfolding operandsOf allInRange inRange
 returns-20 c =
-    rw (keyed (0x45 ∷ []) (gap ∷ template ∷ []) _ (refl, tt) (c .before .match .keys20), c .is-most9 .ensures) (simp and-true)
+    rw (keyed (0x44 ∷ []) (template ∷ gap ∷ []) _ (refl, tt) (c .before .match .keys20), c .is-most8 .ensures) (simp and-true)
 
 returns-21 : tie.Need-returns-21
 unfolding operandsOf allInRange inRange
 returns-21 c =
-    rw (keyed (0x46 ∷ []) (gap ∷ template ∷ []) _ (refl, tt) (c .before .match .keys21), c .is-most10 .ensures) (simp and-true)
+    rw (keyed (0x45 ∷ []) (gap ∷ template ∷ []) _ (refl, tt) (c .before .match .keys21), c .is-most9 .ensures) (simp and-true)
 
 returns-22 : tie.Need-returns-22
 unfolding operandsOf allInRange inRange
 returns-22 c =
-    rw (keyed (0x47 ∷ []) (string ∷ []) _ (refl, tt) (c .before .match .keys22), c .is-most11 .ensures) (simp (and-true, string-range))
+    rw (keyed (0x46 ∷ []) (gap ∷ template ∷ []) _ (refl, tt) (c .before .match .keys22), c .is-most10 .ensures) (simp and-true)
 
 returns-23 : tie.Need-returns-23
+unfolding operandsOf allInRange inRange
+returns-23 c =
+    rw (keyed (0x47 ∷ []) (string ∷ []) _ (refl, tt) (c .before .match .keys23), c .is-most11 .ensures) (simp (and-true, string-range))
+
+returns-24 : tie.Need-returns-24
 unfolding allInRange
-returns-23 c = rw (bare _ (c .match .rest))
+returns-24 c = rw (bare _ (c .match .rest))
 
 pub in-range-spec : {M : Type 1} → statement M
 in-range-spec =
@@ -218,6 +226,7 @@ in-range-spec =
     is-most-requires-5
     is-plug-requires
     is-plug-requires-2
+    is-frame-requires
     add-is-most
     is-most-requires-6
     add-is-most-2
@@ -251,4 +260,5 @@ in-range-spec =
     returns-20
     returns-21
     returns-22
-    returns-23)
+    returns-23
+    returns-24)

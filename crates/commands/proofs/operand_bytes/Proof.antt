@@ -64,39 +64,43 @@ returns-14 c = rw (keyed (0x36 ∷ []) (variable ∷ variable ∷ gap ∷ variab
 
 returns-15 : tie.Need-returns-15
 unfolding operandsOf operandBytes
-returns-15 c = rw (keyed (0x40 ∷ []) (point ∷ entry ∷ []) _ (refl, tt) (c .match .keys15))
+returns-15 c = rw (keyed (0x39 ∷ []) (variable ∷ template ∷ gap ∷ point ∷ point ∷ []) _ (refl, tt) (c .match .keys15))
 
 returns-16 : tie.Need-returns-16
 unfolding operandsOf operandBytes
-returns-16 c = rw (keyed (0x41 ∷ []) (template ∷ []) _ (refl, tt) (c .match .keys16))
+returns-16 c = rw (keyed (0x40 ∷ []) (point ∷ entry ∷ []) _ (refl, tt) (c .match .keys16))
 
 returns-17 : tie.Need-returns-17
 unfolding operandsOf operandBytes
-returns-17 c = rw (keyed (0x42 ∷ []) (template ∷ gap ∷ template ∷ []) _ (refl, tt) (c .match .keys17))
+returns-17 c = rw (keyed (0x41 ∷ []) (template ∷ []) _ (refl, tt) (c .match .keys17))
 
 returns-18 : tie.Need-returns-18
 unfolding operandsOf operandBytes
-returns-18 c = rw (keyed (0x43 ∷ []) (template ∷ gap ∷ string ∷ []) _ (refl, tt) (c .match .keys18))
+returns-18 c = rw (keyed (0x42 ∷ []) (template ∷ gap ∷ template ∷ []) _ (refl, tt) (c .match .keys18))
 
 returns-19 : tie.Need-returns-19
 unfolding operandsOf operandBytes
-returns-19 c = rw (keyed (0x44 ∷ []) (template ∷ gap ∷ []) _ (refl, tt) (c .match .keys19))
+returns-19 c = rw (keyed (0x43 ∷ []) (template ∷ gap ∷ string ∷ []) _ (refl, tt) (c .match .keys19))
 
 returns-20 : tie.Need-returns-20
 unfolding operandsOf operandBytes
-returns-20 c = rw (keyed (0x45 ∷ []) (gap ∷ template ∷ []) _ (refl, tt) (c .match .keys20))
+returns-20 c = rw (keyed (0x44 ∷ []) (template ∷ gap ∷ []) _ (refl, tt) (c .match .keys20))
 
 returns-21 : tie.Need-returns-21
 unfolding operandsOf operandBytes
-returns-21 c = rw (keyed (0x46 ∷ []) (gap ∷ template ∷ []) _ (refl, tt) (c .match .keys21))
+returns-21 c = rw (keyed (0x45 ∷ []) (gap ∷ template ∷ []) _ (refl, tt) (c .match .keys21))
 
 returns-22 : tie.Need-returns-22
 unfolding operandsOf operandBytes
-returns-22 c = rw (keyed (0x47 ∷ []) (string ∷ []) _ (refl, tt) (c .match .keys22))
+returns-22 c = rw (keyed (0x46 ∷ []) (gap ∷ template ∷ []) _ (refl, tt) (c .match .keys22))
 
 returns-23 : tie.Need-returns-23
+unfolding operandsOf operandBytes
+returns-23 c = rw (keyed (0x47 ∷ []) (string ∷ []) _ (refl, tt) (c .match .keys23))
+
+returns-24 : tie.Need-returns-24
 unfolding operandBytes
-returns-23 c = rw (bare _ (c .match .rest))
+returns-24 c = rw (bare _ (c .match .rest))
 
 pub operand-bytes-spec : {M : Type 1} → statement M
 operand-bytes-spec =
@@ -124,4 +128,5 @@ operand-bytes-spec =
     returns-20
     returns-21
     returns-22
-    returns-23)
+    returns-23
+    returns-24)

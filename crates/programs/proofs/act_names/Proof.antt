@@ -1,5 +1,5 @@
 -- In each arm the variables are low, and the sets add up.
-use Rattle.programs.proofs.Naming.{fits-as, names-1, names-2, names-3, copy-names, set-names, copy-string-names, set-string-names, any-string-names, plug-names, plug-string-names, show-names}
+use Rattle.programs.proofs.Naming.{fits-as, names-1, names-2, names-3, copy-names, set-names, copy-string-names, set-string-names, any-string-names, plug-names, plug-string-names, show-names, show-framed-names}
 use borrow.Author.Needs.{needs}
 use Rattle.programs.proofs.act_names.Statement.{statement}
 use Rattle.programs.proofs.act_names.Tie as tie
@@ -70,6 +70,12 @@ enum-known-act-8 c = search needs
 with-template-requires-9 : tie.Need-with-template-requires-9
 with-template-requires-9 c κs = fits-as _ _ (c .before .act8 .given .1) (c .before .before .before .pre)
 
+enum-known-act-9 : tie.Need-enum-known-act-9
+enum-known-act-9 c = search needs
+
+with-template-requires-10 : tie.Need-with-template-requires-10
+with-template-requires-10 c κs = fits-as _ _ (c .before .act9 .given .1) (c .before .before .before .pre) .0
+
 returns : tie.Need-returns
 returns c = rw (c .before .before .before .act .given .1) (names-2 _ _ _ _ _ (c .with-template2 .ensures) (c .before .with-template .ensures) (copy-names _ _))
 
@@ -93,6 +99,9 @@ returns-7 c = rw (c .before .before .before .before .act7 .given .1) (names-3 _ 
 
 returns-8 : tie.Need-returns-8
 returns-8 c = rw (c .before .before .act8 .given .1) (names-1 _ _ _ (c .with-template9 .ensures) (show-names _))
+
+returns-9 : tie.Need-returns-9
+returns-9 c = rw (c .before .before .act9 .given .1) (names-1 _ _ _ (c .with-template10 .ensures) (show-framed-names _ _ _))
 
 pub act-names-spec : {M : Type 1} → statement M
 act-names-spec =
@@ -120,6 +129,8 @@ act-names-spec =
     with-template-requires-8
     enum-known-act-8
     with-template-requires-9
+    enum-known-act-9
+    with-template-requires-10
     returns
     returns-2
     returns-3
@@ -127,4 +138,5 @@ act-names-spec =
     returns-5
     returns-6
     returns-7
-    returns-8)
+    returns-8
+    returns-9)

@@ -1,4 +1,4 @@
--- `31` alone names a template.
+-- `31` and `39` name a template.
 use borrow.Author.Needs.{needs}
 use Rattle.programs.proofs.act_template_there.Statement.{statement}
 use Rattle.programs.proofs.act_template_there.Tie as tie
@@ -30,6 +30,12 @@ enum-told-6 c = search needs
 enum-told-7 : tie.Need-enum-told-7
 enum-told-7 c = search needs
 
+enum-known-act-2 : tie.Need-enum-known-act-2
+enum-known-act-2 c = search needs
+
+cast-result-2 : tie.Need-cast-result-2
+cast-result-2 c = search needs
+
 returns : tie.Need-returns
 returns c = search needs
 
@@ -54,6 +60,9 @@ returns-7 c = search needs
 returns-8 : tie.Need-returns-8
 returns-8 c = search needs
 
+returns-9 : tie.Need-returns-9
+returns-9 c = rw (c .before .act2 .given .1)
+
 pub act-template-there-spec : {M : Type 1} → statement M
 act-template-there-spec =
     tie.close
@@ -67,6 +76,8 @@ act-template-there-spec =
     enum-told-5
     enum-told-6
     enum-told-7
+    enum-known-act-2
+    cast-result-2
     returns
     returns-2
     returns-3
@@ -74,4 +85,5 @@ act-template-there-spec =
     returns-5
     returns-6
     returns-7
-    returns-8)
+    returns-8
+    returns-9)

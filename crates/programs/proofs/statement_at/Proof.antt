@@ -47,6 +47,9 @@ step-at-requires-7 c κs = search needs
 step-at-requires-8 : tie.Need-step-at-requires-8
 step-at-requires-8 c κs = search needs
 
+step-at-requires-9 : tie.Need-step-at-requires-9
+step-at-requires-9 c κs = search needs
+
 returns : tie.Need-returns
 returns c =
     let args = c .before .before .before .before .before .before .before .before .args in
@@ -89,6 +92,11 @@ returns-8 c =
 
 returns-9 : tie.Need-returns-9
 returns-9 c =
+    let args = c .before .before .before .before .before .before .before .before .args in
+    decodes (args .s .now) (args .here .at) _ 0x39 (c .before .before .byte-at .ensures) (c .before .match .keys9) (c .step-at9 .result) (rw (c .step-at9 .ensures, c .before .before .before .before .before .before .operand .ensures, c .before .before .before .before .before .operand2 .ensures, c .before .before .before .before .operand3 .ensures))
+
+returns-10 : tie.Need-returns-10
+returns-10 c =
     let args = c .before .before .before .before .before .before .before .args in
     rw (← c .before .byte-at .ensures) (sym (no-step _ (λ i. byte (args .s .now) (args .here .at + i)) (c .match .rest)))
 
@@ -109,6 +117,7 @@ statement-at-spec =
     step-at-requires-6
     step-at-requires-7
     step-at-requires-8
+    step-at-requires-9
     returns
     returns-2
     returns-3
@@ -117,4 +126,5 @@ statement-at-spec =
     returns-6
     returns-7
     returns-8
-    returns-9)
+    returns-9
+    returns-10)

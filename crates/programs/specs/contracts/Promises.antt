@@ -18,10 +18,10 @@ use Rattle.programs.specs.declared.ProgramRead.{ProgramRead}
 use Rattle.programs.specs.declared.Stray.{Stray}
 use Rattle.programs.specs.declared.Stray.the-variants.{At, Nowhere}
 use Rattle.programs.specs.declared.Act as Acts
-use Rattle.programs.specs.declared.Act.the-variants.{CopyTemplate, SetTemplate, CopyString, SetString, AnyString, Plug, PlugString, Show}
+use Rattle.programs.specs.declared.Act.the-variants.{CopyTemplate, SetTemplate, CopyString, SetString, AnyString, Plug, PlugString, Show, ShowFramed}
 use Rattle.programs.specs.declared.Statement as Statements
 use Rattle.programs.specs.declared.Statement.the-variants.{Step, Stop}
-use Rattle.programs.specs.Program.{Act, copyTemplate, setTemplate, copyString, setString, anyString, plug, plugString, show, Statement, step, stop, Variable, templateVariable, stringVariable, statementAt, named}
+use Rattle.programs.specs.Program.{Act, copyTemplate, setTemplate, copyString, setString, anyString, plug, plugString, show, showFramed, Statement, step, stop, Variable, templateVariable, stringVariable, statementAt, named}
 use Rattle.programs.specs.ProgramReading.{Placed, statementRead, templatesThere, mostPoints, statementContext, pointsThere, statements, program}
 
 -- A statement as the code takes it apart.
@@ -34,6 +34,7 @@ asAct (AnyString y) = anyString y
 asAct (Plug x x′ g x″) = plug x x′ g x″
 asAct (PlugString x x′ h y) = plugString x x′ h y
 asAct (Show x) = show x
+asAct (ShowFramed x t g) = showFramed x t g
 
 abbrev pub asStatement : Statements.Statement → Statement
 asStatement (Step a p q) = step (asAct a) p q
@@ -53,6 +54,7 @@ ActFits (anyString y) = y < 4
 ActFits (plug x x′ g x″) = (x < 4) × (x′ < 4) × (g < 8) × (x″ < 4)
 ActFits (plugString x x′ h y) = (x < 4) × (x′ < 4) × (h < 8) × (y < 4)
 ActFits (show x) = x < 4
+ActFits (showFramed x t g) = (x < 4) × (g < 8)
 
 abbrev pub StatementFits : Statement → Type 0
 StatementFits (step a p q) = ActFits a

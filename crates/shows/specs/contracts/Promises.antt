@@ -13,8 +13,8 @@ use Rattle.vocabularies.specs.contracts.Promises.{Describes}
 use Rattle.pages.specs.Items.{Items}
 use Rattle.pages.specs.contracts.Gaps.{StartsAt, GapsTable}
 use Rattle.pages.specs.contracts.Promises.{Located}
-use Rattle.programs.specs.Program.{statementAt}
-use Rattle.summaries.specs.Summaries.{Summary, Environment, entries}
+use Rattle.programs.specs.Program.{statementAt, templateAt}
+use Rattle.summaries.specs.Summaries.{Summary, Environment, fragment, plugSummary, entries}
 use Rattle.summaries.specs.Languages.{closedSummary, graphShown}
 use Rattle.jobs.specs.Job.{Script, Job, job}
 use Rattle.jobs.specs.JobVerdict.{ShowHolds, NotRootAt, WrongIn}
@@ -32,7 +32,9 @@ use Rattle.patterns.specs.contracts.LowestWrong.{LowestWrong}
 use Rattle.languages.specs.contracts.Tables.{SetsAre}
 use Rattle.shows.specs.declared.TemplateTables.{TemplateTables}
 use Rattle.shows.specs.declared.Showing.{Showing}
-use Rattle.shows.specs.declared.Showing.the-variants.{Nothing, Variable}
+use Rattle.shows.specs.declared.Showing.the-variants.{Nothing, Page}
+use Rattle.shows.specs.declared.Source.{Source}
+use Rattle.shows.specs.declared.Source.the-variants.{Variable, Framed}
 use Rattle.shows.specs.declared.Shown.{Shown}
 use Rattle.shows.specs.declared.Shown.the-variants.{Right, NotRoot, Wrong}
 use Rattle.shows.specs.declared.OtherRoot.{OtherRoot}
@@ -56,25 +58,46 @@ module _ (π : Script) (E : ℕ → Environment) (p : ℕ) where
   ShowFound (NotRoot t) = FoundNotRoot t
   ShowFound (Wrong t at) = FoundWrong t at
 
--- What is known of a point whose statement stands at an offset.
-pub record PointStands (s heads : List ℕ) (place p : ℕ) (j : Job) : Type 0 where
-  pub count : ℕ
-  pub stands : StatementStands s count place (statementAt (j .script .program) p)
+-- What is known at a point of a job: where its entries stand, and the gaps of all templates.
+pub record PointKept (s heads gaps : List ℕ) (p : ℕ) (j : Job) : Type 0 where
   pub low : p < 32
   pub entry : EntriesAt s heads (j .proposal) p
+  pub gaps-are : GapsTable gaps (j .script .templates)
+  pub few : length (j .script .templates) ≤ 31
+
+-- What is known of a point whose statement stands at an offset.
+pub record PointStands (s heads gaps : List ℕ) (place p : ℕ) (j : Job) : Type 0 where
+  pub kept : PointKept s heads gaps p j
+  pub stands : StatementStands s (length (j .script .templates)) place (statementAt (j .script .program) p)
 
 abbrev pub shownAt : Job → ℕ → Option Summary
 shownAt j p = graphShown (j .script .templates) (j .script .program) (entries (j .proposal)) p
 
+-- What the page of a show is made from, at a point; its variable and its frame are there.
+abbrev pub madeFrom : Job → ℕ → Source → Summary
+madeFrom j p (Variable x) = entries (j .proposal) p .template x
+madeFrom j p (Framed x t g) = plugSummary g (fragment t (templateAt (j .script .templates) t)) (entries (j .proposal) p .template x)
+
+abbrev pub SourceFits : Job → Source → Type 0
+SourceFits j (Variable x) = x < 4
+SourceFits j (Framed x t g) = (x < 4) × (t ≤ length (j .script .templates))
+
 -- What the points with the statement at an offset show.
 abbrev pub ShowsAt : List ℕ → ℕ → Showing → Type 0
-ShowsAt s place Nothing = (heads : List ℕ) (p : ℕ) (j : Job) → PointStands s heads place p j → shownAt j p ≡ none
-ShowsAt s place (Variable x) = (heads : List ℕ) (p : ℕ) (j : Job) → PointStands s heads place p j → (x < 4) × (shownAt j p ≡ some (closedSummary (entries (j .proposal) p .template x)))
+ShowsAt s place Nothing = (heads gaps : List ℕ) (p : ℕ) (j : Job) → PointStands s heads gaps place p j → shownAt j p ≡ none
+ShowsAt s place (Page source) = (heads gaps : List ℕ) (p : ℕ) (j : Job) → PointStands s heads gaps place p j → SourceFits j source × (shownAt j p ≡ some (closedSummary (madeFrom j p source)))
 
--- A graph that held nothing holds what a show of a variable at a point shows.
-abbrev pub HoldsShown : List ℕ → List ℕ → ℕ → ℕ → List ℕ → List ℕ → Type 0
-HoldsShown s heads p x before after =
-    (j : Job) → p < 32 → x < 4 → EntriesAt s heads (j .proposal) p → Keeps before nothing → Keeps after (closedSummary (entries (j .proposal) p .template x))
+-- A graph that held nothing holds the entry of a variable at a point; what a page is made from; and what its show shows.
+abbrev pub HoldsEntry : List ℕ → List ℕ → ℕ → ℕ → List ℕ → List ℕ → Type 0
+HoldsEntry s heads p x before after =
+    (j : Job) → p < 32 → x < 4 → EntriesAt s heads (j .proposal) p → Keeps before nothing → Keeps after (entries (j .proposal) p .template x)
+
+abbrev pub HoldsSource : List ℕ → List ℕ → List ℕ → ℕ → Source → List ℕ → List ℕ → Type 0
+HoldsSource s heads gaps p source before after = (j : Job) → PointKept s heads gaps p j → SourceFits j source → Keeps before nothing → Keeps after (madeFrom j p source)
+
+abbrev pub HoldsShown : List ℕ → List ℕ → List ℕ → ℕ → Source → List ℕ → List ℕ → Type 0
+HoldsShown s heads gaps p source before after =
+    (j : Job) → PointKept s heads gaps p j → SourceFits j source → Keeps before nothing → Keeps after (closedSummary (madeFrom j p source))
 
 -- What is worked out of the templates of a job, once for all its shows: the gaps of each, at any depth, its outline, and the templates
 -- in which each element stands.

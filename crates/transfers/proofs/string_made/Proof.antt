@@ -36,6 +36,9 @@ enum-told-4 c = search needs
 enum-told-5 : tie.Need-enum-told-5
 enum-told-5 c = search needs
 
+enum-told-6 : tie.Need-enum-told-6
+enum-told-6 c = search needs
+
 returns : tie.Need-returns
 returns c = rw (c .before .before .act .given .1) (c .if-string-set .ensures)
 
@@ -60,6 +63,9 @@ returns-7 c = rw (c .enum-told4 .given .1)
 returns-8 : tie.Need-returns-8
 returns-8 c = rw (c .enum-told5 .given .1)
 
+returns-9 : tie.Need-returns-9
+returns-9 c = rw (c .enum-told6 .given .1)
+
 pub string-made-spec : {M : Type 1} → statement M
 string-made-spec =
     tie.close
@@ -75,6 +81,7 @@ string-made-spec =
     enum-told-3
     enum-told-4
     enum-told-5
+    enum-told-6
     returns
     returns-2
     returns-3
@@ -82,4 +89,5 @@ string-made-spec =
     returns-5
     returns-6
     returns-7
-    returns-8)
+    returns-8
+    returns-9)

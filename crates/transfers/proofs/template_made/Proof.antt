@@ -39,6 +39,9 @@ enum-told-3 c = search needs
 enum-told-4 : tie.Need-enum-told-4
 enum-told-4 c = search needs
 
+enum-told-5 : tie.Need-enum-told-5
+enum-told-5 c = search needs
+
 returns : tie.Need-returns
 returns c = rw (c .before .before .act .given .1) (c .if-set .ensures)
 
@@ -63,6 +66,9 @@ returns-7 c = rw (c .enum-told3 .given .1)
 returns-8 : tie.Need-returns-8
 returns-8 c = rw (c .enum-told4 .given .1)
 
+returns-9 : tie.Need-returns-9
+returns-9 c = rw (c .enum-told5 .given .1)
+
 pub template-made-spec : {M : Type 1} → statement M
 template-made-spec =
     tie.close
@@ -79,6 +85,7 @@ template-made-spec =
     enum-told-2
     enum-told-3
     enum-told-4
+    enum-told-5
     returns
     returns-2
     returns-3
@@ -86,4 +93,5 @@ template-made-spec =
     returns-5
     returns-6
     returns-7
-    returns-8)
+    returns-8
+    returns-9)

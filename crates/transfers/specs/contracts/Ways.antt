@@ -7,7 +7,7 @@ use lib.Dec.{eqb, ltb}
 use Rattle.sets.specs.Sets.{member}
 use Rattle.commands.specs.Commands.{strings}
 use Rattle.pages.specs.Items.{Items}
-use Rattle.programs.specs.Program.{Act, copyTemplate, setTemplate, copyString, setString, anyString, plug, plugString, show, templateAt, Variable, templateVariable, stringVariable}
+use Rattle.programs.specs.Program.{Act, copyTemplate, setTemplate, copyString, setString, anyString, plug, plugString, show, showFramed, templateAt, Variable, templateVariable, stringVariable}
 use Rattle.summaries.specs.Summaries.{Summary, Strings, Environment, fragment, plugSummary, plugStringSummary}
 use Rattle.transfers.specs.declared.Made.{Made}
 use Rattle.transfers.specs.declared.Made.the-variants.{Value, Template, Plugged, Filled}
@@ -27,6 +27,7 @@ madeBy (anyString y) x = Value x
 madeBy (plug y z g w) x = ifSet x y (Plugged z g w)
 madeBy (plugString y z h w) x = ifSet x y (Filled z h w)
 madeBy (show y) x = Value x
+madeBy (showFramed y t g) x = Value x
 
 abbrev pub ifStringSet : ℕ → ℕ → MadeString → MadeString
 ifStringSet y x new = cond (eqb y x) new (Strings.Value y)
@@ -40,6 +41,7 @@ stringMadeBy (anyString x) y = ifStringSet y x Any
 stringMadeBy (plug x z g w) y = Strings.Value y
 stringMadeBy (plugString x z h w) y = Strings.Value y
 stringMadeBy (show x) y = Strings.Value y
+stringMadeBy (showFramed x t g) y = Strings.Value y
 
 -- The summary that each way gives.
 abbrev pub summaryMade : List Items → Environment → Made → Summary

@@ -1,6 +1,8 @@
 //! job-limits OUT.bin OUT.verdicts
 
+use independent::apart;
 use independent::blank::assert_only_moves;
+use independent::random::Random;
 use independent::records::{line, push};
 use independent::{check, job_limits};
 
@@ -11,10 +13,12 @@ fn main() -> std::io::Result<()> {
     };
     let mut records = Vec::new();
     let mut verdicts = String::new();
+    let mut random = Random::new(0);
     for job in job_limits::all() {
         push(&mut records, &job);
         let verdict = check(&job);
         assert_only_moves(&job, verdict, check);
+        apart::assert_alike(&mut random, &job);
         verdicts.push_str(&line(verdict));
     }
     std::fs::write(records_path, records)?;

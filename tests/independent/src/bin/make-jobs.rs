@@ -1,35 +1,40 @@
-//! make-jobs SEED COUNT OUT.bin OUT.verdicts [blank]
+//! make-jobs SEED COUNT OUT.bin OUT.verdicts [blank|frames]
 //!
-//! Each job that reads is checked without its blank text besides. Accepted jobs are run, and every page that they show
-//! is judged.
+//! Each job that reads is checked without its blank text besides, and with each of its framed shows taken apart.
+//! Accepted jobs are run, and every page that they show is judged.
 
+use independent::apart;
 use independent::blank::assert_only_moves;
 use independent::check;
 use independent::job::Job;
 use independent::judge::is_right;
-use independent::making::Making;
+use independent::making::{Making, Much};
 use independent::random::Random;
 use independent::random_jobs::job;
 use independent::reader::{ACCEPTED, LONGEST};
 use independent::records::line;
 use independent::run::{Choice, Run};
 
+const USAGE: &str = "make-jobs SEED COUNT OUT.bin OUT.verdicts [blank|frames]";
+
 fn main() -> std::io::Result<()> {
-    let mut making = Making::from_arguments("make-jobs SEED COUNT OUT.bin OUT.verdicts [blank]");
-    let mut shown = 0;
+    let mut making = Making::from_arguments(USAGE, &[Much::Blank, Much::Frames]);
+    let (mut shown, mut apart) = (0, 0);
     for index in 0..making.count {
         let job = match index {
-            100 => vec![making.blank.filler(); LONGEST + 1],
-            _ => job(&mut making.random, making.blank),
+            100 => vec![making.much.filler(); LONGEST + 1],
+            _ => job(&mut making.random, making.much),
         };
         let verdict = check(&job);
         assert_only_moves(&job, verdict, check);
+        apart += apart::assert_alike(&mut making.random, &job);
         if verdict == ACCEPTED {
             shown += (0..8).map(|_| run(&mut making.random, &job)).sum::<usize>();
         }
         making.add(&[&job], &line(verdict));
     }
     println!("{shown} pages shown by accepted jobs are right, none wrong");
+    println!("{apart} framed shows taken apart give the same");
     making.write()
 }
 
@@ -42,8 +47,7 @@ fn run(random: &mut Random, bytes: &[u8]) -> usize {
         if run.values.iter().any(|value| value.len() > 5_000) {
             break;
         }
-        let string = if random.percent(30) { 64 } else { random.below(64) as u8 };
-        run.step(Choice { second: random.percent(50), string });
+        run.step(Choice::random(random));
     }
     for page in &run.pages {
         assert!(is_right(&job.vocabulary, page), "page {page:02X?} of accepted job {bytes:02X?}");

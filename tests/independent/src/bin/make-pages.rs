@@ -4,17 +4,17 @@
 
 use independent::blank::assert_only_moves;
 use independent::judge;
-use independent::making::Making;
+use independent::making::{Making, Much};
 use independent::random_pages::{record, too_long};
 use independent::records::line;
 
 fn main() -> std::io::Result<()> {
-    let mut making = Making::from_arguments("make-pages SEED COUNT OUT.bin OUT.verdicts [blank]");
+    let mut making = Making::from_arguments("make-pages SEED COUNT OUT.bin OUT.verdicts [blank]", &[Much::Blank]);
     for index in 0..making.count {
         // One vocabulary and one page that are too long; more of them would fill the file.
         let record = match index {
-            100 | 200 => too_long(&mut making.random, making.blank, index == 200),
-            _ => record(&mut making.random, making.blank),
+            100 | 200 => too_long(&mut making.random, making.much, index == 200),
+            _ => record(&mut making.random, making.much),
         };
         let verdict = record.verdict();
         assert_only_moves(&record.page, verdict, |page| judge(&record.vocabulary, page));
