@@ -8,5 +8,6 @@ pub mod Gaps
 pub mod Pages
 pub mod Roots
 pub mod Verdicts
+pub mod ReadPrograms
 pub mod JobEnds
 pub mod JobVerdicts

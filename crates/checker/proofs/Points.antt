@@ -19,8 +19,8 @@ use Rattle.graphs.specs.contracts.Graphs.{Keeps, SameGraph, nothing}
 use Rattle.jobs.specs.Job.{Script, Job}
 use Rattle.jobs.specs.contracts.ScriptTables.{StatementStands}
 use Rattle.programs.specs.Program.{statementAt}
+use Rattle.programs.proofs.Points.{past-stops}
 use Rattle.jobs.specs.JobVerdict.{ShowHolds, AllCovered, ScriptVerdict, not-root, wrong-element, accepted}
-use Rattle.covering.proofs.Whole.{past-stops}
 use Rattle.patterns.proofs.JobShows.{nothing-shown}
 use Rattle.shows.specs.declared.TemplateTables.{TemplateTables}
 use Rattle.shows.specs.declared.Showing.{Showing}

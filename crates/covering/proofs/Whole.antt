@@ -4,7 +4,7 @@ use mathlib.Core.Path.{_≡_, refl, sym, _∙_}
 use mathlib.Core.List.{List}
 use mathlib.Core.Bool.{Bool, true, false, and-false, false≢true}
 use native.Mathlib.Omega.{arith}
-use lib.ListN.{length, getD, List·getD-eq-default}
+use lib.ListN.{length, getD}
 use lib.Dec.{eqb, ltb}
 use borrow.Author.Tests.{eqb-true, eqb-false, lt-ltb, le-ltb, ltb-true, ltb-false}
 use Rattle.verdicts.specs.declared.Cover.{Cover}
@@ -13,8 +13,8 @@ use Rattle.sets.specs.Sets.{member}
 use Rattle.commands.specs.declared.Context.the-variants.{TemplateHoldings, StringHoldings}
 use Rattle.pages.specs.Items.{gapIn, attributeGapIn}
 use Rattle.pages.specs.Items as Items
-use Rattle.programs.specs.Program.{Statement, stop, templateVariable, stringVariable, statementAt}
-use Rattle.programs.proofs.Points.{statement-element}
+use Rattle.programs.specs.Program.{templateVariable, stringVariable}
+use Rattle.programs.proofs.Points.{past-stops}
 use Rattle.summaries.specs.Proposal.{root, edge, string, gapFrom, attributeGapFrom, Head, Holding}
 use Rattle.summaries.specs.ProposalReading.{variableOf}
 use Rattle.summaries.specs.Summaries.{Summary, Environment, Within, fragment, saysClaim, saysString, held, under, entries}
@@ -58,10 +58,6 @@ module _ (s heads : List ℕ) (hs : List Head) (entry : EntriesAt s heads hs 0) 
   start-string f g from-is set h one o w =
       rw (le-ltb v 4 f)
       (values-decide _ (held saysString (under hs 0 (stringVariable (v - 4)))) one set (λ t. sym (o t)) (h (under hs 0 (stringVariable (v - 4))) (string-listed s heads hs 0 (omega arith) entry (v - 4) from (omega arith) from-is)) r w)
-
--- No statement stands past the last point.
-pub past-stops : (ts : List Statement) (p : ℕ) → length ts ≤ p → statementAt ts p ≡ stop
-past-stops ts p h = statement-element ts p ∙ List·getD-eq-default ts stop h
 
 module _ (π : Script) (E : ℕ → Environment) where
   -- The steps of the points below p are covered.

@@ -36,6 +36,8 @@ pub record PartsRead (s : List ℕ) (π : Script) : Type 0 where
   pub vocabulary-reads : vocabulary s ≡ whole (π .vocabulary) first
   pub second : ℕ
   pub templates-read : templates (enough s) (declared (π .vocabulary .rules)) s 0 first ≡ whole (π .templates) second
+  pub third : ℕ
+  pub program-reads : program (enough s) (length (π .templates)) s second ≡ whole (π .program) third
 
 module _ (s : List ℕ) where
   pub script-parts : (π : Script) (end : ℕ) → script s ≡ whole π end → PartsRead s π
@@ -45,7 +47,14 @@ module _ (s : List ℕ) where
       let t = andThen-whole (templates (enough s) (declared (v .0 .rules)) s 0 (v .1)) (afterTemplates s (v .0)) π end (v .3) in
       let p = andThen-whole (program (enough s) (length (t .0)) s (t .1)) (λ ts end. whole (ofParts s (v .0) (t .0) ts) end) π end (t .3) in
       let q : ofParts s (v .0) (t .0) (p .0) ≡ π = cc (p .3) in
-      subst (λ (k : Script). PartsRead s k) q (record { first = v .1; vocabulary-reads = v .2; second = t .1; templates-read = t .2 })
+      subst (λ (k : Script). PartsRead s k) q (record {
+        first = v .1;
+        vocabulary-reads = v .2;
+        second = t .1;
+        templates-read = t .2;
+        third = p .1;
+        program-reads = p .2;
+      })
 
   -- What is read alone is read.
   pub alone-whole : {A : Type 0} (r : Read A) {a : A} {end : ℕ} → alone s r ≡ whole a end → r ≡ whole a end
@@ -65,6 +74,9 @@ module _ (s : List ℕ) where
       let h = andThen-whole (proposal (enough s) (length (c .0 .templates)) (length (c .0 .program)) s 0 (c .1)) (λ hs end. whole (record { script = c .0; proposal = hs }) end) j end (c .3) in
       let q : record { script = c .0; proposal = h .0 } ≡ j = cc (h .3) in
       (c .1, subst (λ (k : Job). script s ≡ whole (k .script) (c .1)) q (c .2))
+
+  pub job-parts : (j : Job) (end : ℕ) → job s ≡ whole j end → PartsRead s (j .script)
+  job-parts j end e = let read = job-script j end e in script-parts (j .script) (read .0) (read .1)
 
 -- A script has few templates.
 templates-few : (f : ℕ) (ruled : ℕ → Bool) (s : List ℕ) (count at : ℕ) (φs : List Items) (end : ℕ) → count ≤ mostTemplates

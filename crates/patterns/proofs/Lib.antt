@@ -20,7 +20,6 @@ pub mod Decided
 pub mod Ranges
 pub mod ReadVocabularies
 pub mod ReadTemplates
-pub mod ReadPrograms
 pub mod ReadProposals
 pub mod ReadJobs
 pub mod JobShows

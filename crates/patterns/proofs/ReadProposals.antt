@@ -24,10 +24,10 @@ use Rattle.summaries.specs.ProposalReading.{holdingAt, holdingThere, rank, hold
 use Rattle.summaries.specs.Summaries.{Summary, Environment, fragment, plugSummary, sameCode, saysClaim, held, sameVariable, under, entries}
 use Rattle.summaries.specs.Languages.{closedSummary, summaryShown, closedIfShown, statementGraph, graphShown}
 use Rattle.agreement.proofs.Readings.{Gives, gives, refuses, runs-out, gives-when, gives-then}
+use Rattle.agreement.proofs.ReadPrograms.{TemplatesThere}
 use Rattle.patterns.specs.contracts.Given.{Bounded}
 use Rattle.sets.proofs.Booleans.{or-cases, and-left, and-right}
 use Rattle.patterns.proofs.Ranges.{Ranged, ranges-of, gives-ranged}
-use Rattle.patterns.proofs.ReadPrograms.{TemplatesThere}
 
 -- An item names templates that are there, and no string outside the named ones.
 abbrev pub NamedHolding : Holding → Type 0

@@ -9,4 +9,5 @@ mod Whole
 pub mod Replacing
 pub mod Points
 pub mod Frames
+pub mod Frameless
 pub mod Laws

@@ -2,8 +2,7 @@
 use Prim.Native.Nat.{ℕ, zero, suc, _≤_, _<_}
 use mathlib.Core.Path.{_≡_, refl, sym, ap, _∙_}
 use mathlib.Core.List.{List, [], _∷_, map}
-use mathlib.Core.Bool.{Bool, true, false, cond}
-use mathlib.Core.Option.{Option, some, none}
+use mathlib.Core.Option.{some, none}
 use native.Mathlib.Omega.{arith}
 use native.Mathlib.Nat.{sub-zero}
 use lib.ListN.{length, getD, length-map}
@@ -17,11 +16,12 @@ use Rattle.commands.specs.Commands.{byte}
 use Rattle.commands.specs.Reading.{whole, enough}
 use Rattle.commands.specs.contracts.Parts.{Enough}
 use Rattle.programs.proofs.Agreement.{WholeAs, agrees-whole, agrees-refused, whole-agrees, refused-agrees, enough-enough}
+use Rattle.programs.proofs.Points.{points-there}
 use Rattle.programs.specs.declared.ProgramRead.{ProgramRead}
 use Rattle.programs.specs.declared.Stray.{Stray}
 use Rattle.programs.specs.declared.Stray.the-variants.{At, Nowhere}
 use Rattle.programs.specs.Program.{statementAt}
-use Rattle.programs.specs.ProgramReading.{Placed, statementRead, mostPoints, pointsThere, statements, strayed, unlessStrayed, program}
+use Rattle.programs.specs.ProgramReading.{Placed, statementRead, mostPoints, statements, strayed, unlessStrayed, program}
 use Rattle.programs.specs.contracts.Promises.{numberOf, placedAt, placed, strayOf, Kept, StatementsRead, Tabled, ProgramReads}
 
 pub refused-whole : (s : List ℕ) (count at : ℕ) (r : ProgramRead) (f : Form) (n : ℕ) → StatementsRead s count 0 0 at r → r .part ≡ Refused f n → ProgramReads s count at r
@@ -36,18 +36,6 @@ unfolding statementAt
 statement-at s [] i h = absurd (omega arith)
 statement-at s (p ∷ ps) zero h = refl
 statement-at s (p ∷ ps) (suc i) h = statement-at s ps i (omega arith)
-
-unstrayed : (b : Bool) (rest : Option ℕ) (p : ℕ) → none ≡ cond b rest (some p) → (b ≡ true) × (none ≡ rest)
-unstrayed true rest p e = (refl, e)
-unstrayed false rest p e = absurd (let z : _≡_ {A = ℕ} 0 1 = cc in omega arith)
-
-all-there : (s places : List ℕ) (points i : ℕ) → none ≡ strayed points (placed s places) → i < length places
-    → pointsThere points (statementRead s (getD places i 0) (byte s (getD places i 0))) ≡ true
-unfolding strayed
-all-there s [] points i e h = absurd (omega arith)
-all-there s (p ∷ ps) points zero e h = unstrayed (pointsThere points (statementRead s p (byte s p))) (strayed points (placed s ps)) p e .0
-all-there s (p ∷ ps) points (suc i) e h =
-    all-there s ps points i (unstrayed (pointsThere points (statementRead s p (byte s p))) (strayed points (placed s ps)) p e .1) (omega arith)
 
 -- What is kept where all statements are read.
 module _ (s : List ℕ) (count at : ℕ) (r : ProgramRead) (end : Position) (read : StatementsRead s count 0 0 at r) (is-whole : r .part ≡ Whole end) where
@@ -82,9 +70,7 @@ module _ (s : List ℕ) (count at : ℕ) (r : ProgramRead) (end : Position) (rea
       most = K .most;
       statement = statement-is;
       stands = λ i h. K .stands i (omega arith) h;
-      points-there = λ i h. ap (pointsThere (r .count)) (sym (statement-is i h))
-          ∙ (ap (λ (p : ℕ). pointsThere (r .count) (statementRead s p (byte s p))) (sym (placed-at i h))
-          ∙ all-there s (slice 0 (r .count) (r .places)) (r .count) i e (let e = as-many in omega arith));
+      points-there = λ i h. points-there (r .count) ts (ap (strayed (r .count)) (K .are) ∙ sym e) i;
       names = record { holds = λ v t. K .names .holds v t ∙ rw (member-zero (numberOf v)) };
     }
 

@@ -1,5 +1,5 @@
 pub mod Program
 pub mod ProgramReading
 pub mod Runs
-pub mod WrittenOut
+pub mod Unframed
 pub mod contracts

@@ -71,7 +71,7 @@ pub record Choice : Type 0 where
   pub second : Bool
   pub string : ℕ
 
--- The point, the values of all variables, of which a program names 0 to 3 alone, and the pages shown.
+-- The point, the values of all variables, of which a program that reads names 0 to 3 alone, and the pages shown.
 pub record State : Type 0 where
   pub point : ℕ
   pub template : ℕ → Items

@@ -27,7 +27,7 @@ use Rattle.transfers.specs.declared.Made.the-variants.{Value, Template, Plugged
 use Rattle.transfers.specs.contracts.Ways.{madeBy, summaryMade, MadeFits, MadeThere}
 use Rattle.transfers.proofs.Transfers.{made-is, made-fits, made-there}
 use Rattle.sets.proofs.Booleans.{or-cases, and-both, and-left, and-right}
-use Rattle.covering.proofs.Whole.{past-stops}
+use Rattle.programs.proofs.Points.{past-stops}
 use Rattle.solver.specs.contracts.Work.{inside, everything}
 
 abbrev Inside : Summary → Type 0

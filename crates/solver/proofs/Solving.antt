@@ -25,7 +25,7 @@ use Rattle.sets.proofs.Booleans.{or-left}
 use Rattle.states.specs.contracts.States.{pointWords, entriesIn}
 use Rattle.states.proofs.Entries.{nothing-held, no-string-held}
 use Rattle.least_entries.specs.contracts.Order.{Below}
-use Rattle.covering.proofs.Whole.{past-stops}
+use Rattle.programs.proofs.Points.{past-stops}
 use Rattle.solver.specs.contracts.Flows.{Starts, madeFrom, Settling}
 use Rattle.solver.specs.contracts.Work.{ZeroPoints, RisesOr, waitsIn, Working, NoneWaits, Visited, allVariables, FirstWaiting, Started}
 use Rattle.solver.proofs.Variables.{among-none, among-all, number-there}

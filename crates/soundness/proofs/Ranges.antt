@@ -11,11 +11,13 @@ use lib.ListN.{length}
 use lib.Dec.{eqb, leb, ltb}
 use Rattle.verdicts.specs.declared.Form.the-variants.{TooMany, Missing}
 use Rattle.commands.specs.Commands.{byte, operandsOf, allInRange}
-use Rattle.commands.specs.Reading.{Read, whole, refused, andThen, when}
+use Rattle.commands.specs.Reading.{Read, whole, refused, andThen, when, enough}
 use Rattle.commands.proofs.Laws.{moved, andThen-whole, onCommand-whole, when-whole}
 use Rattle.programs.specs.Program.{copyTemplate, setTemplate, copyString, setString, anyString, plug, plugString, show, showFramed, Statement, step, stop, Variable, templateVariable, stringVariable, statementNames, named}
 use Rattle.programs.specs.ProgramReading.{Placed, statementOf, statementRead, statementContext, statements, strayed, unlessStrayed, program, templatesThere, mostPoints}
 use Rattle.sets.proofs.Booleans.{or-cases, and-left, and-right}
+use Rattle.jobs.specs.Job.{Job, job}
+use Rattle.jobs.proofs.Tables.{job-parts}
 use Rattle.soundness.proofs.Run.{InRange}
 
 -- A variable's number: which of the two sorts does not matter here.
@@ -192,9 +194,15 @@ not-strayed none us next ts end e b = let q : us ≡ ts = cc in in-range (subst 
 not-strayed (some at) us next ts end e b = absurd (let z : _≡_ {A = ℕ} 0 1 = cc in omega arith)
 
 -- The program that is read names variables in range.
-pub program-in-range : (f count : ℕ) (s : List ℕ) (at : ℕ) (ts : List Statement) (end : ℕ) → program f count s at ≡ whole ts end → InRange ts
+program-in-range : (f count : ℕ) (s : List ℕ) (at : ℕ) (ts : List Statement) (end : ℕ) → program f count s at ≡ whole ts end → InRange ts
 unfolding program
 program-in-range f count s at ts end e =
     let q = andThen-whole (statements f count s 0 at) (λ us end′. unlessStrayed (strayed (length us) us) (whole (bare us) end′)) ts end e in
     let b = statements-bounded f count s 0 at (q .0) (q .1) (q .2) in
     not-strayed (strayed (length (q .0)) (q .0)) (bare (q .0)) (q .1) ts end (q .3) b
+
+-- So does the program of a job that reads.
+pub job-in-range : (s : List ℕ) (j : Job) (end : ℕ) → job s ≡ whole j end → InRange (j .script .program)
+job-in-range s j end e =
+    let parts = job-parts s j end e in
+    program-in-range (enough s) (length (j .script .templates)) s (parts .second) (j .script .program) (parts .third) (parts .program-reads)

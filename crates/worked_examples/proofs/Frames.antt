@@ -14,18 +14,19 @@ use Rattle.vocabularies.specs.Vocabulary.{ruleOf}
 use Rattle.vocabularies.specs.Facts.{withFacts}
 use Rattle.pages.specs.Items.{Value, string, open-gap, text, gap, element, Items, none, more, one, _⋈_, gapIn, attributeGapIn}
 use Rattle.programs.specs.Program.{setTemplate, anyString, showFramed, Statement, step, stop, templateVariable, stringVariable, named, statementAt, templateAt}
+use Rattle.programs.specs.ProgramReading.{statementOf}
 use Rattle.programs.specs.Runs.{Choice, State, start, plugged, closed, runFrom, shown}
 use Rattle.summaries.specs.Proposal.{root, edge, gapFrom, attributeGapFrom}
 use Rattle.summaries.specs.Proposal as Proposal
 use Rattle.summaries.specs.Summaries.{Summary, Environment, fragment, plugSummary, transfer, sameCode, held, under, entries}
-use Rattle.summaries.specs.Languages.{closedSummary, graphShown, Language, nothing, item-then, text-stays, gap-takes, element-keeps, no-attribute}
+use Rattle.summaries.specs.Languages.{closedSummary, graphShown, LanguageAt, nothing, item-then, text-stays, gap-takes, element-keeps, no-attribute}
 use Rattle.jobs.specs.Job.{Script, Job, job}
 use Rattle.jobs.specs.JobVerdict.{AllCovered}
 use Rattle.worked_examples.specs.FramedJob.{framedJob}
 use Rattle.worked_examples.proofs.ReadingAttributes.{Unreadable, edited, AllRefused}
 use Rattle.worked_examples.proofs.ReadingJ1.{head, j1-job}
 use Rattle.worked_examples.proofs.RunningJ1.{page}
-use Rattle.worked_examples.proofs.Runs.{attribute, first, choosing}
+use Rattle.worked_examples.proofs.Runs.{attribute, first, second, choosing}
 use Rattle.worked_examples.proofs.Transfers as Transfers
 
 -- Element 1 around items and element 2, which has the same items, others before them, and an attribute.
@@ -40,7 +41,7 @@ abbrev framing : List Statement
 framing =
     step (setTemplate 0 2) 1 1
     ∷ step (anyString 0) 2 2
-    ∷ step (showFramed 0 1 0) 3 3
+    ∷ step (showFramed 0 1 0) 3 5
     ∷ step (showFramed 0 1 7) 4 4
     ∷ step (showFramed 0 0 0) 5 5
     ∷ stop
@@ -57,16 +58,17 @@ shows-framed = refl
 abbrev ran : List Choice → State
 ran cs = runFrom templates framing start cs
 
--- "x unchanged", its gap still open; so is every other variable, of templates and of strings. Then the point is p.
+-- "x unchanged", its gap still open, and so is every other variable, though the choice brings string 8. Then the point is p or q.
 pub framed-leaves : (ran (first ∷ choosing 7 ∷ first ∷ []) .template 0 ≡ more text (one (gap 0)))
     × (ran (first ∷ choosing 7 ∷ choosing 8 ∷ []) .string 0 ≡ 7)
     × (ran (first ∷ choosing 7 ∷ first ∷ []) .template ≡ ran (first ∷ choosing 7 ∷ []) .template)
     × (ran (first ∷ choosing 7 ∷ choosing 8 ∷ []) .string ≡ ran (first ∷ choosing 7 ∷ []) .string)
     × (ran (first ∷ choosing 7 ∷ first ∷ []) .point ≡ 3)
+    × (ran (first ∷ choosing 7 ∷ second ∷ []) .point ≡ 5)
 unfolding runFrom statementAt templateAt
-framed-leaves = (refl, refl, refl, refl, refl)
+framed-leaves = (refl, refl, refl, refl, refl, refl)
 
--- "If t has no gap g, a run shows t alone", closed, whatever x is; in template 0 there is none, so the page is empty.
+-- "If t has no gap g, a run shows t alone", closed; template 0 has nothing in it, so the page is empty.
 pub alone-without-gap : shown templates framing (first ∷ choosing 7 ∷ first ∷ first ∷ first ∷ []) ≡ framed-shown ∷ around none none (string 0) ∷ none ∷ []
 unfolding shown statementAt templateAt plugged closed _⋈_
 alone-without-gap = refl
@@ -75,8 +77,8 @@ alone-without-gap = refl
 pub covering-leaves : (φs : List Items) (x t g : ℕ) (E : Environment) → transfer φs (showFramed x t g) E ≡ E
 covering-leaves φs x t g E = refl
 
--- The summary that `39 x t g` shows where the entries are those of `Transfers`: x0 is template 1, with template 2 in its gap, whose gap 0
--- is open and whose attribute gap 0 has string 9; x1 is template 3, which is gap 3.
+-- The summary that `39 x t g` shows where the entries are those of `Transfers`: x0 is template 1, its attribute gaps open, with template 2 in
+-- its gap 0; of template 2 gap 0 is open, and attribute gap 0 has string 9; x1 is template 3, which is gap 3.
 abbrev framed : ℕ → ℕ → ℕ → Summary
 framed x t g = plugSummary g (fragment t (templateAt Transfers.templates t)) (entries Transfers.heads 0 .template x)
 
@@ -90,7 +92,7 @@ pub frame-is-root : (framed 1 1 0 (root 1) ≡ true) × (framed 1 1 0 (root 3) �
 unfolding entries sameCode templateAt gapIn
 frame-is-root = (refl, refl, refl)
 
--- g's origins are x's alone, and x1 has none, so gap 0 of template 1 may not stay empty; other origins are both's.
+-- g's origins are x's alone, and x1 has none, so gap 0 of template 1 may not stay empty; other gaps have the origins of both.
 pub origins : (framed 1 1 0 (gapFrom 0 1) ≡ false) × (closedSummary (framed 1 1 0) (edge 1 0 0) ≡ false) × (framed 1 1 0 (gapFrom 3 3) ≡ true)
     × (framed 1 1 0 (attributeGapFrom 1 1) ≡ true)
 unfolding entries sameCode templateAt gapIn attributeGapIn
@@ -116,14 +118,14 @@ pub one-node : (framed 0 2 0 (gapFrom 0 2) ≡ true) × (framed 0 2 0 (edge 2 0 
 unfolding entries sameCode templateAt gapIn attributeGapIn
 one-node = (refl, refl, refl, refl, refl, refl)
 
--- `39 00 03 00`: template 3 has no gap 0, so no edge goes to x0's root, neither there nor from its gap 3, which stays open; `39 01 00 03`:
--- template 0 has no gap at all.
+-- `39 00 03 00`: template 3 has no gap 0, so no edge goes to x0's root, neither from there nor from its gap 3, which stays open; the graphs
+-- join all the same. `39 01 00 03`: template 0 has no gap at all.
 pub no-edge-without-gap : (framed 0 3 0 (edge 3 0 1) ≡ false) × (framed 0 3 0 (edge 3 3 1) ≡ false) × (framed 0 3 0 (gapFrom 3 3) ≡ true)
-    × (framed 1 0 3 (root 0) ≡ true) × (framed 1 0 3 (edge 0 3 3) ≡ false)
+    × (framed 0 3 0 (edge 1 0 2) ≡ true) × (framed 1 0 3 (root 0) ≡ true) × (framed 1 0 3 (edge 0 3 3) ≡ false)
 unfolding entries sameCode templateAt gapIn
-no-edge-without-gap = (refl, refl, refl, refl, refl)
+no-edge-without-gap = (refl, refl, refl, refl, refl, refl)
 
--- `39 01 02 03` names x1, and neither template 2 nor gap 3 as a variable.
+-- `39 01 02 03` names x1, and neither template 2 nor gap 3 as a variable; and no string variable.
 pub names-one : (named (step (showFramed 1 2 3) 0 0 ∷ []) (templateVariable 1) ≡ true) × (named (step (showFramed 1 2 3) 0 0 ∷ []) (templateVariable 2) ≡ false)
     × (named (step (showFramed 1 2 3) 0 0 ∷ []) (templateVariable 3) ≡ false)
     × (named (step (showFramed 1 2 3) 0 0 ∷ []) (stringVariable 1) ≡ false)
@@ -142,8 +144,8 @@ pub framed-counts : (F : ℕ → Environment) → AllCovered framed-once F → F
 unfolding statementAt named
 framed-counts F c = c .steps 0 false 2 (omega arith) refl (root 0) (c .start 2 (omega arith) refl (root 0) refl)
 
-abbrev framed-job : Job
-framed-job = record {
+abbrev framed-tree : Job
+framed-tree = record {
   script = record {
     vocabulary = j1-job .script .vocabulary;
     templates = j1-job .script .templates;
@@ -162,31 +164,39 @@ framed-job = record {
 }
 
 -- Operands in the order of the bytes: variable, template, gap, next points.
-pub reads : job framedJob ≡ whole framed-job 101
+pub operands : statementOf 0x39 (λ i. i) ≡ step (showFramed 1 2 3) 4 5
+operands = refl
+
+-- The job as a tree.
+pub reads : job framedJob ≡ whole framed-tree 101
 unfolding job command ruleOf withFacts
 reads = refl
 
 -- Its run shows J1's page, and its language has it.
-pub shows : shown (framed-job .script .templates) (framed-job .script .program) (first ∷ first ∷ first ∷ []) ≡ page ∷ []
+pub shows : shown (framed-tree .script .templates) (framed-tree .script .program) (first ∷ first ∷ first ∷ []) ≡ page ∷ []
 unfolding shown statementAt templateAt closed plugged
 shows = refl
 
 abbrev graph : Summary
-graph = closedSummary (plugSummary 0 (fragment 1 (templateAt (framed-job .script .templates) 1)) (entries (framed-job .proposal) 2 .template 1))
+graph = closedSummary (plugSummary 0 (fragment 1 (templateAt (framed-tree .script .templates) 1)) (entries (framed-tree .proposal) 2 .template 1))
 
-graph-shown : graphShown (framed-job .script .templates) (framed-job .script .program) (entries (framed-job .proposal)) 2 ≡ some graph
+graph-shown : graphShown (framed-tree .script .templates) (framed-tree .script .program) (entries (framed-tree .proposal)) 2 ≡ some graph
 unfolding graphShown statementAt
 graph-shown = refl
 
-pub stands : Language (framed-job .script .templates) graph page
+pub stands : LanguageAt (framed-tree .script .templates) (framed-tree .script .program) (entries (framed-tree .proposal)) 2 page
 unfolding templateAt entries held under sameCode gapIn _⋈_
 stands = (
-  1,
+  graph,
+  graph-shown,
   (
-    refl,
-    item-then (element-keeps no-attribute
-        (item-then (gap-takes 2 refl (item-then (element-keeps no-attribute (item-then text-stays nothing refl)) nothing refl)) nothing refl))
-        nothing refl,
+    1,
+    (
+      refl,
+      item-then (element-keeps no-attribute
+          (item-then (gap-takes 2 refl (item-then (element-keeps no-attribute (item-then text-stays nothing refl)) nothing refl)) nothing refl))
+          nothing refl,
+    ),
   ),
 )
 
@@ -203,8 +213,9 @@ variants =
     ∷ record { bytes = edited 47 1 (0x04 ∷ []) framedJob; form = Missing; at = 43 }
     ∷ record { bytes = edited 48 1 (0x04 ∷ []) framedJob; form = Missing; at = 43 }
     ∷ record { bytes = take 50 (edited 47 1 (0x04 ∷ []) framedJob); form = Ended; at = 50 }
-    -- Cut before q.
+    -- Cut before q; with variable 4 too, 2 before 4.
     ∷ record { bytes = take 48 framedJob; form = Ended; at = 43 }
+    ∷ record { bytes = take 48 (edited 44 1 (0x04 ∷ []) framedJob); form = Ended; at = 43 }
     -- `3A` is no statement; nor does `39` stand after `3F`.
     ∷ record { bytes = edited 43 1 (0x3A ∷ []) framedJob; form = NotAllowed; at = 43 }
     ∷ record { bytes = edited 51 1 (0x39 ∷ []) framedJob; form = NotAllowed; at = 51 }
@@ -212,4 +223,4 @@ variants =
 
 pub refusals : AllRefused variants
 unfolding job command ruleOf withFacts
-refusals = (refl, (refl, (refl, (refl, (refl, (refl, (refl, (refl, (refl, (refl, tt))))))))))
+refusals = (refl, (refl, (refl, (refl, (refl, (refl, (refl, (refl, (refl, (refl, (refl, tt)))))))))))

@@ -11,7 +11,7 @@ use Rattle.programs.specs.Runs.{Choice, start, plugged, pluggedString, closed, 
 abbrev pub first : Choice
 first = record { second = false; string = 0 }
 
-abbrev second : Choice
+abbrev pub second : Choice
 second = record { second = true; string = 0 }
 
 abbrev pub choosing : ℕ → Choice

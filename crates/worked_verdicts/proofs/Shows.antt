@@ -14,7 +14,7 @@ use Rattle.summaries.specs.Summaries.{Summary, Environment, entries}
 use Rattle.summaries.specs.Languages.{graphShown}
 use Rattle.jobs.specs.Job.{Script, Job}
 use Rattle.jobs.specs.JobVerdict.{AllCovered, ShowHolds, NotRootAt, WrongIn, ScriptVerdict, not-root, wrong-element, accepted}
-use Rattle.covering.proofs.Whole.{past-stops}
+use Rattle.programs.proofs.Points.{past-stops}
 use Rattle.patterns.specs.contracts.Shows.{Tables, ExactTables, Least, onlyIf, lowestOver, lowestRoot, lowestWrongIn, lowestWrong}
 use Rattle.patterns.proofs.Lowest.{least-of, least-below, none-of, least-test, least-over}
 use Rattle.patterns.proofs.ReadJobs.{GivenShows}

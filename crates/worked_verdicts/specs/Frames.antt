@@ -14,7 +14,7 @@ withFirst items = exchanged (0x23 ∷ 0x01 ∷ 0x22 ∷ 0x00 ∷ 0x26 ∷ []) it
 abbrev withSecond : List ℕ → List ℕ
 withSecond items = exchanged (0x23 ∷ 0x02 ∷ 0x21 ∷ 0x26 ∷ []) items templatesPart
 
--- x1 is template 2, then it is shown in place of gap g of template t; `held` is what the proposal has of x1 from there on.
+-- x1 is template 2, then it is shown in place of gap g of template t; `held` is what the proposal has of x1 at points 1 and 2.
 abbrev shownIn : List ℕ → ℕ → ℕ → List ℕ → List ℕ
 shownIn templates t g held =
     variant templates (0x31 ∷ 0x01 ∷ 0x02 ∷ 0x01 ∷ 0x01 ∷ 0x39 ∷ 0x01 ∷ t ∷ g ∷ 0x02 ∷ 0x02 ∷ 0x38 ∷ 0x3F ∷ [])
@@ -30,24 +30,29 @@ abbrev pub framedTable : List Row
 framedTable =
     -- J1 with its plug and its show made one `39`.
     record { bytes = framedJob; numbers = prints 0 0 0 0 }
-    -- Gap 1 of the frame, where x1 takes gap 0, stays empty.
+    -- Without `41 02` of x1 behind the `39`: covering is as for a show.
+    ∷ record { bytes = exchanged (0x40 ∷ 0x03 ∷ 0x01 ∷ 0x41 ∷ 0x02 ∷ []) (0x40 ∷ 0x03 ∷ 0x01 ∷ []) framedJob; numbers = prints 10 2 3 1 }
+    -- x1 takes gap 0 of the frame; its gap 1 stays empty.
     ∷ record {
       bytes = shownIn (withFirst (0x23 ∷ 0x01 ∷ 0x22 ∷ 0x00 ∷ 0x22 ∷ 0x01 ∷ 0x26 ∷ [])) 1 0 (0x41 ∷ 0x02 ∷ []);
       numbers = prints 0 0 0 0;
     }
     -- The frame has no gap 1: it is shown alone, its gap 0 empty.
     ∷ record { bytes = shownIn templatesPart 1 1 (0x41 ∷ 0x02 ∷ []); numbers = prints 12 1 1 20 }
-    -- x1 is gap 0 alone, which is closed after the plug: so is element 1 empty.
+    -- x1 is gap 0 alone, which the show closes after the plug: element 1 is empty.
     ∷ record { bytes = shownIn (withSecond (0x22 ∷ 0x00 ∷ [])) 1 0 (0x41 ∷ 0x02 ∷ 0x45 ∷ 0x00 ∷ 0x02 ∷ []); numbers = prints 12 1 1 20 }
-    -- 11 names the frame: template 2, and template 0, whatever x1 is.
-    ∷ record { bytes = shownIn (withSecond (0x23 ∷ 0x02 ∷ 0x26 ∷ [])) 2 0 (0x41 ∷ 0x02 ∷ []); numbers = prints 11 1 2 0 }
+    -- x1 is element 2 around another, which may hold text alone: 12 names its template, and the offset of its `23`.
+    ∷ record { bytes = shownIn (withSecond (0x23 ∷ 0x02 ∷ 0x23 ∷ 0x02 ∷ 0x26 ∷ 0x26 ∷ [])) 1 0 (0x41 ∷ 0x02 ∷ []); numbers = prints 12 1 2 27 }
+    -- 11 names the frame, and not x1's template: the frame is gap 0 alone, and the page is element 2.
+    ∷ record { bytes = shownIn (withFirst (0x22 ∷ 0x00 ∷ [])) 1 0 (0x41 ∷ 0x02 ∷ []); numbers = prints 11 1 1 0 }
+    -- Template 0 as the frame: the page is empty.
     ∷ record { bytes = shownIn templatesPart 0 0 (0x41 ∷ 0x02 ∷ []); numbers = prints 11 1 0 0 }
     -- x0 has no root, and template 1 has gap 0: no page comes.
     ∷ record { bytes = unreached templatesPart []; numbers = prints 0 0 0 0 }
-    -- But x0's graph has template 1 as an origin of gap 0; or an edge from there.
+    -- The same, but x0's graph has template 1 as an origin of gap 0; or an edge from that gap to template 0.
     ∷ record { bytes = unreached templatesPart (0x45 ∷ 0x00 ∷ 0x01 ∷ []); numbers = prints 12 1 1 20 }
     ∷ record { bytes = unreached templatesPart (0x42 ∷ 0x01 ∷ 0x00 ∷ 0x00 ∷ []); numbers = prints 12 1 1 20 }
-    -- The frame lacks gap 0, and alone would be right; but the graphs join, and x0's has an edge from its gap 1 to template 2.
+    -- The frame lacks gap 0, and alone would be right; but the graphs join, and x0's has an edge from gap 1 of template 1 to template 2.
     ∷ record {
       bytes = unreached (withFirst (0x23 ∷ 0x01 ∷ 0x23 ∷ 0x02 ∷ 0x21 ∷ 0x26 ∷ 0x22 ∷ 0x01 ∷ 0x26 ∷ [])) (0x41 ∷ 0x02 ∷ 0x42 ∷ 0x01 ∷ 0x01 ∷ 0x02 ∷ []);
       numbers = prints 12 1 1 20;
