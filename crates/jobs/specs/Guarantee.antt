@@ -1,5 +1,5 @@
 -- What demand 3 claims: for a job that the check accepts, whatever its proposal says, and every list of choices, however long, the
--- run over that list (document 01, "A run") shows only right pages.
+-- run over that list (document 01, "A run") shows only right pages, those in a frame (document 02, F-3) among them.
 use Prim.Native.Nat.{ℕ}
 use mathlib.Core.Path.{_≡_}
 use mathlib.Core.List.{List}

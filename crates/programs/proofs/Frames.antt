@@ -31,7 +31,7 @@ pub plugged-own : {A : Type 0} (join : A → A → A) (new : A) (X : ℕ → A) 
     → update z (join (update z new X z) (update z new X x)) (update z new X) z ≡ join new (X x)
 plugged-own join new X z x o = update-same z _ (update z new X) ∙ ap₂ join (update-same z new X) (update-other z new X x o)
 
--- One step against three, whichever next points the first two of these have.
+-- One step against three, whichever next point and choice the first two of these have.
 pub framed-step : (φs : List Items) (x t g p q z : ℕ) → z ≢ x → (m m′ : ℕ) (c c₁ c₂ : Choice) (σ : State)
     → SameBut z (after φs (step (showFramed x t g) p q) c σ)
     (after φs (step (show z) p q) c (after φs (step (plug z z g x) m′ m′) c₂ (after φs (step (setTemplate z t) m m) c₁ σ)))

@@ -1,5 +1,5 @@
--- Programs without a framed show (document 02, F-3): the template load, the plug and the show that show its page by way of a template
--- variable of their own, in its place.
+-- A program with a framed show replaced (document 02, F-3): a template load, a plug and a show, by way of a template variable of their own,
+-- stand in its place; and what the laws about it say.
 use Prim.Native.Nat.{ℕ, _+_}
 use mathlib.Core.Path.{_≡_}
 use mathlib.Core.List.{List, [], _∷_, _++_}
@@ -42,6 +42,7 @@ Shows φs program pages = (cs : List Choice) × (shown φs program cs ≡ pages)
 abbrev pub PointsThere : List Statement → Type 0
 PointsThere program = (i : ℕ) → pointsThere (length program) (statementAt program i) ≡ true
 
+-- Whether a statement is a framed show.
 abbrev pub isFramed : Statement → Bool
 isFramed (step (copyTemplate x x′) p q) = false
 isFramed (step (setTemplate x t) p q) = false

@@ -58,7 +58,7 @@ shows-framed = refl
 abbrev ran : List Choice → State
 ran cs = runFrom templates framing start cs
 
--- "x unchanged", its gap still open, and so is every other variable, though the choice brings string 8. Then the point is p or q.
+-- "x unchanged", its gap still open; every other variable is unchanged too, though the choice brings string 8. Then the point is p or q.
 pub framed-leaves : (ran (first ∷ choosing 7 ∷ first ∷ []) .template 0 ≡ more text (one (gap 0)))
     × (ran (first ∷ choosing 7 ∷ choosing 8 ∷ []) .string 0 ≡ 7)
     × (ran (first ∷ choosing 7 ∷ first ∷ []) .template ≡ ran (first ∷ choosing 7 ∷ []) .template)
@@ -125,7 +125,7 @@ pub no-edge-without-gap : (framed 0 3 0 (edge 3 0 1) ≡ false) × (framed 0 3 0
 unfolding entries sameCode templateAt gapIn
 no-edge-without-gap = (refl, refl, refl, refl, refl, refl)
 
--- `39 01 02 03` names x1, and neither template 2 nor gap 3 as a variable; and no string variable.
+-- `39 01 02 03` names x1, and neither template 2 nor gap 3 as a variable; nor string variable 1.
 pub names-one : (named (step (showFramed 1 2 3) 0 0 ∷ []) (templateVariable 1) ≡ true) × (named (step (showFramed 1 2 3) 0 0 ∷ []) (templateVariable 2) ≡ false)
     × (named (step (showFramed 1 2 3) 0 0 ∷ []) (templateVariable 3) ≡ false)
     × (named (step (showFramed 1 2 3) 0 0 ∷ []) (stringVariable 1) ≡ false)

@@ -41,7 +41,9 @@ framedTable =
     ∷ record { bytes = shownIn templatesPart 1 1 (0x41 ∷ 0x02 ∷ []); numbers = prints 12 1 1 20 }
     -- x1 is gap 0 alone, which the show closes after the plug: element 1 is empty.
     ∷ record { bytes = shownIn (withSecond (0x22 ∷ 0x00 ∷ [])) 1 0 (0x41 ∷ 0x02 ∷ 0x45 ∷ 0x00 ∷ 0x02 ∷ []); numbers = prints 12 1 1 20 }
-    -- x1 is element 2 around another, which may hold text alone: 12 names its template, and the offset of its `23`.
+    -- x1 is gap 1 alone, which the show closes too.
+    ∷ record { bytes = shownIn (withSecond (0x22 ∷ 0x01 ∷ [])) 1 0 (0x41 ∷ 0x02 ∷ 0x45 ∷ 0x01 ∷ 0x02 ∷ []); numbers = prints 12 1 1 20 }
+    -- x1 is an element 2 around another, and an element 2 may hold text alone: 12 names template 2, and the offset of the outer `23`.
     ∷ record { bytes = shownIn (withSecond (0x23 ∷ 0x02 ∷ 0x23 ∷ 0x02 ∷ 0x26 ∷ 0x26 ∷ [])) 1 0 (0x41 ∷ 0x02 ∷ []); numbers = prints 12 1 2 27 }
     -- 11 names the frame, and not x1's template: the frame is gap 0 alone, and the page is element 2.
     ∷ record { bytes = shownIn (withFirst (0x22 ∷ 0x00 ∷ [])) 1 0 (0x41 ∷ 0x02 ∷ []); numbers = prints 11 1 1 0 }
