@@ -5,7 +5,7 @@
 set -eu
 vectors=$(cd "$1" && pwd)
 # What the calls answer since the newest request; it takes the place of the folders of earlier ones.
-newest="$vectors/F-3"
+newest="$vectors/F-4"
 cd "$(dirname "$0")/.."
 : "${CARGO_TARGET_DIR:=$PWD/target/independent}"
 export CARGO_TARGET_DIR

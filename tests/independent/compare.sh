@@ -63,6 +63,8 @@ for kind in judge:judge:2 check:job:1 infer:infer:1 run:run:2; do
     kind=${kind%:*}
     compare_older 29,39 "$program" "$vectors/F-1/$kind.bin" "$vectors/F-1/$kind.lines" "$slices"
     compare_older 39 "$program" "$vectors/F-2/$kind.bin" "$vectors/F-2/$kind.lines" "$slices"
-    compare "$program" "$vectors/F-3/$kind.bin" "$vectors/F-3/$kind.lines"
+    for landed in F-3 F-4; do
+        compare "$program" "$vectors/$landed/$kind.bin" "$vectors/$landed/$kind.lines"
+    done
 done
 exit $status

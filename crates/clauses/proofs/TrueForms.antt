@@ -9,19 +9,15 @@ use lib.Dec.{ltb}
 use lib.Pow.{pow-pos, pow-mono}
 use borrow.Author.Tests.{ltb-true, ltb-false}
 use Rattle.sets.specs.Sets.{member}
-use Rattle.strings.specs.declared.StringSet.{StringSet}
-use Rattle.strings.specs.contracts.Promises.{setNumber}
-use Rattle.verdicts.specs.declared.Form.{Form}
-use Rattle.commands.specs.declared.Position.{Position}
-use Rattle.commands.specs.declared.Decoded.{Decoded}
-use Rattle.commands.specs.declared.Decoded.the-variants.{Moved, Refused}
-use Rattle.commands.specs.Commands.{byte, setAt}
-use Rattle.commands.specs.contracts.Parts.{stepped}
-use Rattle.vocabularies.specs.Vocabulary.{isIn}
+use Rattle.vocabularies.specs.declared.FormulaHere.the-variants.{Nothing}
+use Rattle.vocabularies.specs.Vocabulary.{conj, disj, neg, truth, attr, content, order, value}
+use Rattle.vocabularies.specs.VocabularyReading.{binary, unary, leaf}
+use Rattle.vocabularies.specs.contracts.Promises.{Begins, Stands}
+use Rattle.vocabularies.proofs.Laws.{no-walk}
 use Rattle.vocabularies.specs.declared.Facts.{Facts}
 use Rattle.vocabularies.specs.Facts.{Fact, present, ordered, valued}
 use Rattle.judging.specs.contracts.Judgement.{truthOf}
-use Rattle.judging.proofs.Evaluation.{step-none, conj-step, disj-step, neg-step, truth-step, attr-step, content-step, order-step, value-step}
+use Rattle.judging.proofs.Evaluation.{conj-held, disj-held, neg-held, truth-held, attr-held, content-held, order-held, value-held}
 use Rattle.patterns.specs.contracts.Patterns.{flagIn, atomsBy}
 use Rattle.patterns.specs.contracts.Rounds.{anyBelow}
 use Rattle.patterns.proofs.Tests.{any-below, below-any}
@@ -32,7 +28,7 @@ use Rattle.pattern_sets.proofs.Tables.{below, passed}
 use Rattle.schemes.specs.contracts.Promises.{Places}
 use Rattle.schemes.proofs.FactPlaces.{flag-placed}
 use Rattle.clauses.specs.declared.Truths.{Truths}
-use Rattle.clauses.specs.contracts.Promises.{FlaggedBy, IsUnbroken, IsValued, heldAt, TruePatterns, ClauseFails}
+use Rattle.clauses.specs.contracts.Promises.{FlaggedBy, IsUnbroken, IsValued, TruePatterns, ClauseFails}
 
 -- ---- the sets of which truths are made
 
@@ -62,56 +58,49 @@ module _ (t : Facts) where
     pub valued-absent : named ≡ false → ((x : ℕ) → x < 256 → holds r x ≡ true) → IsValued t names a m r
     valued-absent e all fs h few x b = rw (sym is ∙ e) (all x (small fs few x b))
 
--- ---- the forms
+-- ---- the forms, in the order of source 000's grammar
 
-module _ (t : Facts) (names : ℕ) (v : List ℕ) (at : ℕ) {d : Decoded} (is : d ≡ stepped v at) where
-  pub true-none : {f : Form} {n : ℕ} → d ≡ Refused f n → (r : Truths) → TruePatterns t names v at r
-  true-none m r fs h few ns known x b = step-none v at is m _ _
+module _ (t : Facts) (names : ℕ) {v : List ℕ} {at : ℕ} where
+  module _ {next : ℕ} (r₁ r₂ r : Truths) where
+    pub true-conj : Begins v at (binary conj) next → TruePatterns t names v next r₁ → TruePatterns t names v (r₁ .next .at) r₂ → r .next ≡ r₂ .next
+        → ((x : ℕ) → holds (r .set) x ≡ (holds (r₁ .set) x && holds (r₂ .set) x)) → TruePatterns t names v at r
+    true-conj B H₁ H₂ ends both fs h few ns known x b =
+        rw (ends, both x) (conj-held (atomsBy fs ns x) B (H₁ fs h few ns known x b) (H₂ fs h few ns known x b))
 
-  module _ {code : ℕ} {next : Position} (m : d ≡ Moved code next) where
-    pub true-truth : code ≡ 0x13 → (set : List ℕ) → ((x : ℕ) → x < 256 → holds set x ≡ true) → TruePatterns t names v at (record { set = set; next = next })
-    true-truth key set all fs h few ns known x b = rw (all x (small fs few x b)) (truth-step v at is m _ key)
+    pub true-disj : Begins v at (binary disj) next → TruePatterns t names v next r₁ → TruePatterns t names v (r₁ .next .at) r₂ → r .next ≡ r₂ .next
+        → ((x : ℕ) → holds (r .set) x ≡ (holds (r₁ .set) x || holds (r₂ .set) x)) → TruePatterns t names v at r
+    true-disj B H₁ H₂ ends either fs h few ns known x b =
+        rw (ends, either x) (disj-held (atomsBy fs ns x) B (H₁ fs h few ns known x b) (H₂ fs h few ns known x b))
 
-    pub true-attr : code ≡ 0x14 → (a : ℕ) → a ≡ byte v (at + 1) → (named : Bool) → named ≡ member names a → (set : List ℕ) → ((x : ℕ) → x < 256 → holds set x ≡ named)
-        → TruePatterns t names v at (record { set = set; next = next })
+  pub true-neg : {next : ℕ} (r₁ r : Truths) → Begins v at (unary neg) next → TruePatterns t names v next r₁ → r .next ≡ r₁ .next
+      → ((x : ℕ) → x < 256 → holds (r .set) x ≡ not (holds (r₁ .set) x)) → TruePatterns t names v at r
+  true-neg r₁ r B H ends others fs h few ns known x b =
+      rw (ends, others x (small fs few x b)) (neg-held (atomsBy fs ns x) B (H fs h few ns known x b))
+
+  module _ (r : Truths) where
+    pub true-truth : Begins v at (leaf truth) (r .next .at) → ((x : ℕ) → x < 256 → holds (r .set) x ≡ true) → TruePatterns t names v at r
+    true-truth B all fs h few ns known x b = rw (all x (small fs few x b)) (truth-held (atomsBy fs ns x) B)
+
+    pub true-attr : {a : ℕ} → Begins v at (leaf (attr a)) (r .next .at) → (named : Bool) → named ≡ member names a
+        → ((x : ℕ) → x < 256 → holds (r .set) x ≡ named) → TruePatterns t names v at r
     unfolding atomsBy
-    true-attr key a e named tells set all fs h few ns known x b =
-        attr-step v at is m (atomsBy fs ns x) key (holds set x) (all x (small fs few x b) ∙ tells ∙ known a ∙ ap (λ (n : ℕ). isIn n ns) e)
+    true-attr {a} B named tells all fs h few ns known x b = attr-held (atomsBy fs ns x) B (all x (small fs few x b) ∙ tells ∙ known a)
 
-    pub true-content : code ≡ 0x15 → (c : ℕ) → c ≡ byte v (at + 1) → (set : List ℕ) → FlaggedBy t (present c) set
-        → TruePatterns t names v at (record { set = set; next = next })
+    pub true-content : {c : ℕ} → Begins v at (leaf (content c)) (r .next .at) → FlaggedBy t (present c) (r .set) → TruePatterns t names v at r
     unfolding atomsBy
-    true-content key c e set flags fs h few ns known x b =
-        content-step v at is m (atomsBy fs ns x) key (holds set x) (flags fs h few x b ∙ ap (λ (n : ℕ). flagIn fs x (present n)) e)
+    true-content B flags fs h few ns known x b = content-held (atomsBy fs ns x) B (flags fs h few x b)
 
-    pub true-order : code ≡ 0x16 → (c₁ c₂ : ℕ) → c₁ ≡ byte v (at + 1) → c₂ ≡ byte v (at + 2) → (set : List ℕ) → IsUnbroken t c₁ c₂ set
-        → TruePatterns t names v at (record { set = set; next = next })
+    pub true-order : {c d : ℕ} → Begins v at (leaf (order c d)) (r .next .at) → IsUnbroken t c d (r .set) → TruePatterns t names v at r
     unfolding atomsBy
-    true-order key c₁ c₂ e₁ e₂ set unbroken fs h few ns known x b =
-        order-step v at is m (atomsBy fs ns x) key (holds set x) (unbroken fs h few x b ∙ ap₂ (λ (n k : ℕ). not (flagIn fs x (ordered n k))) e₁ e₂)
+    true-order B unbroken fs h few ns known x b = order-held (atomsBy fs ns x) B (unbroken fs h few x b)
 
-    pub true-value : (code ≡ 0x10 → ⊥) → (code ≡ 0x11 → ⊥) → (code ≡ 0x12 → ⊥) → (code ≡ 0x13 → ⊥) → (code ≡ 0x14 → ⊥) → (code ≡ 0x15 → ⊥) → (code ≡ 0x16 → ⊥)
-        → (a : ℕ) → a ≡ byte v (at + 1) → (among : StringSet) → setNumber among ≡ setAt v (at + 2) → (set : List ℕ) → IsValued t names a (setNumber among) set
-        → TruePatterns t names v at (record { set = set; next = next })
+    pub true-value : {a m : ℕ} → Begins v at (leaf (value a m)) (r .next .at) → IsValued t names a m (r .set) → TruePatterns t names v at r
     unfolding atomsBy
-    true-value n₀ n₁ n₂ n₃ n₄ n₅ n₆ a e₁ among e₂ set is-valued fs h few ns known x b =
-        value-step v at is m (atomsBy fs ns x) n₀ n₁ n₂ n₃ n₄ n₅ n₆ (holds set x)
-        (is-valued fs h few x b ∙ ap (λ (t : Bool). not t || flagIn fs x (valued a (setNumber among))) (known a)
-        ∙ ap₂ (λ (n k : ℕ). not (isIn n ns) || flagIn fs x (valued n k)) e₁ e₂)
+    true-value {a} {m} B is-valued fs h few ns known x b =
+        value-held (atomsBy fs ns x) B (is-valued fs h few x b ∙ ap (λ (named : Bool). not named || flagIn fs x (valued a m)) (known a))
 
-    module _ (r₁ r₂ r : Truths) (H₁ : TruePatterns t names v (next .at) r₁) (H₂ : TruePatterns t names v (r₁ .next .at) r₂) (ends : r .next ≡ r₂ .next) where
-      pub true-conj : code ≡ 0x10 → ((x : ℕ) → holds (r .set) x ≡ (holds (r₁ .set) x && holds (r₂ .set) x)) → TruePatterns t names v at r
-      true-conj key both fs h few ns known x b =
-          rw (ends, both x) (conj-step v at is m _ (heldAt r₁ x) (heldAt r₂ x) (H₁ fs h few ns known x b) (H₂ fs h few ns known x b) key)
-
-      pub true-disj : code ≡ 0x11 → ((x : ℕ) → holds (r .set) x ≡ (holds (r₁ .set) x || holds (r₂ .set) x)) → TruePatterns t names v at r
-      true-disj key either fs h few ns known x b =
-          rw (ends, either x) (disj-step v at is m _ (heldAt r₁ x) (heldAt r₂ x) (H₁ fs h few ns known x b) (H₂ fs h few ns known x b) key)
-
-    pub true-neg : (r₁ r : Truths) → TruePatterns t names v (next .at) r₁ → r .next ≡ r₁ .next → code ≡ 0x12
-        → ((x : ℕ) → x < 256 → holds (r .set) x ≡ not (holds (r₁ .set) x)) → TruePatterns t names v at r
-    true-neg r₁ r H ends key others fs h few ns known x b =
-        rw (ends, others x (small fs few x b)) (neg-step v at is m _ (heldAt r₁ x) (H fs h few ns known x b) key)
+pub true-none : (t : Facts) (names : ℕ) (v : List ℕ) (at : ℕ) → Stands v at Nothing → (r : Truths) → TruePatterns t names v at r
+true-none t names v at none r fs h few ns known x b = no-walk v at none _ _
 
 -- ---- a clause that fails
 

@@ -8,13 +8,13 @@ ghost use Rattle.vocabularies.specs.contracts.Promises.{meaningOf};
 ghost use Rattle.patterns.specs.contracts.Patterns.{flagged};
 ghost use Rattle.pattern_sets.specs.contracts.PatternSets.{holds};
 ghost use Rattle.clauses.specs.contracts.Promises.{alone, agree, IsPattern, WithValued, ValuedNames, Alike, AddsPatterns, ValuePatterns, FlaggedBy, IsUnbroken, IsValued, TruePatterns, ClauseFails};
-use commands::Decoded;
 use commands::Position;
 use strings::OUTSIDE;
 use strings::StringSet;
 use strings::Values;
 use vocabularies::Fact;
 use vocabularies::Facts;
+use vocabularies::FormulaHere;
 
 // The strings with which attribute a alone has the flag of a fact.
 fn flagged_strings(fact: Fact, a: u8) -> StringSet
@@ -183,10 +183,10 @@ fn unbroken(facts: Facts, c: u8, d: u8) -> [u64; 4]
 fn absent_or_valued(facts: Facts, names: u64, a: u8, set: StringSet) -> [u64; 4]
     ensures { λ r. ⌜ IsValued facts names a (setNumber set) r ⌝ }
 {
-    if sets::is_member(names, a) {
-        return flagged_by(facts, Fact::Valued(a, set));
+    if !sets::is_member(names, a) {
+        return all_if(true);
     }
-    all_if(true)
+    flagged_by(facts, Fact::Valued(a, set))
 }
 
 // The patterns under which a formula is true, and the position after it.
@@ -232,47 +232,45 @@ fn true_patterns(s: &[u8], here: Position, facts: Facts, names: u64) -> Truths
     ensures forward { λ r. ⌜ here .at ≤ r .next .at ⌝ }
     ensures truths { λ r. ⌜ TruePatterns facts names (now (s .entry)) (here .at) r ⌝ }
 {
-    let d = here.step(s);
-    let Decoded::Moved(code, next) = d else {
-        return Truths {
-            set: all_if(false),
-            next: here,
-        };
-    };
-    match code {
-        0x10 => {
+    let formula = vocabularies::formula_here(s, here);
+    match formula {
+        FormulaHere::Conj(next) => {
             let first = true_patterns(s, next, facts, names);
             let second = true_patterns(s, first.next, facts, names);
             first.and(second)
         }
-        0x11 => {
+        FormulaHere::Disj(next) => {
             let first = true_patterns(s, next, facts, names);
             let second = true_patterns(s, first.next, facts, names);
             first.or(second)
         }
-        0x12 => {
+        FormulaHere::Neg(next) => {
             let only = true_patterns(s, next, facts, names);
             only.not()
         }
-        0x13 => Truths {
+        FormulaHere::Truth(next) => Truths {
             set: all_if(true),
             next,
         },
-        0x14 => Truths {
-            set: all_if(sets::is_member(names, here.operand(s, 1))),
+        FormulaHere::Attr(a, next) => Truths {
+            set: all_if(sets::is_member(names, a)),
             next,
         },
-        0x15 => Truths {
-            set: flagged_by(facts, Fact::Present(here.operand(s, 1))),
+        FormulaHere::Content(c, next) => Truths {
+            set: flagged_by(facts, Fact::Present(c)),
             next,
         },
-        0x16 => Truths {
-            set: unbroken(facts, here.operand(s, 1), here.operand(s, 2)),
+        FormulaHere::Order(c, d, next) => Truths {
+            set: unbroken(facts, c, d),
             next,
         },
-        _ => Truths {
-            set: absent_or_valued(facts, names, here.operand(s, 1), here.string_set(s)),
+        FormulaHere::Value(a, set, next) => Truths {
+            set: absent_or_valued(facts, names, a, set),
             next,
+        },
+        FormulaHere::Nothing => Truths {
+            set: all_if(false),
+            next: here,
         },
     }
 }

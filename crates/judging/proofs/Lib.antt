@@ -1,5 +1,5 @@
 pub mod Booleans
-pub mod Formulas
+pub mod Clauses
 pub mod Evaluation
 pub mod Rules
 pub mod AttributeLaws

@@ -10,12 +10,11 @@ use lib.Dec.{eqb, ltb}
 use borrow.Author.Tests.{eqb-true, eqb-false}
 use Rattle.sets.specs.Sets.{member}
 use Rattle.commands.specs.Commands.{byte}
-use Rattle.judging.specs.declared.Held.{Held}
 use Rattle.judging.specs.declared.Shape.{Shape}
 use Rattle.judging.specs.contracts.Judgement.{Atoms}
 use Rattle.judging.specs.contracts.Promises.{firstPlace, lastPlace, tableAtoms, Holds, Shaped, Decides, AllHold, Settled, SettledRow, Remembered}
 use Rattle.judging.proofs.Booleans.{by-test}
-use Rattle.judging.proofs.Formulas.{past-left, none-left, first-fails, first-holds}
+use Rattle.judging.proofs.Clauses.{past-left, none-left, first-fails, first-holds}
 
 unordered : (x y z : Bool) → (x && y) ≡ false → not (x && (y && z)) ≡ true
 unordered false y z e = refl
@@ -45,29 +44,28 @@ module _ {A : Atoms} {shape : Shape} {v : List ℕ} {from at settled : ℕ} (M :
   pub none-more : (byte v at ≡ 0x04 → ⊥) → AllHold A v from true × Settled v shape settled
   none-more other = all-met (record { met = λ B S′. none-left B v at other })
 
-  module _ (code : byte v at ≡ 0x04) (start : ℕ) (is : start ≡ at + 1) (held : Held) (H : Holds A v start held) where
-    here : Holds A v (at + 1) held
-    here = subst (λ (k : ℕ). Holds A v k held) is H
+  module _ (code : byte v at ≡ 0x04) {start next : ℕ} {value : Bool} (is : start ≡ at + 1) (H : Holds A v start value next) where
+    here : (B : Atoms) → Holds B v start value next → Holds B v (at + 1) value next
+    here B = subst (λ (k : ℕ). Holds B v k value next) is
 
-    pub one-fails : held .value ≡ false → AllHold A v from false
-    one-fails e = M .left false (first-fails A v at held code here e)
+    pub one-fails : value ≡ false → AllHold A v from false
+    one-fails e = M .left false (first-fails A v at value next code (here A H) e)
 
-    module _ (met : held .value ≡ true) where
-      goes-on : (b : Bool) → AllHold A v (held .next .at) b → AllHold A v from b
-      goes-on b h = M .left b (first-holds A v at held code here met b h)
+    module _ (met : value ≡ true) where
+      goes-on : (b : Bool) → AllHold A v next b → AllHold A v from b
+      goes-on b h = M .left b (first-holds A v at value next code (here A H) met b h)
 
       -- A clause that is met by this element, and not for its shape alone.
-      pub one-more : Meeting A shape v from (held .next .at) (held .next .at)
+      pub one-more : Meeting A shape v from next next
       one-more = record { left = goes-on; settles = λ B S′ h. h }
 
       -- A clause that is met by all of the shape.
-      pub one-settled : (same : Held) → Decides shape v start same → same .value ≡ true → Meeting A shape v from (held .next .at) settled
-      one-settled same D y = record {
+      pub one-settled : {same : Bool} {after : ℕ} → Decides shape v start same after → same ≡ true → Meeting A shape v from next settled
+      one-settled D y = record {
         left = goes-on;
         settles = λ B S′ h.
-            let all : Holds B v (at + 1) held = subst (λ (k : ℕ). Holds B v k held) is
-            (λ f depth end ψ e. (H f depth end ψ e .0, H f depth end ψ e .1 ∙ D f depth end ψ e .1 y A B S S′)) in
-            M .settles B S′ (first-holds B v at held code all met true h);
+            let all : Holds B v start value next = λ f depth end ψ e. (H f depth end ψ e .0, H f depth end ψ e .1 ∙ D f depth end ψ e .1 y A B S S′) in
+            M .settles B S′ (first-holds B v at value next code (here B all) met true h);
       }
 
 -- ---- the table of shapes

@@ -6,15 +6,17 @@ ghost use Prim.Native.Nat.{ℕ, _%_, _≤_, _<_};
 ghost use lib.ListN.{length, getD};
 ghost use lib.Dec.{ltb};
 ghost use Rattle.sets.specs.Sets.{member};
+ghost use Rattle.strings.specs.contracts.Promises.{setNumber};
 ghost use Rattle.vocabularies.specs.Vocabulary.{Vocabulary};
 ghost use Rattle.pages.specs.contracts.Steps.{itemHere};
 ghost use Rattle.judging.specs.contracts.Promises.{firstPlace, lastPlace, tableAtoms, markOf, firstMark, elementMark, Holds, Decides, AllHold, Settled, Remembered, Names, Counted, Containing, IsRight, Tabled, ruleAt, stepNext, JudgesItem, JudgesItems};
-use commands::Decoded;
 use commands::Past;
 use commands::Position;
 use pages::AttributeHere;
 use pages::ItemHere;
 use pages::TEXT;
+use strings::StringSet;
+use vocabularies::FormulaHere;
 
 // The truth of a formula, and the position after it.
 pub struct Held {
@@ -154,72 +156,58 @@ fn is_ordered(contents: u64, order: &[[u8; 2]; 64], c: u8, d: u8) -> bool
     order[i][LAST] <= order[j][FIRST]
 }
 
-// Attribute a is absent, or has a string of the set m.
-fn is_valued(names: u64, strings: &[u8; 32], a: u8, m: u64) -> bool
-    ensures { λ r. ⌜ r ≡ (not (member names a) || member m (getD (now (strings .entry)) (a % 32) 0)) ⌝ }
+// Attribute a is absent, or has a string of the set.
+fn is_valued(names: u64, strings: &[u8; 32], a: u8, set: StringSet) -> bool
+    ensures { λ r. ⌜ r ≡ (not (member names a) || member (setNumber set) (getD (now (strings .entry)) (a % 32) 0)) ⌝ }
 {
     if !sets::is_member(names, a) {
         return true;
     }
     let i = (a % 32) as usize;
-    sets::is_member(m, strings[i])
+    strings::has(set, strings[i])
 }
 
 // The formula here, for an element with these tables; the forms stand in the order of source 000's grammar.
-fn holds(
-    v: &[u8],
-    here: Position,
-    names: u64,
-    contents: u64,
-    strings: &[u8; 32],
-    order: &[[u8; 2]; 64],
-) -> Held
+fn holds(v: &[u8], here: Position, shape: Shape, strings: &[u8; 32], order: &[[u8; 2]; 64]) -> Held
     ensures forward { λ r. ⌜ here .at ≤ r .next .at ⌝ }
-    ensures truth { λ r. ⌜ Holds (tableAtoms (record { names = names; contents = contents }) (now (strings .entry)) (now (order .entry))) (now (v .entry)) (here .at) r ⌝ }
+    ensures truth { λ r. ⌜ Holds (tableAtoms shape (now (strings .entry)) (now (order .entry))) (now (v .entry)) (here .at) (r .value) (r .next .at) ⌝ }
 {
-    let d = here.step(v);
-    let Decoded::Moved(code, next) = d else {
-        return Held {
-            value: false,
-            next: here,
-        };
-    };
-    match code {
-        0x10 => {
-            let first = holds(v, next, names, contents, strings, order);
-            let second = holds(v, first.next, names, contents, strings, order);
+    let formula = vocabularies::formula_here(v, here);
+    match formula {
+        FormulaHere::Conj(next) => {
+            let first = holds(v, next, shape, strings, order);
+            let second = holds(v, first.next, shape, strings, order);
             first.and(second)
         }
-        0x11 => {
-            let first = holds(v, next, names, contents, strings, order);
-            let second = holds(v, first.next, names, contents, strings, order);
+        FormulaHere::Disj(next) => {
+            let first = holds(v, next, shape, strings, order);
+            let second = holds(v, first.next, shape, strings, order);
             first.or(second)
         }
-        0x12 => {
-            let only = holds(v, next, names, contents, strings, order);
+        FormulaHere::Neg(next) => {
+            let only = holds(v, next, shape, strings, order);
             only.not()
         }
-        0x13 => Held { value: true, next },
-        0x14 => Held {
-            value: sets::is_member(names, here.operand(v, 1)),
+        FormulaHere::Truth(next) => Held { value: true, next },
+        FormulaHere::Attr(a, next) => Held {
+            value: sets::is_member(shape.names, a),
             next,
         },
-        0x15 => Held {
-            value: sets::is_member(contents, here.operand(v, 1)),
+        FormulaHere::Content(c, next) => Held {
+            value: sets::is_member(shape.contents, c),
             next,
         },
-        0x16 => Held {
-            value: is_ordered(contents, order, here.operand(v, 1), here.operand(v, 2)),
+        FormulaHere::Order(c, d, next) => Held {
+            value: is_ordered(shape.contents, order, c, d),
             next,
         },
-        _ => Held {
-            value: is_valued(
-                names,
-                strings,
-                here.operand(v, 1),
-                commands::set_at(v, here.at + 2),
-            ),
+        FormulaHere::Value(a, set, next) => Held {
+            value: is_valued(shape.names, strings, a, set),
             next,
+        },
+        FormulaHere::Nothing => Held {
+            value: false,
+            next: here,
         },
     }
 }
@@ -235,34 +223,39 @@ fn lacks_one(set: u64, c: u8, d: u8) -> bool
 }
 
 // Whether the formula here is as true of one element of this shape as of another: it looks at no order of two contents that both stand
-// inside, and at no string of an attribute that is there.
+// inside, and at no string of an attribute that is there. A formula of two is so if both are, whether they are to hold both or one.
 fn is_settled(v: &[u8], here: Position, shape: Shape) -> Held
     ensures forward { λ r. ⌜ here .at ≤ r .next .at ⌝ }
-    ensures settled { λ r. ⌜ Decides shape (now (v .entry)) (here .at) r ⌝ }
+    ensures settled { λ r. ⌜ Decides shape (now (v .entry)) (here .at) (r .value) (r .next .at) ⌝ }
 {
-    let d = here.step(v);
-    let Decoded::Moved(code, next) = d else {
-        return Held {
-            value: false,
-            next: here,
-        };
-    };
-    match code {
-        0x10 | 0x11 => {
+    let formula = vocabularies::formula_here(v, here);
+    match formula {
+        FormulaHere::Conj(next) => {
             let first = is_settled(v, next, shape);
             let second = is_settled(v, first.next, shape);
             first.and(second)
         }
-        0x12 => is_settled(v, next, shape),
-        0x16 => Held {
-            value: lacks_one(shape.contents, here.operand(v, 1), here.operand(v, 2)),
+        FormulaHere::Disj(next) => {
+            let first = is_settled(v, next, shape);
+            let second = is_settled(v, first.next, shape);
+            first.and(second)
+        }
+        FormulaHere::Neg(next) => is_settled(v, next, shape),
+        FormulaHere::Truth(next) => Held { value: true, next },
+        FormulaHere::Attr(_, next) => Held { value: true, next },
+        FormulaHere::Content(_, next) => Held { value: true, next },
+        FormulaHere::Order(c, d, next) => Held {
+            value: lacks_one(shape.contents, c, d),
             next,
         },
-        0x17 => Held {
-            value: !sets::is_member(shape.names, here.operand(v, 1)),
+        FormulaHere::Value(a, _, next) => Held {
+            value: !sets::is_member(shape.names, a),
             next,
         },
-        _ => Held { value: true, next },
+        FormulaHere::Nothing => Held {
+            value: false,
+            next: here,
+        },
     }
 }
 
@@ -289,7 +282,7 @@ fn all_hold(
                 settled,
             };
         };
-        let held = holds(v, start, shape.names, shape.contents, strings, order);
+        let held = holds(v, start, shape, strings, order);
         if !held.value {
             return Met {
                 value: false,

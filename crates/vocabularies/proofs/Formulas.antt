@@ -46,21 +46,15 @@ unfolding formula
 step-refused f s depth at g n c = rw c
 
 -- The shapes, by the first byte.
-pub one-shape : (s : List ℕ) (at code : ℕ) → code ≡ 0x12 → shapeAt s at code ≡ unary neg
-one-shape s at code e = rw e
-
-pub and-shape : (s : List ℕ) (at code : ℕ) → code ≡ 0x10 → shapeAt s at code ≡ binary conj
-and-shape s at code e = rw e
-
-pub or-shape : (s : List ℕ) (at code : ℕ) → code ≡ 0x11 → shapeAt s at code ≡ binary disj
-or-shape s at code e = rw e
-
 pub two-shape : (s : List ℕ) (at code : ℕ) → 0x10 ≤ code → code < 0x12 → (made : Formula → Formula → Formula) × (shapeAt s at code ≡ binary made)
 two-shape s at code l h = go (eqb code 0x10) refl
   where
     go : (b : Bool) → eqb code 0x10 ≡ b → (made : Formula → Formula → Formula) × (shapeAt s at code ≡ binary made)
     go true e = (conj, rw e)
     go false e = let n : code ≡ 0x10 → ⊥ = eqb-false code 0x10 e in (disj, rw (e, eq-eqb code 0x11 (omega arith)))
+
+pub one-shape : (s : List ℕ) (at code : ℕ) → code ≡ 0x12 → shapeAt s at code ≡ unary neg
+one-shape s at code e = rw e
 
 pub leaf-shape : (s : List ℕ) (at code : ℕ) → (0x10 ≤ code → code ≤ 0x12 → ⊥) → (ψ : Formula) × (shapeAt s at code ≡ leaf ψ)
 leaf-shape s at code h =

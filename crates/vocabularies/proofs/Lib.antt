@@ -1,5 +1,6 @@
 pub mod Parts
 pub mod Formulas
+pub mod Walks
 pub mod FactLists
 pub mod Gathering
 pub mod Pending

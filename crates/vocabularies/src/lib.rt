@@ -7,7 +7,7 @@ ghost use Rattle.strings.specs.contracts.Promises.{setNumber};
 ghost use Rattle.commands.specs.contracts.Parts.{Single, partOf};
 ghost use Rattle.vocabularies.specs.Vocabulary.{order};
 ghost use Rattle.vocabularies.specs.Facts.{present, ordered, valued, sameFact};
-ghost use Rattle.vocabularies.specs.contracts.Promises.{meaningOf, keptAt, Represents, TellsAmong, Adds, FactsWith, LeafAdds, FormulaReads, FactsRead, ManyFacts, NamesRead, ClausesRead, RuleReads, Long, DescribesRules, VocabularyReads};
+ghost use Rattle.vocabularies.specs.contracts.Promises.{meaningOf, keptAt, Represents, TellsAmong, Adds, FactsWith, Stands, FormulaReads, FactsRead, ManyFacts, NamesRead, ClausesRead, RuleReads, Long, DescribesRules, VocabularyReads};
 use commands::Context;
 use commands::Decoded;
 use commands::Part;
@@ -31,6 +31,19 @@ pub struct Tables {
 pub struct VocabularyRead {
     pub part: Part,
     pub tables: Tables,
+}
+
+// A formula by its first command: its form, in the order of source 000's grammar, with what the command names and the position after it.
+pub enum FormulaHere {
+    Conj(Position),
+    Disj(Position),
+    Neg(Position),
+    Truth(Position),
+    Attr(u8, Position),
+    Content(u8, Position),
+    Order(u8, u8, Position),
+    Value(u8, StringSet, Position),
+    Nothing,
 }
 
 // A fact of a clause: a content of `15` and `16`, a pair of `16`, an attribute and a set of `17`.
@@ -175,20 +188,8 @@ fn with_order(facts: Facts, c: u8, d: u8) -> Facts
     with_fact(two, Fact::Ordered(c, d))
 }
 
-// The facts with those of a formula that is one command.
-fn with_leaf(s: &[u8], here: Position, code: u8, facts: Facts) -> Facts
-    ensures { λ r. ⌜ LeafAdds (now (s .entry)) (here .at) code facts r ⌝ }
-{
-    match code {
-        0x13 => facts,
-        0x14 => facts,
-        0x15 => with_fact(facts, Fact::Present(here.operand(s, 1))),
-        0x16 => with_order(facts, here.operand(s, 1), here.operand(s, 2)),
-        _ => with_fact(facts, Fact::Valued(here.operand(s, 1), here.string_set(s))),
-    }
-}
-
-// A formula in prefix order, below `depth` open connectives.
+// A formula in prefix order, below `depth` open connectives: two formulas follow a conjunction or a disjunction, one a negation, none
+// an atom.
 pub fn read_formula(s: &[u8], here: Position, depth: usize) -> Part
     ensures { λ r. ⌜ FormulaReads (now (s .entry)) depth (here .at) r ⌝ }
 {
@@ -217,6 +218,27 @@ pub fn read_formula(s: &[u8], here: Position, depth: usize) -> Part
     }
 }
 
+// One step of a walk over a formula that was read.
+pub fn formula_here(s: &[u8], here: Position) -> FormulaHere
+    ensures { λ r. ⌜ Stands (now (s .entry)) (here .at) r ⌝ }
+{
+    let d = here.step(s);
+    let Decoded::Moved(code, next) = d else {
+        return FormulaHere::Nothing;
+    };
+    match code {
+        0x10 => FormulaHere::Conj(next),
+        0x11 => FormulaHere::Disj(next),
+        0x12 => FormulaHere::Neg(next),
+        0x13 => FormulaHere::Truth(next),
+        0x14 => FormulaHere::Attr(here.operand(s, 1), next),
+        0x15 => FormulaHere::Content(here.operand(s, 1), next),
+        0x16 => FormulaHere::Order(here.operand(s, 1), here.operand(s, 2), next),
+        0x17 => FormulaHere::Value(here.operand(s, 1), here.string_set(s), next),
+        _ => FormulaHere::Nothing,
+    }
+}
+
 // The facts of the formula that stands from `start` up to `end`: those of each of its commands, in their order.
 pub fn facts_of(s: &[u8], start: Position, end: Position) -> Facts
     ensures { λ r. ⌜ FactsRead (now (s .entry)) (start .at) (end .at) r ⌝ }
@@ -224,15 +246,39 @@ pub fn facts_of(s: &[u8], start: Position, end: Position) -> Facts
     let mut facts = no_facts();
     let mut here = start;
     while here.at < end.at {
-        let d = here.step(s);
-        let Decoded::Moved(code, next) = d else {
-            return facts;
-        };
-        if 0x15 <= code {
-            let more = with_leaf(s, here, code, facts);
-            facts = more;
+        let formula = formula_here(s, here);
+        match formula {
+            FormulaHere::Conj(next) => {
+                here = next;
+            }
+            FormulaHere::Disj(next) => {
+                here = next;
+            }
+            FormulaHere::Neg(next) => {
+                here = next;
+            }
+            FormulaHere::Truth(next) => {
+                here = next;
+            }
+            FormulaHere::Attr(_, next) => {
+                here = next;
+            }
+            FormulaHere::Content(c, next) => {
+                facts = with_fact(facts, Fact::Present(c));
+                here = next;
+            }
+            FormulaHere::Order(c, d, next) => {
+                facts = with_order(facts, c, d);
+                here = next;
+            }
+            FormulaHere::Value(a, set, next) => {
+                facts = with_fact(facts, Fact::Valued(a, set));
+                here = next;
+            }
+            FormulaHere::Nothing => {
+                return facts;
+            }
         }
-        here = next;
     }
     facts
 }

@@ -17,7 +17,6 @@ use Rattle.vocabularies.specs.Vocabulary.{Formula, isIn}
 use Rattle.vocabularies.specs.VocabularyReading.{formula}
 use Rattle.vocabularies.specs.Facts.{Fact, ordered, valued}
 use Rattle.pages.specs.Items.{string, Attribute}
-use Rattle.judging.specs.declared.Held.{Held}
 use Rattle.judging.specs.contracts.Judgement.{truthOf}
 use Rattle.judging.specs.contracts.Promises.{Holds}
 use Rattle.patterns.specs.contracts.Patterns.{flagged, flagIn, atomsBy}
@@ -80,14 +79,10 @@ IsUnbroken t c d r = OfFacts t (λ fs. (x : ℕ) → x < 2 ^ length fs → holds
 abbrev pub IsValued : Facts → ℕ → ℕ → ℕ → List ℕ → Type 0
 IsValued t names a m r = OfFacts t (λ fs. (x : ℕ) → x < 2 ^ length fs → holds r x ≡ (not (member names a) || flagIn fs x (valued a m)))
 
--- The truth of a formula under a pattern, and its end.
-abbrev pub heldAt : Truths → ℕ → Held
-heldAt r x = record { value = holds (r .set) x; next = r .next }
-
 -- The patterns under which the formula at an offset is true for an element whose attributes have these names; and its end.
 abbrev pub TruePatterns : Facts → ℕ → List ℕ → ℕ → Truths → Type 0
 TruePatterns t names v at r = OfFacts t (λ fs. (ns : List ℕ) → ((a : ℕ) → member names a ≡ isIn a ns) → (x : ℕ) → x < 2 ^ length fs
-    → Holds (atomsBy fs ns x) v at (heldAt r x))
+    → Holds (atomsBy fs ns x) v at (holds (r .set) x) (r .next .at))
 
 -- Whether the formula at an offset is false under some pattern of a set; and its end.
 abbrev pub ClauseFails : Facts → ℕ → List ℕ → List ℕ → ℕ → Tested → Type 0

@@ -43,7 +43,7 @@ returns-2 c =
     let o = past-over _ _ _ _ _ (c .before .before .before .before .before .before .past .ensures) (c .before .before .before .before .past2 .given .1) in
     let S = table-shaped (a .shape) (a .strings .now) (a .order .now) in
     let h = c .before .before .holds in
-    (one-fails (l .inv) S (o .1) _ (o .2) (h .result) (h .ensures .1) (not-true _ (c .if2 .taken)), end-settled _ _ _ (omega arith))
+    (one-fails (l .inv) S (o .1) (o .2) (h .ensures .1) (not-true _ (c .if2 .taken)), end-settled _ _ _ (omega arith))
 
 is-settled-requires : tie.Need-is-settled-requires Inv-loop μ-loop
 is-settled-requires c κs = search needs
@@ -60,7 +60,7 @@ loop-again c =
     let o = past-over _ _ _ _ _ (c .before .before .before .before .before .before .before .before .before .before .past .ensures) (c .before .before .before .before .before .before .before .before .past2 .given .1) in
     let S = table-shaped (a .shape) (a .strings .now) (a .order .now) in
     let h = c .before .before .before .before .before .before .holds in
-    one-more (l .inv) S (o .1) _ (o .2) (h .result) (h .ensures .1) (not-false _ (c .before .before .before .before .if2 .left))
+    one-more (l .inv) S (o .1) (o .2) (h .ensures .1) (not-false _ (c .before .before .before .before .if2 .left))
 
 loop-less-2 : tie.Need-loop-less-2 Inv-loop μ-loop
 loop-less-2 c =
@@ -75,7 +75,7 @@ loop-again-2 c =
     let S = table-shaped (a .shape) (a .strings .now) (a .order .now) in
     let h = c .before .before .before .before .before .before .holds in
     let i = c .before .before .before .is-settled in
-    one-settled (l .inv) S (o .1) _ (o .2) (h .result) (h .ensures .1) (not-false _ (c .before .before .before .before .if2 .left)) (i .result) (i .ensures .1) (not-false _ (c .if3 .left))
+    one-settled (l .inv) S (o .1) (o .2) (h .ensures .1) (not-false _ (c .before .before .before .before .if2 .left)) (i .ensures .1) (not-false _ (c .if3 .left))
 
 returns-3 : tie.Need-returns-3 Inv-loop μ-loop
 returns-3 c =

@@ -14,14 +14,14 @@ returns c = let m = c .before .is-member in
 cast-i : tie.Need-cast-i
 cast-i c = search needs
 
-element-copy-out-is-member : tie.Need-element-copy-out-is-member
-element-copy-out-is-member c = search needs
+element-copy-out-has : tie.Need-element-copy-out-has
+element-copy-out-has c = search needs
 
-is-member-requires-2 : tie.Need-is-member-requires-2
-is-member-requires-2 c κs = search needs
+has-requires : tie.Need-has-requires
+has-requires c κs = search needs
 
 returns-2 : tie.Need-returns-2
-returns-2 c = rw (← c .before .before .before .is-member .ensures, c .before .before .if1 .left) (c .is-member2 .ensures)
+returns-2 c = rw (← c .before .before .before .is-member .ensures, c .before .before .if1 .left) (c .has .ensures)
 
 pub is-valued-spec : {M : Type 1} → statement M
 is-valued-spec =
@@ -30,6 +30,6 @@ is-valued-spec =
     is-member-requires
     returns
     cast-i
-    element-copy-out-is-member
-    is-member-requires-2
+    element-copy-out-has
+    has-requires
     returns-2)

@@ -10,12 +10,11 @@ use lib.Dec.{ltb}
 use Rattle.sets.specs.Sets.{member}
 use Rattle.sets.specs.contracts.Promises.{wordSize, countBelow}
 use Rattle.commands.specs.declared.Position.{Position}
-use Rattle.commands.specs.Commands.{byte}
 use Rattle.commands.specs.Reading.{whole}
 use Rattle.vocabularies.specs.Vocabulary.{Formula, Vocabulary, ruleOf, declared, isIn}
 use Rattle.vocabularies.specs.Vocabulary as Vocabularies
-use Rattle.vocabularies.specs.VocabularyReading.{formula, clauses}
-use Rattle.vocabularies.specs.contracts.Promises.{RuleTables}
+use Rattle.vocabularies.specs.VocabularyReading.{clauses}
+use Rattle.vocabularies.specs.contracts.Promises.{Walks, RuleTables}
 use Rattle.pages.specs.declared.Kind.the-variants.{Page}
 use Rattle.pages.specs.declared.ItemHere.{ItemHere}
 use Rattle.pages.specs.declared.ItemHere.the-variants as Here
@@ -24,7 +23,6 @@ use Rattle.pages.specs.Items.{Attribute, Item, Items}
 use Rattle.pages.specs.ItemReading.{attributes, item, items}
 use Rattle.pages.specs.RightPages.{names, word}
 use Rattle.pages.specs.contracts.Steps.{attributeHere}
-use Rattle.judging.specs.declared.Held.{Held}
 use Rattle.judging.specs.declared.Shape.{Shape}
 use Rattle.judging.specs.declared.Rule.{Rule}
 use Rattle.judging.specs.declared.Named.{Named}
@@ -53,13 +51,9 @@ tableAtoms shape strings order = record {
   value = λ a m. not (member (shape .names) a) || member m (getD strings (a % 32) 0);
 }
 
--- The end of the formula that stands at an offset, and what holds of it.
-abbrev pub Walks : (Formula → Type 0) → List ℕ → ℕ → ℕ → Type 0
-Walks P v at next = (f depth end : ℕ) (ψ : Formula) → formula f v depth at ≡ whole ψ end → (next ≡ end) × P ψ
-
--- The value and the end of the formula that stands at an offset.
-abbrev pub Holds : Atoms → List ℕ → ℕ → Held → Type 0
-Holds A v at r = Walks (λ ψ. r .value ≡ truthOf A ψ) v at (r .next .at)
+-- The truth and the end of the formula that stands at an offset.
+abbrev pub Holds : Atoms → List ℕ → ℕ → Bool → ℕ → Type 0
+Holds A v at b next = Walks (λ ψ. b ≡ truthOf A ψ) v at next
 
 -- Atoms of an element of a shape, whatever its strings and its order are.
 pub record Shaped (shape : Shape) (A : Atoms) : Type 0 where
@@ -73,12 +67,8 @@ abbrev pub Decided : Shape → Formula → Type 0
 Decided shape ψ = (A B : Atoms) → Shaped shape A → Shaped shape B → truthOf A ψ ≡ truthOf B ψ
 
 -- The end of the formula that stands at an offset; and if so answered, it is decided by the shape.
-abbrev pub Decides : Shape → List ℕ → ℕ → Held → Type 0
-Decides shape v at r = Walks (λ ψ. r .value ≡ true → Decided shape ψ) v at (r .next .at)
-
--- No formula of formulas stands at an offset.
-abbrev pub NoConnective : List ℕ → ℕ → Type 0
-NoConnective v at = (byte v at ≡ 0x10 → ⊥) × (byte v at ≡ 0x11 → ⊥) × (byte v at ≡ 0x12 → ⊥)
+abbrev pub Decides : Shape → List ℕ → ℕ → Bool → ℕ → Type 0
+Decides shape v at b next = Walks (λ ψ. b ≡ true → Decided shape ψ) v at next
 
 -- Whether all clauses that stand from an offset on are met.
 abbrev pub AllHold : Atoms → List ℕ → ℕ → Bool → Type 0

@@ -1,5 +1,5 @@
 -- What the code that reads vocabularies promises, in terms of the definitions that read them.
-use Prim.Native.Nat.{ℕ, _<_, min}
+use Prim.Native.Nat.{ℕ, _+_, _<_, min}
 use mathlib.Core.Path.{_≡_}
 use mathlib.Core.List.{List, [], _∷_, _++_}
 use mathlib.Core.Option.{some}
@@ -10,19 +10,22 @@ use Rattle.sets.specs.Sets.{member}
 use Rattle.strings.specs.contracts.Promises.{setNumber}
 use Rattle.commands.specs.declared.Context.{Context}
 use Rattle.commands.specs.declared.Part.{Part}
+use Rattle.commands.specs.Commands.{byte, operandBytes}
 use Rattle.commands.specs.Reading.{whole}
 use Rattle.commands.specs.contracts.Parts.{Agrees, AgreesAs, Enough}
 pub use Rattle.commands.specs.contracts.Parts.{partOf}
 use Rattle.vocabularies.specs.declared.Tables.{Tables}
 use Rattle.vocabularies.specs.declared.VocabularyRead.{VocabularyRead}
+use Rattle.vocabularies.specs.declared.FormulaHere.{FormulaHere}
+use Rattle.vocabularies.specs.declared.FormulaHere.the-variants.{Conj, Disj, Neg, Truth, Attr, Content, Order, Value, Nothing}
 use Rattle.vocabularies.specs.declared.Fact as Kept
 use Rattle.vocabularies.specs.declared.Fact.the-variants.{Present, Ordered, Valued}
 use Rattle.vocabularies.specs.declared.Facts.{Facts}
 use Rattle.vocabularies.specs.declared.Names.{Names}
 use Rattle.vocabularies.specs.declared.RuleRead.{RuleRead}
 use Rattle.vocabularies.specs.Facts.{Fact, present, ordered, valued, isAmong, add, withFacts, factsOf}
-use Rattle.vocabularies.specs.Vocabulary.{Formula, Rule, Vocabulary, ruleOf, declared, isIn}
-use Rattle.vocabularies.specs.VocabularyReading.{leaf, shapeAt, mostFacts, formula, rising, clauses, ruleBody, vocabulary}
+use Rattle.vocabularies.specs.Vocabulary.{Formula, conj, disj, neg, truth, attr, content, order, value, Rule, Vocabulary, ruleOf, declared, isIn}
+use Rattle.vocabularies.specs.VocabularyReading.{Shape, binary, unary, leaf, shapeAt, mostFacts, formula, rising, clauses, ruleBody, vocabulary}
 
 -- The fact of the definitions that a fact of the code stands for.
 abbrev pub meaningOf : Kept.Fact → Fact
@@ -55,9 +58,27 @@ module _ (t : Facts) (x : Kept.Fact) where
 abbrev pub FactsWith : Facts → Formula → Facts → Type 0
 FactsWith t ψ r = (xs : List Fact) → Represents t xs → Represents r (withFacts ψ xs)
 
--- The facts with those of the formula that one command is.
-abbrev pub LeafAdds : List ℕ → ℕ → ℕ → Facts → Facts → Type 0
-LeafAdds s at code t r = (ψ : Formula) → shapeAt s at code ≡ leaf ψ → FactsWith t ψ r
+-- A command of a shape stands at an offset, and `next` is behind it.
+pub record Begins (s : List ℕ) (at : ℕ) (shape : Shape) (next : ℕ) : Type 0 where
+  pub inside : at < length s
+  pub shaped : shapeAt s at (byte s at) ≡ shape
+  pub after : next ≡ at + 1 + operandBytes (byte s at)
+
+-- The form of the formula that stands at an offset, in the order of section 6's grammar; or no formula stands there.
+abbrev pub Stands : List ℕ → ℕ → FormulaHere → Type 0
+Stands s at (Conj next) = Begins s at (binary conj) (next .at)
+Stands s at (Disj next) = Begins s at (binary disj) (next .at)
+Stands s at (Neg next) = Begins s at (unary neg) (next .at)
+Stands s at (Truth next) = Begins s at (leaf truth) (next .at)
+Stands s at (Attr a next) = Begins s at (leaf (attr a)) (next .at)
+Stands s at (Content c next) = Begins s at (leaf (content c)) (next .at)
+Stands s at (Order c d next) = Begins s at (leaf (order c d)) (next .at)
+Stands s at (Value a set next) = Begins s at (leaf (value a (setNumber set))) (next .at)
+Stands s at Nothing = (f depth end : ℕ) (ψ : Formula) → formula f s depth at ≡ whole ψ end → ⊥
+
+-- The end of the formula that stands at an offset, and what holds of it.
+abbrev pub Walks : (Formula → Type 0) → List ℕ → ℕ → ℕ → Type 0
+Walks P s at next = (f depth end : ℕ) (ψ : Formula) → formula f s depth at ≡ whole ψ end → (next ≡ end) × P ψ
 
 -- A formula below so many open connectives.
 abbrev pub FormulaReads : List ℕ → ℕ → ℕ → Part → Type 0
