@@ -1,5 +1,5 @@
 -- The patterns under which a formula is true, form by form: at each pattern the formula is judged as at an element.
-use Prim.Native.Nat.{ℕ, _+_, _^_, _<_, _≤_}
+use Prim.Native.Nat.{ℕ, _^_, _<_, _≤_}
 use mathlib.Core.Path.{_≡_, refl, sym, ap, ap₂, _∙_}
 use mathlib.Core.List.{List, [], _∷_}
 use mathlib.Core.Bool.{Bool, true, false, not, _&&_, _||_, false≢true}
@@ -28,7 +28,7 @@ use Rattle.pattern_sets.proofs.Tables.{below, passed}
 use Rattle.schemes.specs.contracts.Promises.{Places}
 use Rattle.schemes.proofs.FactPlaces.{flag-placed}
 use Rattle.clauses.specs.declared.Truths.{Truths}
-use Rattle.clauses.specs.contracts.Promises.{FlaggedBy, IsUnbroken, IsValued, TruePatterns, ClauseFails}
+use Rattle.clauses.specs.contracts.Promises.{FlaggedBy, IsOrdered, IsValued, TruePatterns, ClauseFails}
 
 -- ---- the sets of which truths are made
 
@@ -48,15 +48,15 @@ module _ (t : Facts) where
   flagged-placed f place r placed all fs h few x b =
       all x (small fs few x b) ∙ ap (member x) (placed .place fs h few) ∙ sym (flag-placed fs f x b)
 
-  pub is-unbroken : (c d : ℕ) (broken r : List ℕ) → FlaggedBy t (ordered c d) broken → ((x : ℕ) → x < 256 → holds r x ≡ not (holds broken x)) → IsUnbroken t c d r
-  is-unbroken c d broken r flags others fs h few x b = others x (small fs few x b) ∙ ap not (flags fs h few x b)
+  pub is-ordered : (c d : ℕ) (broken r : List ℕ) → FlaggedBy t (ordered c d) broken → ((x : ℕ) → x < 256 → holds r x ≡ not (holds broken x)) → IsOrdered t c d r
+  is-ordered c d broken r flags others fs h few x b = others x (small fs few x b) ∙ ap not (flags fs h few x b)
 
   module _ (names a m : ℕ) (r : List ℕ) (named : Bool) (is : named ≡ member names a) where
-    pub valued-there : named ≡ true → FlaggedBy t (valued a m) r → IsValued t names a m r
-    valued-there e flags fs h few x b = rw (sym is ∙ e) (flags fs h few x b)
-
     pub valued-absent : named ≡ false → ((x : ℕ) → x < 256 → holds r x ≡ true) → IsValued t names a m r
     valued-absent e all fs h few x b = rw (sym is ∙ e) (all x (small fs few x b))
+
+    pub valued-there : named ≡ true → FlaggedBy t (valued a m) r → IsValued t names a m r
+    valued-there e flags fs h few x b = rw (sym is ∙ e) (flags fs h few x b)
 
 -- ---- the forms, in the order of source 000's grammar
 
@@ -90,9 +90,9 @@ module _ (t : Facts) (names : ℕ) {v : List ℕ} {at : ℕ} where
     unfolding atomsBy
     true-content B flags fs h few ns known x b = content-held (atomsBy fs ns x) B (flags fs h few x b)
 
-    pub true-order : {c d : ℕ} → Begins v at (leaf (order c d)) (r .next .at) → IsUnbroken t c d (r .set) → TruePatterns t names v at r
+    pub true-order : {c d : ℕ} → Begins v at (leaf (order c d)) (r .next .at) → IsOrdered t c d (r .set) → TruePatterns t names v at r
     unfolding atomsBy
-    true-order B unbroken fs h few ns known x b = order-held (atomsBy fs ns x) B (unbroken fs h few x b)
+    true-order B ordered-by fs h few ns known x b = order-held (atomsBy fs ns x) B (ordered-by fs h few x b)
 
     pub true-value : {a m : ℕ} → Begins v at (leaf (value a m)) (r .next .at) → IsValued t names a m (r .set) → TruePatterns t names v at r
     unfolding atomsBy

@@ -7,7 +7,7 @@ ghost use Rattle.strings.specs.contracts.Promises.{setNumber, hasString};
 ghost use Rattle.vocabularies.specs.contracts.Promises.{meaningOf};
 ghost use Rattle.patterns.specs.contracts.Patterns.{flagged};
 ghost use Rattle.pattern_sets.specs.contracts.PatternSets.{holds};
-ghost use Rattle.clauses.specs.contracts.Promises.{alone, agree, IsPattern, WithValued, ValuedNames, Alike, AddsPatterns, ValuePatterns, FlaggedBy, IsUnbroken, IsValued, TruePatterns, ClauseFails};
+ghost use Rattle.clauses.specs.contracts.Promises.{alone, agree, IsPattern, WithValued, ValuedNames, Alike, AddsPatterns, ValuePatterns, FlaggedBy, IsOrdered, IsValued, TruePatterns, ClauseFails};
 use commands::Position;
 use strings::OUTSIDE;
 use strings::StringSet;
@@ -172,21 +172,21 @@ fn complement(set: [u64; 4]) -> [u64; 4]
     pattern_sets::difference(all_if(true), set)
 }
 
-// No d stands before a c.
-fn unbroken(facts: Facts, c: u8, d: u8) -> [u64; 4]
-    ensures { λ r. ⌜ IsUnbroken facts c d r ⌝ }
+// The patterns under which no d stands before a c.
+fn ordered(facts: Facts, c: u8, d: u8) -> [u64; 4]
+    ensures { λ r. ⌜ IsOrdered facts c d r ⌝ }
 {
     complement(flagged_by(facts, Fact::Ordered(c, d)))
 }
 
-// Attribute a is absent, or has a string of the set.
-fn absent_or_valued(facts: Facts, names: u64, a: u8, set: StringSet) -> [u64; 4]
-    ensures { λ r. ⌜ IsValued facts names a (setNumber set) r ⌝ }
+// The patterns under which attribute a is absent, or has a string of the set m.
+fn absent_or_valued(facts: Facts, names: u64, a: u8, m: StringSet) -> [u64; 4]
+    ensures { λ r. ⌜ IsValued facts names a (setNumber m) r ⌝ }
 {
     if !sets::is_member(names, a) {
         return all_if(true);
     }
-    flagged_by(facts, Fact::Valued(a, set))
+    flagged_by(facts, Fact::Valued(a, m))
 }
 
 // The patterns under which a formula is true, and the position after it.
@@ -196,7 +196,7 @@ pub struct Truths {
 }
 
 impl Truths {
-    // A formula of this one and the one after it, both of which are to hold, or one.
+    // The patterns under which this formula and the one after it are true.
     fn and(self, second: Truths) -> Truths
         ensures { λ r. ⌜ (r .next ≡ second .next) × ((x : ℕ) → holds (r .set) x ≡ (holds (self .set) x && holds (second .set) x)) ⌝ }
     {
@@ -207,6 +207,7 @@ impl Truths {
         Truths { set, next }
     }
 
+    // Those under which one of them is true.
     fn or(self, second: Truths) -> Truths
         ensures { λ r. ⌜ (r .next ≡ second .next) × ((x : ℕ) → holds (r .set) x ≡ (holds (self .set) x || holds (second .set) x)) ⌝ }
     {
@@ -217,6 +218,7 @@ impl Truths {
         Truths { set, next }
     }
 
+    // Those under which this formula is not true.
     fn not(self) -> Truths
         ensures { λ r. ⌜ (r .next ≡ self .next) × ((x : ℕ) → x < 256 → holds (r .set) x ≡ not (holds (self .set) x)) ⌝ }
     {
@@ -227,7 +229,8 @@ impl Truths {
     }
 }
 
-// The formula here, for an element whose attributes have these names; the forms stand in the order of source 000's grammar.
+// The patterns under which the formula here is true of an element whose attributes have these names. The forms stand in the order of
+// source 000's grammar.
 fn true_patterns(s: &[u8], here: Position, facts: Facts, names: u64) -> Truths
     ensures forward { λ r. ⌜ here .at ≤ r .next .at ⌝ }
     ensures truths { λ r. ⌜ TruePatterns facts names (now (s .entry)) (here .at) r ⌝ }
@@ -261,11 +264,11 @@ fn true_patterns(s: &[u8], here: Position, facts: Facts, names: u64) -> Truths
             next,
         },
         FormulaHere::Order(c, d, next) => Truths {
-            set: unbroken(facts, c, d),
+            set: ordered(facts, c, d),
             next,
         },
-        FormulaHere::Value(a, set, next) => Truths {
-            set: absent_or_valued(facts, names, a, set),
+        FormulaHere::Value(a, m, next) => Truths {
+            set: absent_or_valued(facts, names, a, m),
             next,
         },
         FormulaHere::Nothing => Truths {

@@ -140,9 +140,9 @@ no-operand k low high = go (eqb k 0x10) (eqb k 0x11) (eqb k 0x12) refl refl refl
         let e : k ≡ 0x13 = omega arith in
         ap operandsOf e
 
-pub connective-moves : (s : List ℕ) (at k : ℕ) → at < length s → byte s at ≡ k → 0x10 ≤ k → k ≤ 0x13 → Moved k (record { at = at + 1 }) ≡ command Formulas s at
+pub bare-formula-moves : (s : List ℕ) (at k : ℕ) → at < length s → byte s at ≡ k → 0x10 ≤ k → k ≤ 0x13 → Moved k (record { at = at + 1 }) ≡ command Formulas s at
 unfolding allowed
-connective-moves s at k here code low high =
+bare-formula-moves s at k here code low high =
     bare-moves Formulas s at here k code (rw (le-leb 0x10 k low, le-leb k 0x17 (omega arith))) (no-operand k low high)
 
 pub single-moves : (x : Context) (s : List ℕ) (at k most : ℕ) → Single x k most → at < length s → byte s at ≡ k → at + 2 ≤ length s → byte s (at + 1) ≤ most

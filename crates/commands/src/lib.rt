@@ -72,7 +72,7 @@ fn with_byte(high: u64, s: &[u8], i: usize) -> u64
 }
 
 // The number of the set of strings at an offset: eight bytes, highest first.
-pub fn set_at(s: &[u8], i: usize) -> u64
+fn set_at(s: &[u8], i: usize) -> u64
     ensures { λ r. ⌜ r ≡ setAt (now (s .entry)) i ⌝ }
 {
     if s.len() <= i {

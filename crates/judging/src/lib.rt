@@ -18,8 +18,8 @@ use pages::TEXT;
 use strings::StringSet;
 use vocabularies::FormulaHere;
 
-// The truth of a formula, and the position after it.
-pub struct Held {
+// An answer about a formula, yes or no, and the position after it.
+struct Held {
     pub value: bool,
     pub next: Position,
 }
@@ -80,7 +80,7 @@ const FIRST: usize = 0;
 const LAST: usize = 1;
 
 impl Held {
-    // A formula of this one and the one after it, both of which are to hold, or one.
+    // Whether it is so of this formula and of the one after it.
     fn and(self, second: Held) -> Held
         ensures { λ r. ⌜ r ≡ record { value = self .value && second .value; next = second .next } ⌝ }
     {
@@ -91,6 +91,7 @@ impl Held {
         Held { value: false, next }
     }
 
+    // Whether it is so of one of them.
     fn or(self, second: Held) -> Held
         ensures { λ r. ⌜ r ≡ record { value = self .value || second .value; next = second .next } ⌝ }
     {
@@ -101,6 +102,7 @@ impl Held {
         Held { value: true, next }
     }
 
+    // Whether it is not so of this formula.
     fn not(self) -> Held
         ensures { λ r. ⌜ r ≡ record { value = not (self .value); next = self .next } ⌝ }
     {
@@ -156,18 +158,18 @@ fn is_ordered(contents: u64, order: &[[u8; 2]; 64], c: u8, d: u8) -> bool
     order[i][LAST] <= order[j][FIRST]
 }
 
-// Attribute a is absent, or has a string of the set.
-fn is_valued(names: u64, strings: &[u8; 32], a: u8, set: StringSet) -> bool
-    ensures { λ r. ⌜ r ≡ (not (member names a) || member (setNumber set) (getD (now (strings .entry)) (a % 32) 0)) ⌝ }
+// Attribute a is absent, or has a string of the set m.
+fn is_absent_or_valued(names: u64, strings: &[u8; 32], a: u8, m: StringSet) -> bool
+    ensures { λ r. ⌜ r ≡ (not (member names a) || member (setNumber m) (getD (now (strings .entry)) (a % 32) 0)) ⌝ }
 {
     if !sets::is_member(names, a) {
         return true;
     }
     let i = (a % 32) as usize;
-    strings::has(set, strings[i])
+    strings::has(m, strings[i])
 }
 
-// The formula here, for an element with these tables; the forms stand in the order of source 000's grammar.
+// Whether the formula here holds of an element with these tables. The forms stand in the order of source 000's grammar.
 fn holds(v: &[u8], here: Position, shape: Shape, strings: &[u8; 32], order: &[[u8; 2]; 64]) -> Held
     ensures forward { λ r. ⌜ here .at ≤ r .next .at ⌝ }
     ensures truth { λ r. ⌜ Holds (tableAtoms shape (now (strings .entry)) (now (order .entry))) (now (v .entry)) (here .at) (r .value) (r .next .at) ⌝ }
@@ -201,8 +203,8 @@ fn holds(v: &[u8], here: Position, shape: Shape, strings: &[u8; 32], order: &[[u
             value: is_ordered(shape.contents, order, c, d),
             next,
         },
-        FormulaHere::Value(a, set, next) => Held {
-            value: is_valued(shape.names, strings, a, set),
+        FormulaHere::Value(a, m, next) => Held {
+            value: is_absent_or_valued(shape.names, strings, a, m),
             next,
         },
         FormulaHere::Nothing => Held {
@@ -223,7 +225,7 @@ fn lacks_one(set: u64, c: u8, d: u8) -> bool
 }
 
 // Whether the formula here is as true of one element of this shape as of another: it looks at no order of two contents that both stand
-// inside, and at no string of an attribute that is there. A formula of two is so if both are, whether they are to hold both or one.
+// inside, and at no string of an attribute that is there. So both parts have to be, of a disjunction too.
 fn is_settled(v: &[u8], here: Position, shape: Shape) -> Held
     ensures forward { λ r. ⌜ here .at ≤ r .next .at ⌝ }
     ensures settled { λ r. ⌜ Decides shape (now (v .entry)) (here .at) (r .value) (r .next .at) ⌝ }

@@ -41,7 +41,7 @@ Exists w c = (i : ℕ) × (i < length w) × (getD w i 0 ≡ c)
 abbrev pub Before : List ℕ → ℕ → ℕ → Type 0
 Before w c₁ c₂ = (i j : ℕ) → i < length w → j < length w → getD w i 0 ≡ c₁ → getD w j 0 ≡ c₂ → i ≤ j
 
--- D, δ, φ ⊨ ψ. The strings of `value` are those whose bit is set.
+-- D, δ, φ ⊨ ψ, in the order of the grammar of Ψ; no rule looks at D. The strings of `value` are those whose bit is set.
 unfoldable pub Meets : List Attribute → Items → Formula → Type 0
 unfolding word
 Meets δ φ (conj ψ₁ ψ₂) = Meets δ φ ψ₁ × Meets δ φ ψ₂

@@ -145,12 +145,12 @@ present-single : (x c d : ℕ) → ordered c d ≡ present x → ⊥
 unfolding isPair
 present-single x c d e = false≢true (ap isPair (sym e))
 
+pair-is : (c d c′ d′ : ℕ) → ordered c′ d′ ≡ ordered c d → (c′ ≡ c) × (d′ ≡ d)
+pair-is c d c′ d′ e = (cc, cc)
+
 valued-single : (a m c d : ℕ) → ordered c d ≡ valued a m → ⊥
 unfolding isPair
 valued-single a m c d e = false≢true (ap isPair (sym e))
-
-pair-is : (c d c′ d′ : ℕ) → ordered c′ d′ ≡ ordered c d → (c′ ≡ c) × (d′ ≡ d)
-pair-is c d c′ d′ e = (cc, cc)
 
 closed-pair : (c d : ℕ) (fs : List Fact) → Closed fs → Closed (add (ordered c d) (add (present d) (add (present c) fs)))
 closed-pair c d fs k c′ d′ e = ⊎-elim

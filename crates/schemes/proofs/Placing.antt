@@ -84,14 +84,14 @@ module _ (t : Facts) (inFirst : Bool) (y : Kept.Fact) where
   pub no-pair-content : (c : ℕ) → y ≡ Present c → PlacesPair inFirst t (meaningOf y) 8
   no-pair-content c e fs h few = rw e
 
-  pub no-pair-value : (a : ℕ) (m : StringSet) → y ≡ Valued a m → PlacesPair inFirst t (meaningOf y) 8
-  no-pair-value a m e fs h few = rw e
-
   pub pair-first : (c d r : ℕ) → y ≡ Ordered c d → inFirst ≡ true → Places t (present d) r → PlacesPair inFirst t (meaningOf y) r
   pair-first c d r e q p fs h few = rw (e, q) (p .place fs h few)
 
   pub pair-second : (c d r : ℕ) → y ≡ Ordered c d → inFirst ≡ false → Places t (present c) r → PlacesPair inFirst t (meaningOf y) r
   pair-second c d r e q p fs h few = rw (e, q) (p .place fs h few)
+
+  pub no-pair-value : (a : ℕ) (m : StringSet) → y ≡ Valued a m → PlacesPair inFirst t (meaningOf y) 8
+  no-pair-value a m e fs h few = rw e
 
 -- ---- a table with a number for each fact
 

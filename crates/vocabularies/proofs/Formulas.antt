@@ -46,17 +46,17 @@ unfolding formula
 step-refused f s depth at g n c = rw c
 
 -- The shapes, by the first byte.
-pub two-shape : (s : List ℕ) (at code : ℕ) → 0x10 ≤ code → code < 0x12 → (made : Formula → Formula → Formula) × (shapeAt s at code ≡ binary made)
+two-shape : (s : List ℕ) (at code : ℕ) → 0x10 ≤ code → code < 0x12 → (made : Formula → Formula → Formula) × (shapeAt s at code ≡ binary made)
 two-shape s at code l h = go (eqb code 0x10) refl
   where
     go : (b : Bool) → eqb code 0x10 ≡ b → (made : Formula → Formula → Formula) × (shapeAt s at code ≡ binary made)
     go true e = (conj, rw e)
     go false e = let n : code ≡ 0x10 → ⊥ = eqb-false code 0x10 e in (disj, rw (e, eq-eqb code 0x11 (omega arith)))
 
-pub one-shape : (s : List ℕ) (at code : ℕ) → code ≡ 0x12 → shapeAt s at code ≡ unary neg
+one-shape : (s : List ℕ) (at code : ℕ) → code ≡ 0x12 → shapeAt s at code ≡ unary neg
 one-shape s at code e = rw e
 
-pub leaf-shape : (s : List ℕ) (at code : ℕ) → (0x10 ≤ code → code ≤ 0x12 → ⊥) → (ψ : Formula) × (shapeAt s at code ≡ leaf ψ)
+leaf-shape : (s : List ℕ) (at code : ℕ) → (0x10 ≤ code → code ≤ 0x12 → ⊥) → (ψ : Formula) × (shapeAt s at code ≡ leaf ψ)
 leaf-shape s at code h =
     rw (ne-eqb code 0x10 (λ e. h (omega arith) (omega arith)), ne-eqb code 0x11 (λ e. h (omega arith) (omega arith)), ne-eqb code 0x12 (λ e. h (omega arith) (omega arith)))
     (some-leaf (eqb code 0x13) (eqb code 0x14) (eqb code 0x15) (eqb code 0x16) truth (attr _) (content _) (order _ _) (value _ _))
@@ -77,12 +77,6 @@ Formed f s depth next (unary one) ψ end = (ψ₁ : Formula) × (formula f s (de
 Formed f s depth next (leaf ψ′) ψ end = (ψ ≡ ψ′) × (end ≡ next)
 
 module _ (at : ℕ) (ψ : Formula) (end : ℕ) where
-  one-formed : (b : Bool) (x : Read Formula) (one : Formula → Formula)
-      → when b (λ _. andThen x λ ψ₁ end′. whole (one ψ₁) end′) (λ _. refused TooMany at) ≡ whole ψ end
-      → (ψ₁ : Formula) × (x ≡ whole ψ₁ end) × (ψ ≡ one ψ₁)
-  one-formed true x one e = last-whole x one ψ end e
-  one-formed false x one e = absurd (let z : _≡_ {A = ℕ} 0 1 = cc in omega arith)
-
   two-formed : (b : Bool) (x : Read Formula) (y : ℕ → Read Formula) (two : Formula → Formula → Formula)
       → when b (λ _. andThen x λ ψ₁ middle. andThen (y middle) λ ψ₂ end′. whole (two ψ₁ ψ₂) end′) (λ _. refused TooMany at) ≡ whole ψ end
       → (ψ₁ : Formula) × (middle : ℕ) × (ψ₂ : Formula) × (x ≡ whole ψ₁ middle) × (y middle ≡ whole ψ₂ end) × (ψ ≡ two ψ₁ ψ₂)
@@ -90,6 +84,12 @@ module _ (at : ℕ) (ψ : Formula) (end : ℕ) where
   two-formed true (refused f n) y two e = absurd (let z : _≡_ {A = ℕ} 0 1 = cc in omega arith)
   two-formed true unfinished y two e = absurd (let z : _≡_ {A = ℕ} 0 1 = cc in omega arith)
   two-formed false x y two e = absurd (let z : _≡_ {A = ℕ} 0 1 = cc in omega arith)
+
+  one-formed : (b : Bool) (x : Read Formula) (one : Formula → Formula)
+      → when b (λ _. andThen x λ ψ₁ end′. whole (one ψ₁) end′) (λ _. refused TooMany at) ≡ whole ψ end
+      → (ψ₁ : Formula) × (x ≡ whole ψ₁ end) × (ψ ≡ one ψ₁)
+  one-formed true x one e = last-whole x one ψ end e
+  one-formed false x one e = absurd (let z : _≡_ {A = ℕ} 0 1 = cc in omega arith)
 
 module _ (f : ℕ) (s : List ℕ) (depth at next : ℕ) (ψ : Formula) (end : ℕ) where
   formed : (shape : Shape) → shaped f s depth at next shape ≡ whole ψ end → Formed f s depth next shape ψ end
@@ -137,10 +137,6 @@ formula-ends (suc f) s depth at ψ end e = go (λ depth′ at′ ψ′ end′ e�
 
 -- Any two fuels that are enough read the same.
 module _ (at : ℕ) where
-  one-same : (b : Bool) (x x′ : Read Formula) (one : Formula → Formula) → x ≡ x′
-      → _≡_ {A = Read Formula} (when b (λ _. andThen x λ ψ₁ end′. whole (one ψ₁) end′) (λ _. refused TooMany at)) (when b (λ _. andThen x′ λ ψ₁ end′. whole (one ψ₁) end′) (λ _. refused TooMany at))
-  one-same b x x′ one e = rw e
-
   two-same : (b : Bool) (x x′ : Read Formula) (y y′ : ℕ → Read Formula) (two : Formula → Formula → Formula) → x ≡ x′ → ((ψ : Formula) (middle : ℕ) → x′ ≡ whole ψ middle → y middle ≡ y′ middle)
       → _≡_ {A = Read Formula} (when b (λ _. andThen x λ ψ₁ middle. andThen (y middle) λ ψ₂ end′. whole (two ψ₁ ψ₂) end′) (λ _. refused TooMany at))
       (when b (λ _. andThen x′ λ ψ₁ middle. andThen (y′ middle) λ ψ₂ end′. whole (two ψ₁ ψ₂) end′) (λ _. refused TooMany at))
@@ -148,6 +144,10 @@ module _ (at : ℕ) where
   two-same true x (refused f n) y y′ two e h = rw e
   two-same true x unfinished y y′ two e h = rw e
   two-same false x x′ y y′ two e h = refl
+
+  one-same : (b : Bool) (x x′ : Read Formula) (one : Formula → Formula) → x ≡ x′
+      → _≡_ {A = Read Formula} (when b (λ _. andThen x λ ψ₁ end′. whole (one ψ₁) end′) (λ _. refused TooMany at)) (when b (λ _. andThen x′ λ ψ₁ end′. whole (one ψ₁) end′) (λ _. refused TooMany at))
+  one-same b x x′ one e = rw e
 
 abbrev Same : ℕ → ℕ → List ℕ → Type 0
 Same f g s = (depth at : ℕ) → Enough s at f → Enough s at g → formula f s depth at ≡ formula g s depth at
@@ -249,35 +249,17 @@ module _ (s : List ℕ) (depth at : ℕ) where
     stepped : (f : ℕ) (shape : Shape) → shapeAt s at code ≡ shape → formula (suc f) s depth at ≡ shaped f s depth at (next .at) shape
     stepped f shape q = rw (step f s depth at code next (sym c ∙ e), q)
 
-    formula-leaf : (0x10 ≤ code → code ≤ 0x12 → ⊥) → FormulaReads s depth at (Whole next)
+    pub formula-deep-two : 0x10 ≤ code → code < 0x12 → formulaNesting ≤ depth → FormulaReads s depth at (Refused TooMany at)
     unfolding shaped
-    formula-leaf l zero h = absurd (omega arith)
-    formula-leaf l (suc f) h = let q = leaf-shape s at code l in rw (stepped f (leaf (q .0)) (q .1)) (refl, tt)
-
-    pub formula-low : code < 0x10 → FormulaReads s depth at (Whole next)
-    formula-low l = formula-leaf (λ a b. omega arith)
-
-    pub formula-high : 0x12 ≤ code → (code ≡ 0x12 → ⊥) → FormulaReads s depth at (Whole next)
-    formula-high l n = formula-leaf (λ a b. n (omega arith))
+    formula-deep-two l k deep zero h = absurd (omega arith)
+    formula-deep-two l k deep (suc f) h = let w = two-shape s at code l k in rw (stepped f (binary (w .0)) (w .1), le-ltb depth formulaNesting deep) (refl, refl)
 
     pub formula-deep-one : code ≡ 0x12 → formulaNesting ≤ depth → FormulaReads s depth at (Refused TooMany at)
     unfolding shaped
     formula-deep-one k deep zero h = absurd (omega arith)
     formula-deep-one k deep (suc f) h = rw (stepped f (unary neg) (one-shape s at code k), le-ltb depth formulaNesting deep) (refl, refl)
 
-    pub formula-deep-two : 0x10 ≤ code → code < 0x12 → formulaNesting ≤ depth → FormulaReads s depth at (Refused TooMany at)
-    unfolding shaped
-    formula-deep-two l k deep zero h = absurd (omega arith)
-    formula-deep-two l k deep (suc f) h = let w = two-shape s at code l k in rw (stepped f (binary (w .0)) (w .1), le-ltb depth formulaNesting deep) (refl, refl)
-
     module _ (shallow : depth < formulaNesting) where
-      pub formula-one : code ≡ 0x12 → (r : Part) → FormulaReads s (depth + 1) (next .at) r → FormulaReads s depth at r
-      unfolding shaped
-      formula-one k r x zero h = absurd (omega arith)
-      formula-one k r x (suc f) h =
-          rw (stepped f (unary neg) (one-shape s at code k), lt-ltb depth formulaNesting shallow)
-          (last-agrees (formula f s (depth + 1) (next .at)) neg r (x f (omega (arith, m))))
-
       module _ (l : 0x10 ≤ code) (k : code < 0x12) (first : Part) (x : FormulaReads s (depth + 1) (next .at) first) where
         pub formula-first : (i : Form) (n : ℕ) → first ≡ Refused i n → FormulaReads s depth at first
         unfolding shaped
@@ -296,6 +278,24 @@ module _ (s : List ℕ) (depth at : ℕ) where
             let z = formula-ends f s (depth + 1) (next .at) (a .0) (middle .at) (a .1) in
             rw (stepped f (binary (w .0)) (w .1), lt-ltb depth formulaNesting shallow, a .1)
             (last-agrees (formula f s (depth + 1) (middle .at)) (w .0 (a .0)) r (y f (omega (arith, m))))
+
+      pub formula-one : code ≡ 0x12 → (r : Part) → FormulaReads s (depth + 1) (next .at) r → FormulaReads s depth at r
+      unfolding shaped
+      formula-one k r x zero h = absurd (omega arith)
+      formula-one k r x (suc f) h =
+          rw (stepped f (unary neg) (one-shape s at code k), lt-ltb depth formulaNesting shallow)
+          (last-agrees (formula f s (depth + 1) (next .at)) neg r (x f (omega (arith, m))))
+
+    formula-leaf : (0x10 ≤ code → code ≤ 0x12 → ⊥) → FormulaReads s depth at (Whole next)
+    unfolding shaped
+    formula-leaf l zero h = absurd (omega arith)
+    formula-leaf l (suc f) h = let q = leaf-shape s at code l in rw (stepped f (leaf (q .0)) (q .1)) (refl, tt)
+
+    pub formula-low : code < 0x10 → FormulaReads s depth at (Whole next)
+    formula-low l = formula-leaf (λ a b. omega arith)
+
+    pub formula-high : 0x12 ≤ code → (code ≡ 0x12 → ⊥) → FormulaReads s depth at (Whole next)
+    formula-high l n = formula-leaf (λ a b. n (omega arith))
 
 -- What code that read a formula has where one can be read there.
 module _ (s : List ℕ) (depth at : ℕ) (r : Part) (x : FormulaReads s depth at r) where

@@ -33,7 +33,8 @@ pub struct VocabularyRead {
     pub tables: Tables,
 }
 
-// A formula by its first command: its form, in the order of source 000's grammar, with what the command names and the position after it.
+// The formula that stands at a position, by its first command: the eight forms in the order of source 000's grammar, each with what the
+// command names and the position after it; or no formula.
 pub enum FormulaHere {
     Conj(Position),
     Disj(Position),
@@ -189,7 +190,7 @@ fn with_order(facts: Facts, c: u8, d: u8) -> Facts
 }
 
 // A formula in prefix order, below `depth` open connectives: two formulas follow a conjunction or a disjunction, one a negation, none
-// an atom.
+// the other forms.
 pub fn read_formula(s: &[u8], here: Position, depth: usize) -> Part
     ensures { λ r. ⌜ FormulaReads (now (s .entry)) depth (here .at) r ⌝ }
 {
@@ -218,7 +219,7 @@ pub fn read_formula(s: &[u8], here: Position, depth: usize) -> Part
     }
 }
 
-// One step of a walk over a formula that was read.
+// What formula stands here, in bytes that were read.
 pub fn formula_here(s: &[u8], here: Position) -> FormulaHere
     ensures { λ r. ⌜ Stands (now (s .entry)) (here .at) r ⌝ }
 {
@@ -271,8 +272,8 @@ pub fn facts_of(s: &[u8], start: Position, end: Position) -> Facts
                 facts = with_order(facts, c, d);
                 here = next;
             }
-            FormulaHere::Value(a, set, next) => {
-                facts = with_fact(facts, Fact::Valued(a, set));
+            FormulaHere::Value(a, m, next) => {
+                facts = with_fact(facts, Fact::Valued(a, m));
                 here = next;
             }
             FormulaHere::Nothing => {

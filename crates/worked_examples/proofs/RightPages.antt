@@ -15,6 +15,29 @@ use Rattle.programs.specs.Runs.{shown, closed, pluggedString}
 use Rattle.worked_examples.proofs.Runs.{attribute, first, choosing}
 use Rattle.worked_examples.proofs.ReadingAttributes.{strings-0-7-63, outer-rule, inner-rule, attribute-job}
 
+-- "Two texts side by side are two contents": with `16 00 00`, at most one text, they are not one.
+pub two-texts : Meets [] (more text (one text)) (order 0 0) → ⊥
+unfolding Meets
+two-texts h = omega (arith, h 1 0 (omega arith) (omega arith) refl refl)
+
+abbrev inner : List Attribute → Items → Items
+inner δ φ = one (element 2 63 δ φ)
+
+-- `16 02 00`: "no d stands before a c", no text before an element 2. The other way round it is met, and so it is where neither stands.
+pub text-before : Meets [] (more text (inner [] none)) (order 2 0) → ⊥
+unfolding Meets
+text-before h = omega (arith, h 1 0 (omega arith) (omega arith) refl refl)
+
+pub text-after : Meets [] (more (element 2 63 [] none) (one text)) (order 2 0)
+unfolding Meets
+text-after zero j hi hj ei ej = zero-le
+text-after (suc zero) j hi hj ei ej = omega (arith, ei)
+text-after (suc (suc i)) j hi hj ei ej = omega (arith, hi)
+
+pub neither : Meets [] none (order 2 0)
+unfolding Meets
+neither i j hi hj ei ej = omega (arith, hi)
+
 -- `17 03 m`, m being strings 0, 7 and 63; attribute 3 with a string.
 abbrev among : Formula
 among = value 3 strings-0-7-63
@@ -56,29 +79,6 @@ in-or-not-in s = go (member strings-0-7-63 s) refl
     go : (b : Bool) → member strings-0-7-63 s ≡ b → Meets (having s) none (disj among (neg among))
     go true e = inl (inr (s, List·Memᴰ·head refl, e))
     go false e = inr (by-bit-alone s e)
-
--- "Two texts side by side are two contents": with `16 00 00`, at most one text, they are not one.
-pub two-texts : Meets [] (more text (one text)) (order 0 0) → ⊥
-unfolding Meets
-two-texts h = omega (arith, h 1 0 (omega arith) (omega arith) refl refl)
-
-abbrev inner : List Attribute → Items → Items
-inner δ φ = one (element 2 63 δ φ)
-
--- `16 02 00`: "no d stands before a c", no text before an element 2. The other way round it is met, and so it is where neither stands.
-pub text-before : Meets [] (more text (inner [] none)) (order 2 0) → ⊥
-unfolding Meets
-text-before h = omega (arith, h 1 0 (omega arith) (omega arith) refl refl)
-
-pub text-after : Meets [] (more (element 2 63 [] none) (one text)) (order 2 0)
-unfolding Meets
-text-after zero j hi hj ei ej = zero-le
-text-after (suc zero) j hi hj ei ej = omega (arith, ei)
-text-after (suc (suc i)) j hi hj ei ej = omega (arith, hi)
-
-pub neither : Meets [] none (order 2 0)
-unfolding Meets
-neither i j hi hj ei ej = omega (arith, hi)
 
 abbrev vocabulary : Vocabulary
 vocabulary = attribute-job .script .vocabulary

@@ -8,7 +8,7 @@ use borrow.Fn.Kinds.{In}
 use borrow.Fn.PlainCycle.{Measures, is, falls, and}
 use Rattle.commands.specs.declared.Position.{Position}
 use Rattle.vocabularies.proofs.Laws.{told, onward}
-use Rattle.clauses.proofs.TrueForms.{true-none, true-conj, true-disj, true-neg, true-truth, true-attr, true-content, true-order, true-value}
+use Rattle.clauses.proofs.TrueForms.{true-conj, true-disj, true-neg, true-truth, true-attr, true-content, true-order, true-value, true-none}
 use Rattle.clauses.proofs.true_patterns.Reads as reads
 use Rattle.clauses.proofs.true_patterns.Kinds as kinds
 use Rattle.clauses.proofs.+true_patterns.Lts-true_patterns as lts
@@ -19,7 +19,7 @@ use Rattle.clauses.proofs.Truths.not.Reads as not-reads
 use Rattle.clauses.proofs.all_if.Reads as all-if-reads
 use Rattle.sets.proofs.is_member.Reads as is-member-reads
 use Rattle.clauses.proofs.flagged_by.Reads as flagged-by-reads
-use Rattle.clauses.proofs.unbroken.Reads as unbroken-reads
+use Rattle.clauses.proofs.ordered.Reads as ordered-reads
 use Rattle.clauses.proofs.absent_or_valued.Reads as absent-or-valued-reads
 use Rattle.clauses.proofs.+true_patterns.{statement}
 use Rattle.clauses.proofs.+true_patterns.Tie.{close}
@@ -31,7 +31,7 @@ abbrev given : ℕ → In 1 kinds.ps
 given t = and 1 kinds.ps (is 1 kinds.ps μ t) reads.Pre
 
 abbrev claims : ℕ → lts.Claims
-claims t = (formula-here-reads.Asked, formula-here-reads.Learnt, and 1 kinds.ps (falls 1 kinds.ps _<_ μ t) reads.Pre, reads.Post, and-reads.Asked, and-reads.Learnt, or-reads.Asked, or-reads.Learnt, not-reads.Asked, not-reads.Learnt, all-if-reads.Asked, all-if-reads.Learnt, is-member-reads.Asked, is-member-reads.Learnt, flagged-by-reads.Asked, flagged-by-reads.Learnt, unbroken-reads.Asked, unbroken-reads.Learnt, absent-or-valued-reads.Asked, absent-or-valued-reads.Learnt)
+claims t = (formula-here-reads.Asked, formula-here-reads.Learnt, and 1 kinds.ps (falls 1 kinds.ps _<_ μ t) reads.Pre, reads.Post, and-reads.Asked, and-reads.Learnt, or-reads.Asked, or-reads.Learnt, not-reads.Asked, not-reads.Learnt, all-if-reads.Asked, all-if-reads.Learnt, is-member-reads.Asked, is-member-reads.Learnt, flagged-by-reads.Asked, flagged-by-reads.Learnt, ordered-reads.Asked, ordered-reads.Learnt, absent-or-valued-reads.Asked, absent-or-valued-reads.Learnt)
 
 module _ (t : ℕ) where
   formula-here-requires : lts.Need-formula-here-requires (claims t) (given t) reads.Post
@@ -94,8 +94,8 @@ module _ (t : ℕ) where
   enum-known-formula-7 : lts.Need-enum-known-formula-7 (claims t) (given t) reads.Post
   enum-known-formula-7 c = search needs
 
-  unbroken-requires : lts.Need-unbroken-requires (claims t) (given t) reads.Post
-  unbroken-requires c κs = search needs
+  ordered-requires : lts.Need-ordered-requires (claims t) (given t) reads.Post
+  ordered-requires c κs = search needs
 
   enum-known-formula-8 : lts.Need-enum-known-formula-8 (claims t) (given t) reads.Post
   enum-known-formula-8 c = search needs
@@ -140,7 +140,7 @@ module _ (t : ℕ) where
 
   returns-7 : lts.Need-returns-7 (claims t) (given t) reads.Post
   returns-7 c = let B = told _ _ (c .before .before .before .before .formula-here .ensures) (c .before .before .formula7 .given .1) in
-      (omega (arith, onward B .1), true-order _ _ _ B (c .unbroken .ensures))
+      (omega (arith, onward B .1), true-order _ _ _ B (c .ordered .ensures))
 
   returns-8 : lts.Need-returns-8 (claims t) (given t) reads.Post
   returns-8 c = let B = told _ _ (c .before .before .before .before .formula-here .ensures) (c .before .before .formula8 .given .1) in
@@ -171,7 +171,7 @@ pub +true-patterns-spec : {M : Type 1} → statement M
     (enum-known-formula-6 t)
     (flagged-by-requires t)
     (enum-known-formula-7 t)
-    (unbroken-requires t)
+    (ordered-requires t)
     (enum-known-formula-8 t)
     (absent-or-valued-requires t)
     (enum-told t)

@@ -1,5 +1,5 @@
 -- Absence is looked at first.
-use Rattle.clauses.proofs.TrueForms.{valued-there, valued-absent}
+use Rattle.clauses.proofs.TrueForms.{valued-absent, valued-there}
 use borrow.Author.Needs.{needs}
 use borrow.Author.Tests.{not-true, not-false}
 use Rattle.clauses.proofs.absent_or_valued.Statement.{statement}

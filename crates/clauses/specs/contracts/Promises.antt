@@ -73,8 +73,8 @@ ValuePatterns t a values words = OfFacts t (λ fs. (S : ℕ → Bool) → ((s : 
 abbrev pub FlaggedBy : Facts → Fact → List ℕ → Type 0
 FlaggedBy t f r = OfFacts t (λ fs. (x : ℕ) → x < 2 ^ length fs → holds r x ≡ flagIn fs x f)
 
-abbrev pub IsUnbroken : Facts → ℕ → ℕ → List ℕ → Type 0
-IsUnbroken t c d r = OfFacts t (λ fs. (x : ℕ) → x < 2 ^ length fs → holds r x ≡ not (flagIn fs x (ordered c d)))
+abbrev pub IsOrdered : Facts → ℕ → ℕ → List ℕ → Type 0
+IsOrdered t c d r = OfFacts t (λ fs. (x : ℕ) → x < 2 ^ length fs → holds r x ≡ not (flagIn fs x (ordered c d)))
 
 abbrev pub IsValued : Facts → ℕ → ℕ → ℕ → List ℕ → Type 0
 IsValued t names a m r = OfFacts t (λ fs. (x : ℕ) → x < 2 ^ length fs → holds r x ≡ (not (member names a) || flagIn fs x (valued a m)))

@@ -16,7 +16,7 @@ use Rattle.judging.proofs.Held.or.Reads as or-reads
 use Rattle.judging.proofs.Held.not.Reads as not-reads
 use Rattle.sets.proofs.is_member.Reads as is-member-reads
 use Rattle.judging.proofs.is_ordered.Reads as is-ordered-reads
-use Rattle.judging.proofs.is_valued.Reads as is-valued-reads
+use Rattle.judging.proofs.is_absent_or_valued.Reads as is-absent-or-valued-reads
 use Rattle.judging.proofs.+holds.{statement}
 use Rattle.judging.proofs.+holds.Tie.{close}
 
@@ -27,7 +27,7 @@ abbrev given : ℕ → In 3 kinds.ps
 given t = and 3 kinds.ps (is 3 kinds.ps μ t) reads.Pre
 
 abbrev claims : ℕ → lts.Claims
-claims t = (formula-here-reads.Asked, formula-here-reads.Learnt, and 3 kinds.ps (falls 3 kinds.ps _<_ μ t) reads.Pre, reads.Post, and-reads.Asked, and-reads.Learnt, or-reads.Asked, or-reads.Learnt, not-reads.Asked, not-reads.Learnt, is-member-reads.Asked, is-member-reads.Learnt, is-ordered-reads.Asked, is-ordered-reads.Learnt, is-valued-reads.Asked, is-valued-reads.Learnt)
+claims t = (formula-here-reads.Asked, formula-here-reads.Learnt, and 3 kinds.ps (falls 3 kinds.ps _<_ μ t) reads.Pre, reads.Post, and-reads.Asked, and-reads.Learnt, or-reads.Asked, or-reads.Learnt, not-reads.Asked, not-reads.Learnt, is-member-reads.Asked, is-member-reads.Learnt, is-ordered-reads.Asked, is-ordered-reads.Learnt, is-absent-or-valued-reads.Asked, is-absent-or-valued-reads.Learnt)
 
 module _ (t : ℕ) where
   formula-here-requires : lts.Need-formula-here-requires (claims t) (given t) reads.Post
@@ -90,8 +90,8 @@ module _ (t : ℕ) where
   enum-known-formula-8 : lts.Need-enum-known-formula-8 (claims t) (given t) reads.Post
   enum-known-formula-8 c = search needs
 
-  is-valued-requires : lts.Need-is-valued-requires (claims t) (given t) reads.Post
-  is-valued-requires c κs = search needs
+  is-absent-or-valued-requires : lts.Need-is-absent-or-valued-requires (claims t) (given t) reads.Post
+  is-absent-or-valued-requires c κs = search needs
 
   enum-told : lts.Need-enum-told (claims t) (given t) reads.Post
   enum-told c = search needs
@@ -131,7 +131,7 @@ module _ (t : ℕ) where
 
   returns-8 : lts.Need-returns-8 (claims t) (given t) reads.Post
   returns-8 c = let B = told _ _ (c .before .before .before .before .formula-here .ensures) (c .before .before .formula8 .given .1) in
-      (omega (arith, onward B .1), value-held _ B (c .is-valued .ensures))
+      (omega (arith, onward B .1), value-held _ B (c .is-absent-or-valued .ensures))
 
   returns-9 : lts.Need-returns-9 (claims t) (given t) reads.Post
   returns-9 c = (omega arith, no-walk _ _ (told _ _ (c .before .before .formula-here .ensures) (c .enum-told .given .1)) _ _)
@@ -158,7 +158,7 @@ pub +holds-spec : {M : Type 1} → statement M
     (enum-known-formula-7 t)
     (is-ordered-requires t)
     (enum-known-formula-8 t)
-    (is-valued-requires t)
+    (is-absent-or-valued-requires t)
     (enum-told t)
     (returns t)
     (returns-2 t)

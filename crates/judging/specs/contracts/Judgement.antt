@@ -51,7 +51,7 @@ unfoldable pub holdsValue : List Attribute → ℕ → ℕ → Bool
 holdsValue [] a m = false
 holdsValue (x ∷ δ) a m = (eqb (x .name) a && hasString (x .value) m) || holdsValue δ a m
 
--- The value test looks at absence first.
+-- The atoms of an element with these attributes and this word of contents. The value test looks at absence first.
 unfoldable pub atomsOf : List Attribute → List ℕ → Atoms
 unfolding isIn precedes holdsValue
 atomsOf δ w = record {

@@ -1,5 +1,5 @@
 -- Only a pair has contents at places.
-use Rattle.schemes.proofs.Placing.{no-pair-content, no-pair-value, pair-first, pair-second}
+use Rattle.schemes.proofs.Placing.{no-pair-content, pair-first, pair-second, no-pair-value}
 use borrow.Author.Needs.{needs}
 use Rattle.schemes.proofs.pair_place.Statement.{statement}
 use Rattle.schemes.proofs.pair_place.Tie as tie

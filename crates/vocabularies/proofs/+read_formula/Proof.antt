@@ -6,7 +6,7 @@ use borrow.Author.Needs.{needs}
 use borrow.Fn.Kinds.{In}
 use borrow.Fn.PlainCycle.{Measures, is, falls, and}
 use Rattle.vocabularies.proofs.Parts.{command-falls}
-use Rattle.vocabularies.proofs.Formulas.{formula-refused, formula-low, formula-high, formula-deep-one, formula-deep-two, formula-one, formula-first, formula-two, formula-falls}
+use Rattle.vocabularies.proofs.Formulas.{formula-refused, formula-deep-two, formula-deep-one, formula-first, formula-two, formula-one, formula-low, formula-high, formula-falls}
 use Rattle.vocabularies.proofs.read_formula.Reads as reads
 use Rattle.vocabularies.proofs.read_formula.Kinds as kinds
 use Rattle.vocabularies.proofs.+read_formula.Lts-read_formula as lts

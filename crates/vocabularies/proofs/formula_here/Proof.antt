@@ -1,5 +1,5 @@
 -- By the command that the step hands back.
-use Rattle.vocabularies.proofs.Walks.{none-past, conj-stands, disj-stands, neg-stands, truth-stands, attr-stands, content-stands, order-stands, value-stands, none-stands}
+use Rattle.vocabularies.proofs.Walks.{conj-stands, disj-stands, neg-stands, truth-stands, attr-stands, content-stands, order-stands, value-stands, none-past, none-stands}
 use borrow.Author.Needs.{needs}
 use Rattle.vocabularies.proofs.formula_here.Statement.{statement}
 use Rattle.vocabularies.proofs.formula_here.Tie as tie

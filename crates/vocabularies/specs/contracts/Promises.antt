@@ -58,13 +58,13 @@ module _ (t : Facts) (x : Kept.Fact) where
 abbrev pub FactsWith : Facts → Formula → Facts → Type 0
 FactsWith t ψ r = (xs : List Fact) → Represents t xs → Represents r (withFacts ψ xs)
 
--- A command of a shape stands at an offset, and `next` is behind it.
+-- The command at an offset makes a formula of this shape, and `next` is behind it.
 pub record Begins (s : List ℕ) (at : ℕ) (shape : Shape) (next : ℕ) : Type 0 where
   pub inside : at < length s
   pub shaped : shapeAt s at (byte s at) ≡ shape
   pub after : next ≡ at + 1 + operandBytes (byte s at)
 
--- The form of the formula that stands at an offset, in the order of section 6's grammar; or no formula stands there.
+-- What formula stands at an offset, form by form in the order of section 6's grammar; or none does.
 abbrev pub Stands : List ℕ → ℕ → FormulaHere → Type 0
 Stands s at (Conj next) = Begins s at (binary conj) (next .at)
 Stands s at (Disj next) = Begins s at (binary disj) (next .at)

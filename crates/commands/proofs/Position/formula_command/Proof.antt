@@ -1,5 +1,5 @@
 -- What a command of `10` to `13` is, `command` tells too.
-use Rattle.commands.proofs.Laws.{connective-moves}
+use Rattle.commands.proofs.Laws.{bare-formula-moves}
 use borrow.Author.Needs.{needs}
 use Rattle.commands.proofs.Position.formula_command.Statement.{statement}
 use Rattle.commands.proofs.Position.formula_command.Tie as tie
@@ -29,7 +29,7 @@ add-t5 : tie.Need-add-t5
 add-t5 c = search needs
 
 returns-4 : tie.Need-returns-4
-returns-4 c = search connective-moves
+returns-4 c = search bare-formula-moves
 
 pub formula-command-spec : {M : Type 1} → statement M
 formula-command-spec =

@@ -1,8 +1,8 @@
 -- Absence settles it; otherwise the string does.
-use borrow.Author.Tests.{not-true, not-false}
+use borrow.Author.Tests.{not-true}
 use borrow.Author.Needs.{needs}
-use Rattle.judging.proofs.is_valued.Statement.{statement}
-use Rattle.judging.proofs.is_valued.Tie as tie
+use Rattle.judging.proofs.is_absent_or_valued.Statement.{statement}
+use Rattle.judging.proofs.is_absent_or_valued.Tie as tie
 
 is-member-requires : tie.Need-is-member-requires
 is-member-requires c κs = search needs
@@ -23,8 +23,8 @@ has-requires c κs = search needs
 returns-2 : tie.Need-returns-2
 returns-2 c = rw (← c .before .before .before .is-member .ensures, c .before .before .if1 .left) (c .has .ensures)
 
-pub is-valued-spec : {M : Type 1} → statement M
-is-valued-spec =
+pub is-absent-or-valued-spec : {M : Type 1} → statement M
+is-absent-or-valued-spec =
     tie.close
     (tie.spec
     is-member-requires
