@@ -27,16 +27,16 @@ pub fn parts(random: &mut Random) -> (Draft, Vec<u8>, Vec<u8>) {
     (Draft { rules, root }, templates, program(random, fragments))
 }
 
-/// About text and one element: absent, there, at most one, more than one, in order.
+/// About text and one element: absent, more than one, there, at most one, in order.
 fn clauses(random: &mut Random, inner: u8) -> Vec<Vec<u8>> {
     let count = random.weighted(&[30, 45, 25]);
     let mut clause = |_| {
         let c = random.pick(&[0, inner]);
         match random.below(9) {
             0..=2 => vec![0x12, 0x15, c],
+            6..=7 => vec![0x12, 0x16, c, c],
             3 => vec![0x15, c],
             4..=5 => vec![0x16, c, c],
-            6..=7 => vec![0x12, 0x16, c, c],
             _ => vec![0x16, c, inner - c],
         }
     };

@@ -227,6 +227,7 @@ impl<'a> Judge<'a> {
                     let both = open.contents >> later & open.contents >> earlier & 1 == 1;
                     !(both && self.first[earlier as usize] < self.last[later as usize])
                 }
+                Node::Value(attribute, _) if open.attributes >> attribute & 1 == 0 => true,
                 Node::Value(attribute, set) => self.strings[attribute as usize] & set != 0,
             };
             stack = stack << 1 | holds as u64;

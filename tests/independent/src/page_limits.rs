@@ -31,10 +31,10 @@ pub fn long_vocabulary(length: usize, last: &[u8]) -> Vec<u8> {
     let end = [&[0x04][..], last, &ROOT].concat();
     while vocabulary.len() + end.len() < length {
         // Clauses of two and of three bytes reach every length.
-        if (length - vocabulary.len() - end.len()) % 2 == 1 {
-            vocabulary.extend([0x04, 0x15, 0]);
-        } else {
+        if (length - vocabulary.len() - end.len()).is_multiple_of(2) {
             vocabulary.extend([0x04, 0x13]);
+        } else {
+            vocabulary.extend([0x04, 0x15, 0]);
         }
     }
     [vocabulary, end].concat()
@@ -89,10 +89,10 @@ pub fn nested_formulas() -> Vec<Vec<u8>> {
             formulas.push(left);
             formulas.push(right);
         }
-        // The deep side comes second, under connectives of each kind.
+        // The deep side comes second, under connectives of each kind: in turn the first, the third, the second.
         let mut mixed = Vec::new();
         for level in 0..depth {
-            mixed.extend([&[0x10, 0x15, 0][..], &[0x12], &[0x11, 0x14, 0]][level % 3]);
+            mixed.extend([&[0x10, 0x15, 0][..], &[0x11, 0x14, 0], &[0x12]][level * 2 % 3]);
         }
         mixed.push(0x13);
         formulas.push(mixed);

@@ -1,5 +1,5 @@
 //! Patterns: which facts of a clause hold, one bit each. The lowest bits are the contents that are there, rising; then
-//! come the pairs that are out of order; then the attributes whose string is of the set, or that are absent.
+//! come the pairs that are out of order; then the attributes that are absent, or whose string is of the set.
 
 use crate::summary::StringSet;
 use crate::templates::GAP;
@@ -184,20 +184,20 @@ pub struct Clause {
 
 impl Clause {
     pub fn new(element: u8, all: &[Node], nodes: std::ops::Range<usize>) -> Clause {
+        let mut asks_presence = false;
         let mut contents = 0u64;
         let mut pairs = Vec::new();
         let mut values = Vec::new();
-        let mut asks_presence = false;
         for node in &all[nodes.clone()] {
             match *node {
+                Node::Clause | Node::And | Node::Or | Node::Not | Node::True => {}
+                Node::Attribute(_) => asks_presence = true,
                 Node::Content(content) => contents |= 1 << content,
                 Node::Order(later, earlier) => {
                     contents |= 1 << later | 1 << earlier;
                     pairs.push((later, earlier));
                 }
                 Node::Value(attribute, set) => values.push((attribute, set)),
-                Node::Attribute(_) => asks_presence = true,
-                _ => {}
             }
         }
         pairs.sort_unstable();

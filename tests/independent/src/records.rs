@@ -157,8 +157,8 @@ pub fn print_runs() -> io::Result<()> {
     out.flush()
 }
 
-/// Values that double at each step would fill the memory. The supplied lines tell `big` of a value of 532,404 bytes and not of one of
-/// 327,689: the limit is somewhere between.
+/// Values that double at each step would fill the memory. The papers have no such limit: the supplied lines tell `big`
+/// of a value of 532,404 bytes, and not of one of 327,689.
 const BIG: usize = 1 << 19;
 
 /// `shown COUNT` and for each page `R` if it is right, `W` if it is wrong; `big` where a value outgrows that; `N A B C`
