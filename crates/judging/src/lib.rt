@@ -261,7 +261,8 @@ fn is_settled(v: &[u8], here: Position, shape: Shape) -> Held
     }
 }
 
-// Whether all clauses from here on are met, by an element with these tables. Those from `to` on are met by all of its shape.
+// Whether all clauses from here on are met, by an element with these tables. Those from `to` on are met by all of its shape; where none
+// are known to be, `to` is the end of the bytes, and which ones are is found out on the way.
 fn all_hold(
     v: &[u8],
     from: Position,
@@ -291,10 +292,14 @@ fn all_hold(
                 settled: v.len(),
             };
         }
-        let same = is_settled(v, start, shape);
         place = held.next;
-        if !same.value {
+        if to < v.len() {
             settled = place.at;
+        } else {
+            let same = is_settled(v, start, shape);
+            if !same.value {
+                settled = place.at;
+            }
         }
     }
     Met {

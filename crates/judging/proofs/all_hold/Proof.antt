@@ -45,37 +45,44 @@ returns-2 c =
     let h = c .before .before .holds in
     (one-fails (l .inv) S (o .1) (o .2) (h .ensures .1) (not-true _ (c .if2 .taken)), end-settled _ _ _ (omega arith))
 
-is-settled-requires : tie.Need-is-settled-requires Inv-loop μ-loop
-is-settled-requires c κs = search needs
-
 loop-less : tie.Need-loop-less Inv-loop μ-loop
 loop-less c =
-    let o = past-over _ _ _ _ _ (c .before .before .before .before .before .before .before .before .before .before .past .ensures) (c .before .before .before .before .before .before .before .before .past2 .given .1) in
-    omega (arith, o .0, o .2, c .before .before .before .before .before .before .holds .ensures .0)
+    let o = past-over _ _ _ _ _ (c .before .before .before .before .before .before .before .before .past .ensures) (c .before .before .before .before .before .before .past2 .given .1) in
+    omega (arith, o .0, o .2, c .before .before .before .before .holds .ensures .0)
 
 loop-again : tie.Need-loop-again Inv-loop μ-loop
 loop-again c =
-    let a = c .before .before .before .before .before .before .before .before .before .before .before .before .before .before .before .args in
-    let l = c .before .before .before .before .before .before .before .before .before .before .before .before .before .loop in
-    let o = past-over _ _ _ _ _ (c .before .before .before .before .before .before .before .before .before .before .past .ensures) (c .before .before .before .before .before .before .before .before .past2 .given .1) in
+    let a = c .before .before .before .before .before .before .before .before .before .before .before .before .before .args in
+    let o = past-over _ _ _ _ _ (c .before .before .before .before .before .before .before .before .past .ensures) (c .before .before .before .before .before .before .past2 .given .1) in
     let S = table-shaped (a .shape) (a .strings .now) (a .order .now) in
-    let h = c .before .before .before .before .before .before .holds in
-    one-more (l .inv) S (o .1) (o .2) (h .ensures .1) (not-false _ (c .before .before .before .before .if2 .left))
+    one-more (c .before .before .before .before .before .before .before .before .before .before .before .loop .inv) S (o .1) (o .2) (c .before .before .before .before .holds .ensures .1) (not-false _ (c .before .before .if2 .left))
+
+is-settled-requires : tie.Need-is-settled-requires Inv-loop μ-loop
+is-settled-requires c κs = search needs
 
 loop-less-2 : tie.Need-loop-less-2 Inv-loop μ-loop
 loop-less-2 c =
-    let o = past-over _ _ _ _ _ (c .before .before .before .before .before .before .before .before .before .before .past .ensures) (c .before .before .before .before .before .before .before .before .past2 .given .1) in
-    omega (arith, o .0, o .2, c .before .before .before .before .before .before .holds .ensures .0)
+    let o = past-over _ _ _ _ _ (c .before .before .before .before .before .before .before .before .before .before .before .past .ensures) (c .before .before .before .before .before .before .before .before .before .past2 .given .1) in
+    omega (arith, o .0, o .2, c .before .before .before .before .before .before .before .holds .ensures .0)
 
 loop-again-2 : tie.Need-loop-again-2 Inv-loop μ-loop
 loop-again-2 c =
-    let a = c .before .before .before .before .before .before .before .before .before .before .before .before .before .before .before .args in
-    let l = c .before .before .before .before .before .before .before .before .before .before .before .before .before .loop in
-    let o = past-over _ _ _ _ _ (c .before .before .before .before .before .before .before .before .before .before .past .ensures) (c .before .before .before .before .before .before .before .before .past2 .given .1) in
+    let a = c .before .before .before .before .before .before .before .before .before .before .before .before .before .before .before .before .args in
+    let o = past-over _ _ _ _ _ (c .before .before .before .before .before .before .before .before .before .before .before .past .ensures) (c .before .before .before .before .before .before .before .before .before .past2 .given .1) in
     let S = table-shaped (a .shape) (a .strings .now) (a .order .now) in
-    let h = c .before .before .before .before .before .before .holds in
-    let i = c .before .before .before .is-settled in
-    one-settled (l .inv) S (o .1) (o .2) (h .ensures .1) (not-false _ (c .before .before .before .before .if2 .left)) (i .ensures .1) (not-false _ (c .if3 .left))
+    one-more (c .before .before .before .before .before .before .before .before .before .before .before .before .before .before .loop .inv) S (o .1) (o .2) (c .before .before .before .before .before .before .before .holds .ensures .1) (not-false _ (c .before .before .before .before .before .if2 .left))
+
+loop-less-3 : tie.Need-loop-less-3 Inv-loop μ-loop
+loop-less-3 c =
+    let o = past-over _ _ _ _ _ (c .before .before .before .before .before .before .before .before .before .before .before .past .ensures) (c .before .before .before .before .before .before .before .before .before .past2 .given .1) in
+    omega (arith, o .0, o .2, c .before .before .before .before .before .before .before .holds .ensures .0)
+
+loop-again-3 : tie.Need-loop-again-3 Inv-loop μ-loop
+loop-again-3 c =
+    let a = c .before .before .before .before .before .before .before .before .before .before .before .before .before .before .before .before .args in
+    let o = past-over _ _ _ _ _ (c .before .before .before .before .before .before .before .before .before .before .before .past .ensures) (c .before .before .before .before .before .before .before .before .before .past2 .given .1) in
+    let S = table-shaped (a .shape) (a .strings .now) (a .order .now) in
+    one-settled (c .before .before .before .before .before .before .before .before .before .before .before .before .before .before .loop .inv) S (o .1) (o .2) (c .before .before .before .before .before .before .before .holds .ensures .1) (not-false _ (c .before .before .before .before .before .if2 .left)) (c .before .before .is-settled .ensures .1) (not-false _ (c .if4 .left))
 
 returns-3 : tie.Need-returns-3 Inv-loop μ-loop
 returns-3 c =
@@ -95,9 +102,11 @@ all-hold-spec =
     returns
     holds-requires
     returns-2
-    is-settled-requires
     loop-less
     loop-again
+    is-settled-requires
     loop-less-2
     loop-again-2
+    loop-less-3
+    loop-again-3
     returns-3)
