@@ -82,15 +82,15 @@ module _ (v : List ℕ) (shape : Shape) where
       (subst (λ (n : ℕ). Settled v (record { names = n; contents = getD (getD shapes k []) 1 0 }) (getD (getD shapes k []) 2 0)) is (R .settled k small))
 
   -- One shape in place of another.
-  pub remembered-more : (shapes : List (List ℕ)) (k settled : ℕ) → Remembered v shapes → k < 64 → Settled v shape settled
-      → Remembered v (set shapes k (shape .names ∷ shape .contents ∷ settled ∷ []))
-  remembered-more shapes k settled R small T = record {
+  pub remembered-more : (shapes : List (List ℕ)) (k settled from : ℕ) → Remembered v shapes → k < 64 → Settled v shape settled
+      → Remembered v (set shapes k (shape .names ∷ shape .contents ∷ settled ∷ from ∷ []))
+  remembered-more shapes k settled from R small T = record {
     long = length-set shapes k _ ∙ R .long;
     settled = λ j low. by-test (eqb j k)
         (λ q.
         let z : j ≡ k = eqb-true j k q in
-        rw (z, getD-set-same shapes k (shape .names ∷ shape .contents ∷ settled ∷ []) [] (omega (arith, small, R .long))) T)
-        (λ q. rw (getD-set-other shapes k j (shape .names ∷ shape .contents ∷ settled ∷ []) [] (eqb-false j k q)) (R .settled j low));
+        rw (z, getD-set-same shapes k (shape .names ∷ shape .contents ∷ settled ∷ from ∷ []) [] (omega (arith, small, R .long))) T)
+        (λ q. rw (getD-set-other shapes k j (shape .names ∷ shape .contents ∷ settled ∷ from ∷ []) [] (eqb-false j k q)) (R .settled j low));
   }
 
 rows : (row : List ℕ) (n k : ℕ) → k < n → getD (replicate n row) k [] ≡ row
@@ -99,8 +99,8 @@ rows row (suc n) zero h = refl
 rows row (suc n) (suc k) h = rows row n k (omega arith)
 
 -- Before the first element.
-pub nothing-remembered : (v : List ℕ) → Remembered v (replicate 64 (0 ∷ 0 ∷ length v ∷ []))
+pub nothing-remembered : (v : List ℕ) → Remembered v (replicate 64 (0 ∷ 0 ∷ length v ∷ 0 ∷ []))
 nothing-remembered v = record {
   long = refl;
-  settled = λ k low. rw (rows (0 ∷ 0 ∷ length v ∷ []) 64 k low) (end-settled v _ (length v) (omega arith));
+  settled = λ k low. rw (rows (0 ∷ 0 ∷ length v ∷ 0 ∷ []) 64 k low) (end-settled v _ (length v) (omega arith));
 }

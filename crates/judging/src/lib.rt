@@ -79,6 +79,16 @@ const FIRST: usize = 0;
 
 const LAST: usize = 1;
 
+// A row of the table of shapes: a shape's attributes and contents, the offset from which on all elements of that shape meet all clauses, and
+// where the clauses stand of the rule for which that was found.
+const SHAPE_NAMES: usize = 0;
+
+const SHAPE_CONTENTS: usize = 1;
+
+const SETTLED_FROM: usize = 2;
+
+const RULE_CLAUSES: usize = 3;
+
 impl Held {
     // Whether it is so of this formula and of the one after it.
     fn and(self, second: Held) -> Held
@@ -225,7 +235,7 @@ fn lacks_one(set: u64, c: u8, d: u8) -> bool
 }
 
 // Whether the formula here is as true of one element of this shape as of another: it looks at no order of two contents that both stand
-// inside, and at no string of an attribute that is there. So both parts have to be, of a disjunction too.
+// inside, and at no string of an attribute that is there. Of a disjunction, too, both parts have to be so.
 fn is_settled(v: &[u8], here: Position, shape: Shape) -> Held
     ensures forward { λ r. ⌜ here .at ≤ r .next .at ⌝ }
     ensures settled { λ r. ⌜ Decides shape (now (v .entry)) (here .at) (r .value) (r .next .at) ⌝ }
@@ -261,8 +271,8 @@ fn is_settled(v: &[u8], here: Position, shape: Shape) -> Held
     }
 }
 
-// Whether all clauses from here on are met, by an element with these tables. Those from `to` on are met by all of its shape; where none
-// are known to be, `to` is the end of the bytes, and which ones are is found out on the way.
+// Whether all clauses from here on are met, by an element with these tables. Those from `to` on are met by all of its shape; while no
+// offset is known for the shape and the rule, `to` is the end of the bytes, and the offset is found on the way.
 fn all_hold(
     v: &[u8],
     from: Position,
@@ -309,10 +319,10 @@ fn all_hold(
 }
 
 // The table of shapes before the first element: no clauses stand from the end of the bytes on.
-pub fn no_shapes(v: &[u8]) -> [[u64; 3]; 64]
+pub fn no_shapes(v: &[u8]) -> [[u64; 4]; 64]
     ensures { λ r. ⌜ Remembered (now (v .entry)) r ⌝ }
 {
-    let none = [0u64, 0u64, v.len() as u64];
+    let none = [0u64, 0u64, v.len() as u64, 0u64];
     [none; 64]
 }
 
@@ -326,27 +336,38 @@ fn shape_place(shape: Shape, from: usize) -> usize
     ((folded ^ (folded >> 6) ^ (folded >> 12) ^ from as u64) % 64) as usize
 }
 
-// The offset from which on all elements of this shape are known to meet all clauses, by what stands at a place of the table.
-fn settled_from(v: &[u8], shapes: &[[u64; 3]; 64], place: usize, shape: Shape) -> usize
+// The offset from which on all elements of this shape are known to meet all clauses, by what stands at a place of the table for the rule
+// that has its clauses at `from`; the end of the bytes, where nothing stands there for it.
+fn settled_from(v: &[u8], shapes: &[[u64; 4]; 64], place: usize, shape: Shape, from: usize) -> usize
     requires { ⌜ (place < 64) × Remembered (now v) (now shapes) ⌝ }
     ensures { λ r. ⌜ Settled (now (v .entry)) shape r ⌝ }
 {
     let known = shapes[place];
-    if known[0] != shape.names {
+    if known[SHAPE_NAMES] != shape.names {
         return v.len();
     }
-    if known[1] != shape.contents {
+    if known[SHAPE_CONTENTS] != shape.contents {
         return v.len();
     }
-    known[2] as usize
+    if known[RULE_CLAUSES] != from as u64 {
+        return v.len();
+    }
+    known[SETTLED_FROM] as usize
 }
 
 // That offset is kept at the place, for elements that come later.
-fn remember(v: &[u8], shapes: &mut [[u64; 3]; 64], place: usize, shape: Shape, settled: usize)
+fn remember(
+    v: &[u8],
+    shapes: &mut [[u64; 4]; 64],
+    place: usize,
+    shape: Shape,
+    from: usize,
+    settled: usize,
+)
     requires { ⌜ (place < 64) × Remembered (now v) (now shapes) × Settled (now v) shape settled ⌝ }
     ensures { λ _. ⌜ Remembered (now (v .entry)) (now (shapes .exit)) ⌝ }
 {
-    let known = [shape.names, shape.contents, settled as u64];
+    let known = [shape.names, shape.contents, settled as u64, from as u64];
     shapes[place] = known;
 }
 
@@ -357,7 +378,7 @@ fn is_right(
     shape: Shape,
     strings: &[u8; 32],
     order: &[[u8; 2]; 64],
-    shapes: &mut [[u64; 3]; 64],
+    shapes: &mut [[u64; 4]; 64],
 ) -> bool
     requires { ⌜ Remembered (now v) (now shapes) ⌝ }
     ensures right { λ r. ⌜ IsRight (now (v .entry)) rule shape (now (strings .entry)) (now (order .entry)) r ⌝ }
@@ -371,9 +392,9 @@ fn is_right(
     }
     let from = rule.clauses;
     let place = shape_place(shape, from.at);
-    let to = settled_from(v, shapes, place, shape);
+    let to = settled_from(v, shapes, place, shape, from.at);
     let met = all_hold(v, from, to, shape, strings, order);
-    remember(v, shapes, place, shape, met.settled);
+    remember(v, shapes, place, shape, from.at, met.settled);
     met.value
 }
 
@@ -466,7 +487,7 @@ pub fn judge_item(
     clauses: &[usize; 64],
     p: &[u8],
     here: Position,
-    shapes: &mut [[u64; 3]; 64],
+    shapes: &mut [[u64; 4]; 64],
 ) -> Judged
     requires { ⌜ Remembered (now v) (now shapes) ⌝ }
     ensures remembered { λ _. ⌜ Remembered (now (v .entry)) (now (shapes .exit)) ⌝ }
@@ -512,7 +533,7 @@ fn judge_items(
     p: &[u8],
     here: Position,
     order: &mut [[u8; 2]; 64],
-    shapes: &mut [[u64; 3]; 64],
+    shapes: &mut [[u64; 4]; 64],
 ) -> Listed
     requires { ⌜ (length (now order) ≡ 64) × Remembered (now v) (now shapes) ⌝ }
     ensures remembered { λ _. ⌜ Remembered (now (v .entry)) (now (shapes .exit)) ⌝ }

@@ -11,7 +11,7 @@ element-set-from-known : tie.Need-element-set-from-known
 element-set-from-known c = search needs
 
 returns : tie.Need-returns
-returns c = remembered-more _ (c .args .shape) _ _ _ (c .pre .1) (c .pre .0) (c .pre .2)
+returns c = remembered-more _ (c .args .shape) _ _ _ _ (c .pre .1) (c .pre .0) (c .pre .2)
 
 pub remember-spec : {M : Type 1} → statement M
 remember-spec =

@@ -78,7 +78,8 @@ AllHold A v at b = (f end : ℕ) (ψs : List Formula) → clauses f v at ≡ who
 pub record Settled (v : List ℕ) (shape : Shape) (to : ℕ) : Type 0 where
   pub met : (A : Atoms) → Shaped shape A → AllHold A v to true
 
--- A row of the table of shapes: attributes and contents, and an offset from which on all elements of that shape meet all clauses.
+-- A row of the table of shapes: attributes and contents, and an offset from which on all elements of that shape meet all clauses. Its last
+-- number tells for which rule the row was made; the row holds of any.
 abbrev pub SettledRow : List ℕ → List ℕ → Type 0
 SettledRow v row = Settled v (record { names = getD row 0 0; contents = getD row 1 0 }) (getD row 2 0)
 
