@@ -1,11 +1,11 @@
 #!/bin/sh
 # vectors.sh VECTORS: makes anew what the programs of the gate read and have to print. VECTORS is the folder of supplied vectors; the
 # random records and those at the limits come from tests/independent, always the same for these seeds. The records called blank have
-# much blank text, those called frames many shows in a frame.
+# much blank text, those called frames many shows in a frame, those called absent attributes that can be absent.
 set -eu
 vectors=$(cd "$1" && pwd)
 # What the calls answer since the newest request; it takes the place of the folders of earlier ones.
-newest="$vectors/F-4"
+newest="$vectors/F-5"
 cd "$(dirname "$0")/.."
 : "${CARGO_TARGET_DIR:=$PWD/target/independent}"
 export CARGO_TARGET_DIR
@@ -23,6 +23,16 @@ make="$CARGO_TARGET_DIR/release"
 "$make/make-scripts" 2 500 "$made/blank-scripts.bin" "$made/blank-scripts.lines" blank
 "$make/make-jobs" 3 1000 "$made/framed-jobs.bin" "$made/framed-jobs.verdicts" frames
 "$make/make-scripts" 3 500 "$made/framed-scripts.bin" "$made/framed-scripts.lines" frames
+"$make/make-pages" 4 1000 "$made/absent-pages.bin" "$made/absent-pages.verdicts" absent
+"$make/make-jobs" 4 1000 "$made/absent-jobs.bin" "$made/absent-jobs.verdicts" absent
+"$make/make-scripts" 4 500 "$made/absent-scripts.bin" "$made/absent-scripts.lines" absent
+
+# moved PROGRAM RECORDS LINES: the lines of supplied records, of which F-5 has moved some. Without it the independent program prints the
+# supplied ones.
+moved() {
+    "$make/$1" before-F-5 < "$2" | cmp - "$3"
+    "$make/$1" < "$2"
+}
 
 # length N: N as 32 bits, lowest byte first.
 length() {
@@ -43,14 +53,17 @@ echo '1 0 0 0' > crates/page_check/stdout
 
 # At the end a job that is too long, J1, and a byte of a length: no line is for that one.
 {
-    cat "$vectors"/jobs-*.bin "$newest/job.bin" "$made/jobs.bin" "$made/blank-jobs.bin" "$made/framed-jobs.bin" "$made/job-limits.bin"
+    cat "$vectors"/jobs-*.bin "$newest/job.bin" "$made/jobs.bin" "$made/blank-jobs.bin" "$made/framed-jobs.bin" "$made/absent-jobs.bin" "$made/job-limits.bin"
     too_long examples/J1
     length 121
     cat examples/J1
     printf '\000'
 } > crates/check_records/stdin
 {
-    cat "$vectors"/jobs-*.verdicts "$newest/job.lines" "$made/jobs.verdicts" "$made/blank-jobs.verdicts" "$made/framed-jobs.verdicts" "$made/job-limits.verdicts"
+    for supplied in "$vectors"/jobs-*.bin; do
+        moved check-records "$supplied" "${supplied%.bin}.verdicts"
+    done
+    cat "$newest/job.lines" "$made/jobs.verdicts" "$made/blank-jobs.verdicts" "$made/framed-jobs.verdicts" "$made/absent-jobs.verdicts" "$made/job-limits.verdicts"
     echo '1 0 0 0'
     echo '0 0 0 0'
 } > crates/check_records/stdout
@@ -59,7 +72,7 @@ echo '1 0 0 0' > crates/page_check/stdout
 head -c 23 examples/page.records | tail -c 19 > "$made/vocabulary"
 tail -c 8 examples/page.records > "$made/page"
 {
-    cat "$vectors/pages.bin" "$newest/judge.bin" "$made/pages.bin" "$made/blank-pages.bin" "$made/limits.bin"
+    cat "$vectors/pages.bin" "$newest/judge.bin" "$made/pages.bin" "$made/blank-pages.bin" "$made/absent-pages.bin" "$made/limits.bin"
     too_long "$made/vocabulary"
     length 8
     cat "$made/page"
@@ -73,7 +86,8 @@ tail -c 8 examples/page.records > "$made/page"
     cat "$made/page"
 } > crates/judge_records/stdin
 {
-    cat "$vectors/pages.verdicts" "$newest/judge.lines" "$made/pages.verdicts" "$made/blank-pages.verdicts" "$made/limits.verdicts"
+    moved judge-records "$vectors/pages.bin" "$vectors/pages.verdicts"
+    cat "$newest/judge.lines" "$made/pages.verdicts" "$made/blank-pages.verdicts" "$made/absent-pages.verdicts" "$made/limits.verdicts"
     echo '1 0 0 0'
     echo '1 0 1 0'
     echo '0 0 0 0'
@@ -81,14 +95,14 @@ tail -c 8 examples/page.records > "$made/page"
 
 # At the end a script that is too long, J1's, and a byte of a length.
 {
-    cat "$newest/infer.bin" "$made/scripts.bin" "$made/blank-scripts.bin" "$made/framed-scripts.bin"
+    cat "$newest/infer.bin" "$made/scripts.bin" "$made/blank-scripts.bin" "$made/framed-scripts.bin" "$made/absent-scripts.bin"
     too_long examples/J1.script
     length 56
     cat examples/J1.script
     printf '\000'
 } > crates/infer_records/stdin
 {
-    cat "$newest/infer.lines" "$made/scripts.lines" "$made/blank-scripts.lines" "$made/framed-scripts.lines"
+    cat "$newest/infer.lines" "$made/scripts.lines" "$made/blank-scripts.lines" "$made/framed-scripts.lines" "$made/absent-scripts.lines"
     echo '1 0 0 0'
     echo "ok 65 $(tail -c 65 examples/J1 | od -An -v -tx1 | tr -d ' \n' | tr a-f A-F)"
 } > crates/infer_records/stdout

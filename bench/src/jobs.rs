@@ -5,12 +5,13 @@ use independent::least::with_least;
 
 type Maker = fn(usize) -> Vec<u8>;
 
-pub const GROWING: [(&str, Maker); 8] = [
+pub const GROWING: [(&str, Maker); 9] = [
     ("mostly proposal", proposal),
     ("31 templates, 28 shows", shows),
     ("31 templates, 28 framed shows", framed),
     ("many rounds, by templates", rounds),
     ("8 facts, by clauses", facts),
+    ("8 facts, by attribute gaps", attribute_gaps),
     ("thousands of clauses", clauses),
     ("thousands of gaps", gaps),
     ("half blank text", blank),
@@ -74,6 +75,17 @@ fn program(shows: &[Vec<u8>]) -> Vec<u8> {
 
 /// The edges are held from point 1 on.
 fn job(vocabulary: Vec<u8>, templates: Vec<Vec<u8>>, shows: &[Vec<u8>], edges: &[[u8; 3]]) -> Vec<u8> {
+    job_with_strings(vocabulary, templates, shows, edges, &[])
+}
+
+/// The edges, and the strings at attribute gaps, are held from point 1 on.
+fn job_with_strings(
+    vocabulary: Vec<u8>,
+    templates: Vec<Vec<u8>>,
+    shows: &[Vec<u8>],
+    edges: &[[u8; 3]],
+    strings: &[[u8; 3]],
+) -> Vec<u8> {
     let mut start = vocabulary;
     for template in templates {
         start.push(0x20);
@@ -83,10 +95,12 @@ fn job(vocabulary: Vec<u8>, templates: Vec<Vec<u8>>, shows: &[Vec<u8>], edges: &
     start.push(0x2F);
     start.extend(program(shows));
     let mut held = vec![0x40, 1, 0];
-    let mut edges = edges.to_vec();
-    edges.sort();
-    for [n, g, m] in edges {
-        held.extend([0x42, n, g, m]);
+    for (command, items) in [(0x42, edges), (0x43, strings)] {
+        let mut items = items.to_vec();
+        items.sort();
+        for [n, gap, to] in items {
+            held.extend([command, n, gap, to]);
+        }
     }
     with_least(&start, &held).expect("a job that reads")
 }
@@ -162,6 +176,52 @@ fn rounds(quarters: usize) -> Vec<u8> {
 
 fn facts(quarters: usize) -> Vec<u8> {
     chain(31, 8 * quarters)
+}
+
+/// The strings at each attribute gap, eight apart.
+const STRINGS: u8 = 4;
+
+/// A clause of eight facts about two attributes and two contents: where a content is not there, its attribute is of one set, or
+/// it is there and of the other. The strings lie in one set, the other or both, and absence counts as in both, so that every page
+/// meets the clause; but it is not true of all patterns.
+fn of_two_sets(i: usize) -> Vec<u8> {
+    let first = (i % 8) as u8;
+    let second = ((i + 1 + i / 8) % 8) as u8;
+    let [one, other] = [0x00FF_FFFFu32, 0xFFFF_0000].map(|set| (set.rotate_left(8 * (i % 4) as u32) as u64).to_be_bytes());
+    let mut clause = vec![0x10];
+    for (a, c) in [(first, i % 4), (second, (i + 1) % 4)] {
+        clause.extend([0x11, 0x15, 2 + c as u8, 0x11, 0x17, a]);
+        clause.extend(one);
+        clause.extend([0x10, 0x14, a, 0x17, a]);
+        clause.extend(other);
+    }
+    clause
+}
+
+/// Elements in one another's place: each has eight attributes by attribute gaps that stay open or take a string, and two gaps that
+/// stay open or take one of four elements. No two that stand side by side have the same gap for an attribute.
+fn attribute_gaps(quarters: usize) -> Vec<u8> {
+    let mut template = vec![0x23, 1];
+    for i in 0..450 * quarters {
+        template.extend([0x23, 1]);
+        for a in 0..8 {
+            template.extend([0x25, a, (a + i as u8) % 8]);
+        }
+        template.extend([0x22, 0, 0x22, 1, 0x26]);
+    }
+    template.push(0x26);
+    let mut templates = vec![template];
+    let mut edges = Vec::new();
+    for e in 2..=5 {
+        templates.push(vec![0x23, e, 0x26]);
+        edges.extend([[1, 0, e], [1, 1, e]]);
+    }
+    let strings: Vec<[u8; 3]> = (0..8 * STRINGS).map(|s| [1, s % 8, s]).collect();
+    let clauses: Vec<Vec<u8>> = (0..32).map(of_two_sets).collect();
+    let mut rules = vocabulary(5, &clauses);
+    // Element 1 may have all these attributes.
+    rules.splice(2..2, (0..8).flat_map(|a| [0x02, a]));
+    job_with_strings(rules, templates, &[SHOW.to_vec()], &edges, &strings)
 }
 
 fn clauses(quarters: usize) -> Vec<u8> {

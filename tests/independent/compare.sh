@@ -11,13 +11,18 @@ work=$(mktemp -d)
 trap 'rm -rf "$work"' EXIT
 status=0
 
-# answer PROGRAM RECORDS LINES: leaves the numbers of the records with another line in $work/differing.
+# differing LINES FOUND: the numbers of the lines that are not the same.
+differing() {
+    awk 'NR == FNR { line[FNR] = $0; next } line[FNR] != $0 { print FNR } END { if (FNR != n) print "count" }' \
+        n="$(wc -l < "$1")" "$1" "$2"
+}
+
+# answer PROGRAM RECORDS LINES [before-F-5]: leaves the numbers of the records with another line in $work/differing.
 answer() {
-    "$programs/$1" < "$2" > "$work/found"
+    "$programs/$1" ${4:-} < "$2" > "$work/found"
     name="$1 $(basename "$(dirname "$2")")/$(basename "$2")"
     lines=$(wc -l < "$3")
-    awk 'NR == FNR { line[FNR] = $0; next } line[FNR] != $0 { print FNR } END { if (FNR != n) print "count" }' \
-        n="$lines" "$3" "$work/found" > "$work/differing"
+    differing "$3" "$work/found" > "$work/differing"
     differ=$(wc -l < "$work/differing")
 }
 
@@ -32,18 +37,24 @@ compare() {
     fi
 }
 
-# compare_older COMMANDS PROGRAM RECORDS LINES SLICES: the lines are older than the commands. One of these that the
-# reading came to was refused with 3 there; only such answers may have moved.
+# compare_older COMMANDS PROGRAM RECORDS LINES SLICES: the lines are older than F-5, and the answers from before it are
+# compared. If they are older than the commands too, one of these that the reading came to was refused with 3 there; only
+# such answers may have moved. COMMANDS is "none" where there are no such commands.
 compare_older() {
-    answer "$2" "$3" "$4"
-    "$programs/refused-at" "$1" "$5" "$4" < "$3" > "$work/refused"
+    answer "$2" "$3" "$4" before-F-5
+    : > "$work/refused"
+    if [ "$1" != none ]; then
+        "$programs/refused-at" "$1" "$5" "$4" < "$3" > "$work/refused"
+    fi
+    "$programs/$2" < "$3" > "$work/now"
+    moved="$(differing "$work/found" "$work/now" | wc -l) moved by F-5"
     if grep -vxF -f "$work/refused" "$work/differing" > "$work/unexplained"; then
-        echo "$name: $(wc -l < "$work/unexplained") of $lines differ, not refused with 3 at $1 before"
+        echo "$name: $(wc -l < "$work/unexplained") of $lines differ, and not by F-5 or a 3 at later commands"
         status=1
     elif [ "$differ" -eq 0 ]; then
-        echo "$name: all $lines agree"
+        echo "$name: all $lines agreed, $moved"
     else
-        echo "$name: $((lines - differ)) of $lines agree, $differ moved, each refused with 3 at $1 before"
+        echo "$name: $((lines - differ)) of $lines agreed, $differ refused with 3 at $1 before, $moved"
     fi
 }
 
@@ -61,9 +72,11 @@ for kind in judge:judge:2 check:job:1 infer:infer:1 run:run:2; do
     slices=${kind##*:}
     kind=${kind#*:}
     kind=${kind%:*}
-    compare_older 29,39 "$program" "$vectors/F-1/$kind.bin" "$vectors/F-1/$kind.lines" "$slices"
-    compare_older 39 "$program" "$vectors/F-2/$kind.bin" "$vectors/F-2/$kind.lines" "$slices"
-    for landed in F-3 F-4; do
+    for older in F-1:29,39 F-2:39 F-3:none F-4:none; do
+        request=${older%%:*}
+        compare_older "${older#*:}" "$program" "$vectors/$request/$kind.bin" "$vectors/$request/$kind.lines" "$slices"
+    done
+    for landed in F-5; do
         compare "$program" "$vectors/$landed/$kind.bin" "$vectors/$landed/$kind.lines"
     done
 done

@@ -5,7 +5,7 @@ use mathlib.Core.List.{List}
 use Rattle.pages.specs.Items.{Attribute, Item, text, blank, element, Items, none, more, one, _⋈_}
 use Rattle.programs.specs.Program.{templateAt}
 use Rattle.summaries.specs.Summaries.{Summary}
-use Rattle.summaries.specs.Languages.{AttributesDerive, no-attribute, fixed, filled, Derives, ItemDerives, item-then, text-stays, blank-stays, gap-takes, element-keeps, DerivedFrom}
+use Rattle.summaries.specs.Languages.{AttributesDerive, no-attribute, fixed, filled, dropped, Derives, ItemDerives, item-then, text-stays, blank-stays, gap-takes, element-keeps, DerivedFrom}
 use Rattle.summaries.specs.Languages as Languages
 use Rattle.blank_text.proofs.Alike.{Alike, nothing, blank-here, blank-there, both, AlikeItem, both-text, both-gap, both-element, appended}
 
@@ -28,6 +28,7 @@ module _ (M : ℕ → ℕ → Type 0) (φs φs′ : List Items) (alike : (t : �
   attributes-there no-attribute = no-attribute
   attributes-there (fixed d) = fixed (attributes-there d)
   attributes-there (filled s e d) = filled s e (attributes-there d)
+  attributes-there (dropped e d) = dropped e (attributes-there d)
 
   -- An item and those behind it, if each has its like whatever is like it.
   then-like : {n : ℕ} {i : Item} {φ φ′ u v w : Items} → ItemDerives φs G n i u → ((i′ : Item) → AlikeItem M i i′ → Like (ItemDerives φs′ G n i′) u)

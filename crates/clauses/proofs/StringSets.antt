@@ -3,6 +3,7 @@ use Prim.Native.Nat.{ℕ, suc, _+_, _^_, _<_, _≤_}
 use mathlib.Core.Path.{_≡_, refl, sym, ap, subst, _∙_}
 use mathlib.Core.List.{List, [], _∷_}
 use mathlib.Core.Bool.{Bool, true, false, not, _&&_, _||_, false≢true}
+use mathlib.Core.Option.{Option, some, none}
 use mathlib.Core.Logic.{_⊎_, inl, inr, ⊎-elim}
 use native.Mathlib.Decide.{ℕ-discrete}
 use native.Mathlib.Omega.{arith}
@@ -15,20 +16,21 @@ use Rattle.strings.specs.contracts.Promises.{hasString, FirstString}
 use Rattle.strings.proofs.Laws.{outside}
 use Rattle.vocabularies.specs.declared.Facts.{Facts}
 use Rattle.vocabularies.specs.Facts.{Fact, present}
-use Rattle.vocabularies.specs.contracts.Promises.{Represents}
+use Rattle.vocabularies.specs.contracts.Promises.{Stored, Represents}
 use Rattle.patterns.specs.contracts.Patterns.{flagged, numbered, patternOf}
 use Rattle.patterns.specs.contracts.Morphisms.{factMorphism}
 use Rattle.patterns.specs.contracts.Rounds.{only, anyNamed}
-use Rattle.patterns.specs.contracts.Elements.{attributePattern}
+use Rattle.patterns.specs.contracts.Elements.{attributePattern, absencePattern, takenPatterns}
 use Rattle.patterns.proofs.Tests.{any-below, below-any}
 use Rattle.sets.proofs.Booleans.{or-left, or-right, or-cases, and-both, and-left, and-right, alike, refuted}
 use Rattle.patterns.proofs.Clauses.{pattern-below}
+use Rattle.patterns.proofs.Bits.{pattern-of-nothing}
+use Rattle.patterns.proofs.Attributes.{Attained, attained-taken, taken-attained}
 use Rattle.pattern_sets.specs.contracts.PatternSets.{holds}
 use Rattle.schemes.specs.contracts.Schemes.{Is}
 use Rattle.schemes.specs.contracts.Promises.{OfFacts}
 use Rattle.schemes.proofs.Placing.{few-count}
-use Rattle.clauses.specs.contracts.Promises.{alone, agree, Alike, WithPatterns}
-use Rattle.clauses.proofs.AttributeFlags.{TellsAt}
+use Rattle.clauses.specs.contracts.Promises.{alone, agree, TellsApart, Alike, WithPatterns}
 
 -- ---- strings alike
 
@@ -70,18 +72,18 @@ module _ (t : Facts) (a s : ℕ) where
     flags = λ fs h few k m j l b. absurd (omega arith);
   }
 
-  module _ (i : ℕ) (set told more : StringSet) (b : i < 8) (here : i < t .count) (tells : TellsAt t i a told)
+  module _ (i : ℕ) (set told more : StringSet) (b : i < 8) (here : i < t .count) (tells : (f : Fact) → Stored t i f → TellsApart f a told)
       (narrows : (k : ℕ) → hasString more k ≡ (hasString set k && agree (hasString told s) (hasString told k))) (so-far : AlikeTo i set) where
-    -- The flag of the fact at the place.
-    flag : (fs : List Fact) → Represents t fs → length fs ≤ 8 → (k : ℕ) → hasString told k ≡ flagged (alone a k) [] (getD fs i (present 0))
-    flag fs h few k = let e : t .count ≡ length fs = few-count t fs h few in tells (getD fs i (present 0)) (h .stores i b (omega arith)) k
+    -- The fact at the place.
+    tells-here : (fs : List Fact) → Represents t fs → length fs ≤ 8 → TellsApart (getD fs i (present 0)) a told
+    tells-here fs h few = let e : t .count ≡ length fs = few-count t fs h few in tells (getD fs i (present 0)) (h .stores i b (omega arith))
 
     flag-at : (fs : List Fact) → Represents t fs → length fs ≤ 8 → (k : ℕ) → hasString set k ≡ true → hasString told k ≡ hasString told s
         → (j : ℕ) → j < i + 1 → j < length fs → Dec (j ≡ i)
         → flagged (alone a k) [] (getD fs j (present 0)) ≡ flagged (alone a s) [] (getD fs j (present 0))
     flag-at fs h few k m e j l c (yes q) =
         subst (λ (v : ℕ). flagged (alone a k) [] (getD fs v (present 0)) ≡ flagged (alone a s) [] (getD fs v (present 0))) (sym q)
-        (sym (flag fs h few k) ∙ e ∙ flag fs h few s)
+        (tells-here fs h few s k e)
     flag-at fs h few k m e j l c (no n) = so-far .flags fs h few k m j (omega arith) c
 
     pub alike-more : AlikeTo (i + 1) more
@@ -184,58 +186,72 @@ module _ (fs : List Fact) (set : List ℕ) (a : ℕ) (named : StringSet) where
 
 -- ---- value patterns
 
-module _ (fs : List Fact) (a : ℕ) (words : List ℕ) (S : ℕ → Bool) where
-  -- Words that hold the pattern of each string of S, and no others.
-  exact : ((s : ℕ) → s ≤ strings → S s ≡ true → holds words (attributePattern fs a s) ≡ true)
-      → ((x : ℕ) → holds words x ≡ true → (s : ℕ) × (s ≤ strings) × (S s ≡ true) × (attributePattern fs a s ≡ x))
-      → Is (factMorphism fs) words (λ x. anyNamed (λ s. S s && only (attributePattern fs a s) x))
+module _ (fs : List Fact) (a : ℕ) (words : List ℕ) (can : Option ℕ → Bool) where
+  too-large : (x : ℕ) → 2 ^ length fs ≤ x → Attained fs a can x → ⊥
+  too-large x l (inl (t, e)) = let b : absencePattern fs < 2 ^ length fs = pattern-below fs [] [] in omega arith
+  too-large x l (inr (s, m, t, e)) = let b : attributePattern fs a s < 2 ^ length fs = pattern-below fs (alone a s) [] in omega arith
+
+  -- Words that hold just what can be attained.
+  exact : ((x : ℕ) → Attained fs a can x → holds words x ≡ true) → ((x : ℕ) → holds words x ≡ true → Attained fs a can x) → Is (factMorphism fs) words (takenPatterns fs a can)
   exact complete sound = record {
-    inside = λ x l. alike (holds words x) (anyNamed (λ s. S s && only (attributePattern fs a s) x)) (λ h. into x (sound x h)) (out x);
+    inside = λ x l. alike (holds words x) (takenPatterns fs a can x) (λ h. attained-taken fs a can x (sound x h)) (λ e. complete x (taken-attained fs a can x e));
     outside = λ x l. refuted (holds words x) (λ h. too-large x l (sound x h));
   }
-    where
-      into : (x : ℕ) → (s : ℕ) × (s ≤ strings) × (S s ≡ true) × (attributePattern fs a s ≡ x) → anyNamed (λ s. S s && only (attributePattern fs a s) x) ≡ true
-      into x (s, l, h, e) = any-below (suc strings) (λ s. S s && only (attributePattern fs a s) x) s (omega arith) (and-both _ _ h (eq-eqb x (attributePattern fs a s) (sym e)))
 
-      out : (x : ℕ) → anyNamed (λ s. S s && only (attributePattern fs a s) x) ≡ true → holds words x ≡ true
-      out x e =
-          let (s, l, h) = below-any (suc strings) (λ s. S s && only (attributePattern fs a s) x) e in
-          let q : x ≡ attributePattern fs a s = eqb-true x (attributePattern fs a s) (and-right (S s) (eqb x (attributePattern fs a s)) h) in
-          rw q (complete s (omega arith) (and-left (S s) (eqb x (attributePattern fs a s)) h))
+  -- The patterns that are there before those of strings: absence's, if it can be taken.
+  module _ (before : List ℕ) (absent : (x : ℕ) → holds before x ≡ (can none && eqb x 0)) where
+    absence-held : (x : ℕ) → can none ≡ true → x ≡ absencePattern fs → holds before x ≡ true
+    absence-held x v e = absent x ∙ and-both _ _ v (eq-eqb x 0 (e ∙ pattern-of-nothing fs))
 
-      too-large : (x : ℕ) → 2 ^ length fs ≤ x → (s : ℕ) × (s ≤ strings) × (S s ≡ true) × (attributePattern fs a s ≡ x) → ⊥
-      too-large x l (s, m, h, e) =
-          let b : attributePattern fs a s < 2 ^ length fs = pattern-below fs (alone a s) [] in
-          omega arith
+    held-absence : (x : ℕ) → holds before x ≡ true → Attained fs a can x
+    held-absence x h =
+        let q = sym (absent x) ∙ h in
+        inl (and-left (can none) (eqb x 0) q, eqb-true x 0 (and-right (can none) (eqb x 0) q) ∙ sym (pattern-of-nothing fs))
 
-  -- Over the strings of a set.
-  pub values-named : (set : List ℕ) (named : StringSet) → named .word < 2 ^ 64 → ((x : ℕ) → holds set x ≡ false) → WithPatterns fs set a named words
-      → ((s : ℕ) → s ≤ strings → S s ≡ hasString named s) → Is (factMorphism fs) words (λ x. anyNamed (λ s. S s && only (attributePattern fs a s) x))
-  values-named set named b none added is = exact
-      (λ s l h. let m = sym (is s l) ∙ h in added .complete s (named-below s m) m)
-      (λ x h. ⊎-elim (λ (q : holds set x ≡ true). absurd (false≢true (sym (none x) ∙ q)))
-      (λ (q : (s : ℕ) × (s < strings) × (hasString named s ≡ true) × (attributePattern fs a s ≡ x)).
-      (q .0, (let l : q .0 < strings = q .1 in omega arith), is (q .0) (let l : q .0 < strings = q .1 in omega arith) ∙ q .2, q .3))
-      (added .sound x h))
-    where
-      named-below : (s : ℕ) → hasString named s ≡ true → s < strings
-      named-below s m = go (ltb s strings) refl
-        where
-          go : (t : Bool) → ltb s strings ≡ t → s < strings
-          go true e = ltb-true s strings e
-          go false e = absurd (false≢true (sym (outside named b s (ltb-false s strings e)) ∙ m))
+    -- Over the strings of a set.
+    pub values-named : (named : StringSet) → named .word < 2 ^ 64 → WithPatterns fs before a named words
+        → ((s : ℕ) → can (some s) ≡ hasString named s) → Is (factMorphism fs) words (takenPatterns fs a can)
+    values-named named b added is = exact complete sound
+      where
+        named-below : (s : ℕ) → hasString named s ≡ true → s < strings
+        named-below s m = go (ltb s strings) refl
+          where
+            go : (t : Bool) → ltb s strings ≡ t → s < strings
+            go true e = ltb-true s strings e
+            go false e = absurd (false≢true (sym (outside named b s (ltb-false s strings e)) ∙ m))
 
-  -- Over any string: the named ones, and the one that stands for the others.
-  pub values-any : (set : List ℕ) (every : StringSet) (p : ℕ) → p ≡ attributePattern fs a strings → ((x : ℕ) → holds set x ≡ eqb x p)
-      → ((k : ℕ) → hasString every k ≡ ltb k strings) → WithPatterns fs set a every words
-      → ((s : ℕ) → s ≤ strings → S s ≡ true) → Is (factMorphism fs) words (λ x. anyNamed (λ s. S s && only (attributePattern fs a s) x))
-  values-any set every p e one all added is = exact
-      (λ s l h. pattern-of s l (ℕ-discrete s strings))
-      (λ x h. ⊎-elim (λ (q : holds set x ≡ true). (strings, omega arith, is strings (omega arith), sym e ∙ sym (eqb-true x p (sym (one x) ∙ q))))
-      (λ (q : (s : ℕ) × (s < strings) × (hasString every s ≡ true) × (attributePattern fs a s ≡ x)).
-      (q .0, (let l : q .0 < strings = q .1 in omega arith), is (q .0) (let l : q .0 < strings = q .1 in omega arith), q .3))
-      (added .sound x h))
-    where
-      pattern-of : (s : ℕ) → s ≤ strings → Dec (s ≡ strings) → holds words (attributePattern fs a s) ≡ true
-      pattern-of s l (yes q) = added .keeps (attributePattern fs a s) (one (attributePattern fs a s) ∙ eq-eqb (attributePattern fs a s) p (ap (attributePattern fs a) q ∙ sym e))
-      pattern-of s l (no n) = let b : s < strings = omega arith in added .complete s b (all s ∙ lt-ltb s strings b)
+        complete : (x : ℕ) → Attained fs a can x → holds words x ≡ true
+        complete x (inl (v, e)) = added .keeps x (absence-held x v e)
+        complete x (inr (s, l, v, e)) = let m = sym (is s) ∙ v in rw e (added .complete s (named-below s m) m)
+
+        sound : (x : ℕ) → holds words x ≡ true → Attained fs a can x
+        sound x h = ⊎-elim (held-absence x)
+            (λ (q : (s : ℕ) × (s < strings) × (hasString named s ≡ true) × (attributePattern fs a s ≡ x)).
+            inr (q .0, (let l : q .0 < strings = q .1 in omega arith), is (q .0) ∙ q .2, sym (q .3)))
+            (added .sound x h)
+
+    -- Over any string: the named ones, and the one that stands for the others.
+    pub values-any : (set : List ℕ) (every : StringSet) (p : ℕ) → p ≡ attributePattern fs a strings → ((x : ℕ) → holds set x ≡ (eqb x p || holds before x))
+        → ((k : ℕ) → hasString every k ≡ ltb k strings) → WithPatterns fs set a every words
+        → ((s : ℕ) → can (some s) ≡ true) → Is (factMorphism fs) words (takenPatterns fs a can)
+    values-any set every p e one all added is = exact complete sound
+      where
+        pattern-of : (s : ℕ) → s ≤ strings → Dec (s ≡ strings) → holds words (attributePattern fs a s) ≡ true
+        pattern-of s l (yes q) = added .keeps (attributePattern fs a s)
+            (one (attributePattern fs a s) ∙ or-left (eqb (attributePattern fs a s) p) (holds before (attributePattern fs a s))
+            (eq-eqb (attributePattern fs a s) p (ap (attributePattern fs a) q ∙ sym e)))
+        pattern-of s l (no n) = let b : s < strings = omega arith in added .complete s b (all s ∙ lt-ltb s strings b)
+
+        complete : (x : ℕ) → Attained fs a can x → holds words x ≡ true
+        complete x (inl (v, q)) = added .keeps x (one x ∙ or-right (eqb x p) (holds before x) (absence-held x v q))
+        complete x (inr (s, l, v, q)) = rw q (pattern-of s l (ℕ-discrete s strings))
+
+        sound : (x : ℕ) → holds words x ≡ true → Attained fs a can x
+        sound x h = ⊎-elim
+            (λ (q : holds set x ≡ true). ⊎-elim
+            (λ (r : eqb x p ≡ true). inr (strings, omega arith, is strings, eqb-true x p r ∙ e))
+            (held-absence x)
+            (or-cases (eqb x p) (holds before x) (sym (one x) ∙ q)))
+            (λ (q : (s : ℕ) × (s < strings) × (hasString every s ≡ true) × (attributePattern fs a s ≡ x)).
+            inr (q .0, (let l : q .0 < strings = q .1 in omega arith), is (q .0), sym (q .3)))
+            (added .sound x h)

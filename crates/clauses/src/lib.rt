@@ -3,24 +3,39 @@ ghost use mathlib.Core.Path.{_≡_};
 ghost use mathlib.Core.Bool.{not, _&&_, _||_};
 ghost use mathlib.Core.List.{[]};
 ghost use Prim.Native.Nat.{ℕ, _≤_, _<_};
-ghost use Rattle.strings.specs.contracts.Promises.{setNumber, hasString};
+ghost use lib.Dec.{eqb};
+ghost use Rattle.strings.specs.contracts.Promises.{hasString};
 ghost use Rattle.vocabularies.specs.contracts.Promises.{meaningOf};
 ghost use Rattle.patterns.specs.contracts.Patterns.{flagged};
 ghost use Rattle.pattern_sets.specs.contracts.PatternSets.{holds};
-ghost use Rattle.clauses.specs.contracts.Promises.{alone, agree, IsPattern, WithValued, ValuedNames, Alike, AddsPatterns, ValuePatterns, FlaggedBy, IsOrdered, IsValued, TruePatterns, ClauseFails};
+ghost use Rattle.clauses.specs.contracts.Promises.{alone, agree, TellsApart, IsPattern, WithName, WithAttribute, AttributesOf, Alike, AddsPatterns, ValuePatterns, FlaggedBy, UnbrokenBy, TruePatterns, ClauseFails};
 use commands::Position;
+use schemes::EMPTY;
+use strings::AttributeValues;
 use strings::OUTSIDE;
 use strings::StringSet;
-use strings::Values;
 use vocabularies::Fact;
 use vocabularies::Facts;
 use vocabularies::FormulaHere;
 
-// The strings with which attribute a alone has the flag of a fact.
-fn flagged_strings(fact: Fact, a: u8) -> StringSet
-    ensures { λ r. ⌜ ((s : ℕ) → hasString r s ≡ flagged (alone a s) [] (meaningOf fact)) ⌝ }
+// Whether attribute a with string s alone has the flag of a fact.
+fn is_flagged(fact: Fact, a: u8, s: u8) -> bool
+    ensures { λ r. ⌜ r ≡ flagged (alone a s) [] (meaningOf fact) ⌝ }
 {
     match fact {
+        Fact::Carried(of) => of == a,
+        Fact::Present(_) => false,
+        Fact::Ordered(_, _) => false,
+        Fact::Valued(of, set) => of == a && !strings::has(set, s),
+    }
+}
+
+// The strings that a fact about attribute a tells from the others.
+fn told_apart(fact: Fact, a: u8) -> StringSet
+    ensures { λ r. ⌜ TellsApart (meaningOf fact) a r ⌝ }
+{
+    match fact {
+        Fact::Carried(_) => strings::none(),
         Fact::Present(_) => strings::none(),
         Fact::Ordered(_, _) => strings::none(),
         Fact::Valued(of, set) => {
@@ -46,8 +61,7 @@ pub fn attribute_pattern(facts: Facts, a: u8, s: u8) -> u8
         i -= 1;
         let kept = facts.kept[i];
         let fact = kept.fact;
-        let told = flagged_strings(fact, a);
-        if strings::has(told, s) {
+        if is_flagged(fact, a, s) {
             pattern = pattern * 2 + 1;
         } else {
             pattern = pattern * 2;
@@ -56,25 +70,31 @@ pub fn attribute_pattern(facts: Facts, a: u8, s: u8) -> u8
     pattern
 }
 
+// Names with one more.
+fn with_name(names: u64, a: u8) -> u64
+    ensures { λ r. ⌜ WithName names a r ⌝ }
+{
+    if 64 <= a {
+        return names;
+    }
+    sets::with(names, a)
+}
+
 // Names with that of the attribute that a fact is about.
-fn with_valued(names: u64, fact: Fact) -> u64
-    ensures { λ r. ⌜ WithValued names (meaningOf fact) r ⌝ }
+fn with_attribute(names: u64, fact: Fact) -> u64
+    ensures { λ r. ⌜ WithAttribute names (meaningOf fact) r ⌝ }
 {
     match fact {
+        Fact::Carried(a) => with_name(names, a),
         Fact::Present(_) => names,
         Fact::Ordered(_, _) => names,
-        Fact::Valued(a, _) => {
-            if 64 <= a {
-                return names;
-            }
-            sets::with(names, a)
-        }
+        Fact::Valued(a, _) => with_name(names, a),
     }
 }
 
 // The names of the attributes that some fact is about. Every other attribute has no flag.
-pub fn valued_names(facts: Facts) -> u64
-    ensures { λ r. ⌜ ValuedNames facts r ⌝ }
+pub fn attributes_of(facts: Facts) -> u64
+    ensures { λ r. ⌜ AttributesOf facts r ⌝ }
 {
     let count = facts.count;
     let mut names: u64 = 0;
@@ -85,7 +105,7 @@ pub fn valued_names(facts: Facts) -> u64
         }
         let kept = facts.kept[i];
         let fact = kept.fact;
-        names = with_valued(names, fact);
+        names = with_attribute(names, fact);
         i += 1;
     }
     names
@@ -114,7 +134,7 @@ fn alike(facts: Facts, a: u8, s: u8) -> StringSet
         }
         let kept = facts.kept[i];
         let fact = kept.fact;
-        let told = flagged_strings(fact, a);
+        let told = told_apart(fact, a);
         set = with_same_flag(set, told, s);
         i += 1;
     }
@@ -137,15 +157,27 @@ fn with_patterns(facts: Facts, set: [u64; 4], a: u8, named: StringSet) -> [u64; 
     larger
 }
 
-// The patterns of attribute a over what it can take.
-pub fn value_patterns(facts: Facts, a: u8, values: Values) -> [u64; 4]
+// The pattern of an absent attribute, which has no flag, if it can be absent.
+fn absence_patterns(absent: bool) -> [u64; 4]
+    ensures { λ r. ⌜ ((x : ℕ) → holds r x ≡ («absent» && eqb x 0)) ⌝ }
+{
+    if absent {
+        return pattern_sets::only(EMPTY);
+    }
+    pattern_sets::empty()
+}
+
+// The patterns of attribute a over what it can take: absence, and strings.
+pub fn value_patterns(facts: Facts, a: u8, values: AttributeValues) -> [u64; 4]
     ensures { λ words. ⌜ ValuePatterns facts a values words ⌝ }
 {
-    if values.any {
-        let others = pattern_sets::only(attribute_pattern(facts, a, OUTSIDE));
+    let absent = absence_patterns(values.absent);
+    let taken = values.strings;
+    if taken.any {
+        let others = pattern_sets::with(absent, attribute_pattern(facts, a, OUTSIDE));
         return with_patterns(facts, others, a, strings::all());
     }
-    with_patterns(facts, pattern_sets::empty(), a, values.named)
+    with_patterns(facts, absent, a, taken.named)
 }
 
 // All patterns, or none.
@@ -172,21 +204,11 @@ fn complement(set: [u64; 4]) -> [u64; 4]
     pattern_sets::difference(all_if(true), set)
 }
 
-// The patterns under which no d stands before a c.
-fn ordered(facts: Facts, c: u8, d: u8) -> [u64; 4]
-    ensures { λ r. ⌜ IsOrdered facts c d r ⌝ }
+// The patterns under which a fact is not broken: no d stands before a c; attribute a is absent, or has a string of the set.
+fn unbroken_by(facts: Facts, fact: Fact) -> [u64; 4]
+    ensures { λ r. ⌜ UnbrokenBy facts (meaningOf fact) r ⌝ }
 {
-    complement(flagged_by(facts, Fact::Ordered(c, d)))
-}
-
-// The patterns under which attribute a is absent, or has a string of the set m.
-fn absent_or_valued(facts: Facts, names: u64, a: u8, m: StringSet) -> [u64; 4]
-    ensures { λ r. ⌜ IsValued facts names a (setNumber m) r ⌝ }
-{
-    if !sets::is_member(names, a) {
-        return all_if(true);
-    }
-    flagged_by(facts, Fact::Valued(a, m))
+    complement(flagged_by(facts, fact))
 }
 
 // The patterns under which a formula is true, and the position after it.
@@ -229,26 +251,25 @@ impl Truths {
     }
 }
 
-// The patterns under which the formula here is true of an element whose attributes have these names. The forms stand in the order of
-// source 000's grammar.
-fn true_patterns(s: &[u8], here: Position, facts: Facts, names: u64) -> Truths
+// The patterns under which the formula here is true. The forms stand in the order of source 000's grammar.
+fn true_patterns(s: &[u8], here: Position, facts: Facts) -> Truths
     ensures forward { λ r. ⌜ here .at ≤ r .next .at ⌝ }
-    ensures truths { λ r. ⌜ TruePatterns facts names (now (s .entry)) (here .at) r ⌝ }
+    ensures truths { λ r. ⌜ TruePatterns facts (now (s .entry)) (here .at) r ⌝ }
 {
     let formula = vocabularies::formula_here(s, here);
     match formula {
         FormulaHere::Conj(next) => {
-            let first = true_patterns(s, next, facts, names);
-            let second = true_patterns(s, first.next, facts, names);
+            let first = true_patterns(s, next, facts);
+            let second = true_patterns(s, first.next, facts);
             first.and(second)
         }
         FormulaHere::Disj(next) => {
-            let first = true_patterns(s, next, facts, names);
-            let second = true_patterns(s, first.next, facts, names);
+            let first = true_patterns(s, next, facts);
+            let second = true_patterns(s, first.next, facts);
             first.or(second)
         }
         FormulaHere::Neg(next) => {
-            let only = true_patterns(s, next, facts, names);
+            let only = true_patterns(s, next, facts);
             only.not()
         }
         FormulaHere::Truth(next) => Truths {
@@ -256,7 +277,7 @@ fn true_patterns(s: &[u8], here: Position, facts: Facts, names: u64) -> Truths
             next,
         },
         FormulaHere::Attr(a, next) => Truths {
-            set: all_if(sets::is_member(names, a)),
+            set: flagged_by(facts, Fact::Carried(a)),
             next,
         },
         FormulaHere::Content(c, next) => Truths {
@@ -264,11 +285,11 @@ fn true_patterns(s: &[u8], here: Position, facts: Facts, names: u64) -> Truths
             next,
         },
         FormulaHere::Order(c, d, next) => Truths {
-            set: ordered(facts, c, d),
+            set: unbroken_by(facts, Fact::Ordered(c, d)),
             next,
         },
         FormulaHere::Value(a, m, next) => Truths {
-            set: absent_or_valued(facts, names, a, m),
+            set: unbroken_by(facts, Fact::Valued(a, m)),
             next,
         },
         FormulaHere::Nothing => Truths {
@@ -284,18 +305,12 @@ pub struct Tested {
     pub next: Position,
 }
 
-// The formula here, for an element whose attributes have these names and that can have the patterns of a set.
-pub fn clause_fails(
-    s: &[u8],
-    here: Position,
-    facts: Facts,
-    names: u64,
-    patterns: [u64; 4],
-) -> Tested
+// The formula here, for an element that can have the patterns of a set.
+pub fn clause_fails(s: &[u8], here: Position, facts: Facts, patterns: [u64; 4]) -> Tested
     ensures forward { λ r. ⌜ here .at ≤ r .next .at ⌝ }
-    ensures told { λ r. ⌜ ClauseFails facts names patterns (now (s .entry)) (here .at) r ⌝ }
+    ensures told { λ r. ⌜ ClauseFails facts patterns (now (s .entry)) (here .at) r ⌝ }
 {
-    let truths = true_patterns(s, here, facts, names);
+    let truths = true_patterns(s, here, facts);
     let set = truths.set;
     let next = truths.next;
     let falsehoods = complement(set);

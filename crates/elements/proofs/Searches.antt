@@ -17,7 +17,6 @@ use Rattle.pages.specs.declared.ItemHere.the-variants.{Text, Gap, Element, Blan
 use Rattle.pages.specs.Items.{Attribute, Item, Items}
 use Rattle.pages.specs.Items as Items
 use Rattle.pages.specs.ItemReading.{item, items}
-use Rattle.pages.specs.RightPages.{names}
 use Rattle.pages.specs.contracts.Steps.{itemHere}
 use Rattle.pages.proofs.Steps.{LeafFirst, text-first, blank-first, gap-first, element-first, end-first, element-item, no-attribute}
 use Rattle.summaries.specs.Summaries.{Summary}
@@ -55,13 +54,13 @@ use Rattle.elements.specs.contracts.Search.{failsAt, CanFail, HasPattern
 -- ---- an element
 
 -- The patterns of its attributes with those of its contents after them, and the clause at each of these.
-pub clause-tested : (s : List ℕ) (c : Clause) (named : ℕ) (outer inner joined : List ℕ) (tested : Tested) → Multiplies (c .scheme) outer inner joined
-    → ClauseFails (c .facts) named joined s (c .formula .at) tested → CanFail s c named outer inner (tested .fails)
+pub clause-tested : (s : List ℕ) (c : Clause) (outer inner joined : List ℕ) (tested : Tested) → Multiplies (c .scheme) outer inner joined
+    → ClauseFails (c .facts) joined s (c .formula .at) tested → CanFail s c outer inner (tested .fails)
 unfolding clauseFails
-clause-tested s c named outer inner joined tested product fails φs G ψ X C n δ φ has is-outer is-inner =
+clause-tested s c outer inner joined tested product fails φs G ψ X C n δ φ is-outer is-inner =
     let R = C .reads in
     let held = product (patternsBy ψ) (of-facts R) (attributePatterns G (factsOf ψ) n δ) (patterns φs G (patternsBy ψ) X n φ) is-outer is-inner in
-    fails (factsOf ψ) (C .represents) (R .few) (names δ) has (elementPatterns φs G (factsOf ψ) X n δ φ) held (C .fuel) (C .depth) (C .end) ψ (C .stands) .1
+    fails (factsOf ψ) (C .represents) (R .few) (elementPatterns φs G (factsOf ψ) X n δ φ) held (C .fuel) (C .depth) (C .end) ψ (C .stands) .1
 
 pub inside-had : (takes : Bool) (inner : List ℕ) → takes ≡ true → (t : Bool) → IsEmpty inner t → HasPattern takes inner (not t)
 inside-had takes inner fills true none = inr none
@@ -108,7 +107,7 @@ module _ (s : List ℕ) (at e : ℕ) (start : Position) (c : Clause) (words : Li
 
   -- One of the clause's name: itself, and those inside it.
   pub own-element : e ≡ c .element → (named : Attributes) → AttributePatterns s (start .at) (c .facts) (c .scheme) words n named
-      → SearchesItems s (named .next .at) c words takes n list → (fails : Bool) → CanFail s c (named .names) (named .set) (list .set) fails
+      → SearchesItems s (named .next .at) c words takes n list → (fails : Bool) → CanFail s c (named .set) (list .set) fails
       → (own : Wrong) → own ≡ wrongIn n (onlyIf fails at) → (y : Bool) → HasPattern (named .takes) (list .set) y
       → (wrong : Wrong) → wrong ≡ lowerWrong own (list .wrong) → SearchesElement s at e start c words takes n (record { yields = y; wrong = wrong; next = list .next })
   unfolding lowestMark
@@ -120,7 +119,7 @@ module _ (s : List ℕ) (at e : ℕ) (start : Position) (c : Clause) (words : Li
       let done = no-attribute (I .fuel) Template ruled s (depth + 1) (I .inside) φ end (I .reads-contents) in
       let m = N ψ G (C .represents) (C .reads) (S .keeps) (I .fuel) (I .inside) δ (I .reads-attributes) done in
       let l = L φs G ψ X S ruled (I .fuel) (depth + 1) end φ (subst (λ (k : ℕ). items (I .fuel) Template ruled s (depth + 1) k ≡ whole φ end) (sym (m .ends)) (I .reads-contents)) in
-      let told : fails ≡ clauseFails φs G ψ X n δ φ = F φs G ψ X C n δ φ (m .named) (m .patterned) (l .is) in
+      let told : fails ≡ clauseFails φs G ψ X n δ φ = F φs G ψ X C n δ φ (m .patterned) (l .is) in
       let mine : own ≡ wrongIn n (onlyIf (failsAt φs G ψ X n (c .element) e at δ φ) at) =
       is-own ∙ ap (λ (b : Bool). wrongIn n (onlyIf b at)) (told ∙ sym (ap (λ (b : Bool). b && clauseFails φs G ψ X n δ φ) (eq-eqb e (c .element) same))) in
       rw (I .is-it) (record {

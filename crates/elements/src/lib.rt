@@ -30,10 +30,8 @@ struct Clause {
     scheme: Scheme,
 }
 
-// The attributes of an element: their names, their patterns, whether all their gaps have something to take, and the position after
-// them.
+// The attributes of an element: their patterns, whether all their gaps have something to take, and the position after them.
 struct Attributes {
-    names: u64,
     set: [u64; 4],
     takes: bool,
     next: Position,
@@ -67,17 +65,15 @@ fn attribute_patterns(
     ensures forward { λ r. ⌜ start .at ≤ r .next .at ⌝ }
     ensures patterned { λ r. ⌜ AttributePatterns (now (s .entry)) (start .at) facts scheme (now (graph .entry)) n r ⌝ }
 {
-    let valued = clauses::valued_names(facts);
+    let about = clauses::attributes_of(facts);
     let mut here = start;
-    let mut names: u64 = 0;
     let mut set = pattern_sets::only(EMPTY);
     let mut takes = true;
     loop {
         match pages::attribute_here(s, here) {
             AttributeHere::Fixed { name, string, next } => {
                 here = next;
-                names = sets::with(names, name);
-                if sets::has(valued, name) {
+                if sets::has(about, name) {
                     let own = pattern_sets::only(clauses::attribute_pattern(facts, name, string));
                     let more = schemes::product(scheme, set, own);
                     set = more;
@@ -85,21 +81,19 @@ fn attribute_patterns(
             }
             AttributeHere::Open { name, gap, next } => {
                 here = next;
-                names = sets::with(names, name);
-                let values = graphs::strings_at(graph, n as u8, gap);
-                if strings::is_empty(values) {
+                let values = graphs::attribute_values(graph, n as u8, gap);
+                if strings::takes_nothing(values) {
                     takes = false;
                     let none = pattern_sets::empty();
                     set = none;
-                } else if sets::has(valued, name) {
-                    let own = clauses::value_patterns(facts, name, values);
-                    let more = schemes::product(scheme, set, own);
+                } else if sets::has(about, name) {
+                    let taken = clauses::value_patterns(facts, name, values);
+                    let more = schemes::product(scheme, set, taken);
                     set = more;
                 }
             }
             AttributeHere::Done => {
                 return Attributes {
-                    names,
                     set,
                     takes,
                     next: here,
@@ -109,15 +103,15 @@ fn attribute_patterns(
     }
 }
 
-// Whether the clause can fail for an element whose attributes have these names, and whose attributes and contents have these patterns.
-fn can_fail(s: &[u8], clause: Clause, names: u64, outer: [u64; 4], inner: [u64; 4]) -> bool
-    ensures { λ r. ⌜ CanFail (now (s .entry)) clause names outer inner r ⌝ }
+// Whether the clause can fail for an element whose attributes and contents have these patterns.
+fn can_fail(s: &[u8], clause: Clause, outer: [u64; 4], inner: [u64; 4]) -> bool
+    ensures { λ r. ⌜ CanFail (now (s .entry)) clause outer inner r ⌝ }
 {
     let scheme = clause.scheme;
     let patterns = schemes::product(scheme, outer, inner);
     let formula = clause.formula;
     let facts = clause.facts;
-    clauses::clause_fails(s, formula, facts, names, patterns).fails
+    clauses::clause_fails(s, formula, facts, patterns).fails
 }
 
 // The element at an offset of template n, if it is wrong.
@@ -173,7 +167,7 @@ fn search_element(
     let list = search_items(s, attributes.next, clause, n, graph, takes);
     let outer = attributes.set;
     let inner = list.set;
-    let fails = can_fail(s, clause, attributes.names, outer, inner);
+    let fails = can_fail(s, clause, outer, inner);
     let own = wrong_if(fails, n, here.at);
     let wrong = list.wrong;
     let next = list.next;

@@ -1,16 +1,18 @@
 // Graphs: what a summary of a template variable holds, as words. No crate above this one knows which word an item has.
 ghost use mathlib.Core.Path.{_≡_};
 ghost use mathlib.Core.Bool.{true, false};
+ghost use mathlib.Core.Option.{Option};
 ghost use Prim.Native.Nat.{ℕ, _+_, _*_, _<_};
 ghost use lib.Dec.{eqb};
 ghost use Rattle.sets.specs.Sets.{member};
-ghost use Rattle.strings.specs.contracts.Promises.{holdsValue};
+ghost use Rattle.strings.specs.contracts.Promises.{holdsValue, canTake};
 ghost use Rattle.summaries.specs.Proposal.{root, edge, string, gapFrom, attributeGapFrom};
 ghost use Rattle.summaries.specs.Summaries.{Summary};
-ghost use Rattle.summaries.specs.Languages.{closedSummary};
+ghost use Rattle.summaries.specs.Languages.{closedSummary, takes};
 ghost use Rattle.summaries.specs.contracts.Listed.{HoldingFits, meaningOf};
 ghost use Rattle.graphs.specs.contracts.Graphs.{holds, Keeps, SameGraph, Forgotten, nothing, adding};
 ghost use Rattle.graphs.specs.contracts.Promises.{SlotOf, OtherWord, JoinsWord, Joins, addedAt, rootless, withoutGap, withoutAttributeGap};
+use strings::AttributeValues;
 use strings::Values;
 use summaries::Claim;
 
@@ -67,7 +69,7 @@ pub fn edges(graph: &Graph, n: u8, g: u8) -> u64
     graph[word_at(EDGES, n, g)]
 }
 
-// What attribute gap h of template n can take.
+// The strings that attribute gap h of template n can take.
 pub fn strings_at(graph: &Graph, n: u8, h: u8) -> Values
     ensures { λ r. ⌜ (n < 32 → h < 8 → (t : ℕ) → holdsValue r t ≡ holds (now (graph .entry)) (string n h t)) ⌝ }
 {
@@ -90,6 +92,16 @@ pub fn attribute_origins(graph: &Graph, h: u8) -> u64
     ensures { λ r. ⌜ (h < 8 → (n : ℕ) → member r n ≡ holds (now (graph .entry)) (attributeGapFrom h n)) ⌝ }
 {
     graph[ATTRIBUTE_ORIGINS + (h % 8) as usize]
+}
+
+// What attribute gap h of template n takes in a closed graph: the strings there and, where the template is an origin of h, absence.
+pub fn attribute_values(graph: &Graph, n: u8, h: u8) -> AttributeValues
+    ensures { λ r. ⌜ (n < 32 → h < 8 → (o : Option ℕ) → canTake r o ≡ takes (holds (now (graph .entry))) n h o) ⌝ }
+{
+    AttributeValues {
+        strings: strings_at(graph, n, h),
+        absent: sets::has(attribute_origins(graph, h), n % 64),
+    }
 }
 
 fn slot_of(item: Claim) -> Slot
@@ -220,7 +232,8 @@ pub fn drop_attribute_origins(graph: &mut Graph, h: u8)
     graph[ATTRIBUTE_ORIGINS + (h % 8) as usize] = 0;
 }
 
-// The closed graph of a show: each origin of a gap also gets an edge to template 0, each origin of an attribute gap also string 0.
+// The closed graph of a show: each origin of a gap also gets an edge to template 0. Origins of attribute gaps stay, and tell where an
+// attribute can be absent.
 pub fn close(graph: &mut Graph)
     ensures { λ _. ⌜ ((R : Summary) → Keeps (now (graph .entry)) R → Keeps (now (graph .exit)) (closedSummary R)) ⌝ }
 {
@@ -228,8 +241,6 @@ pub fn close(graph: &mut Graph)
     while g < 8 {
         let open = origins(graph, g);
         add_edges(graph, open, g, 1);
-        let taken = attribute_origins(graph, g);
-        add_strings(graph, taken, g, strings::one_value(0));
         g += 1;
     }
 }

@@ -8,7 +8,7 @@ ghost use Rattle.pages.specs.Items.{open-gap, Items};
 ghost use Rattle.summaries.specs.Summaries.{Summary};
 ghost use Rattle.patterns.specs.contracts.Morphisms.{Morphism};
 ghost use Rattle.patterns.specs.contracts.Given.{Bounded};
-ghost use Rattle.patterns.specs.contracts.Rounds.{Sets, valueTakes};
+ghost use Rattle.patterns.specs.contracts.Rounds.{Sets, stringReaches, valueTakes};
 ghost use Rattle.graphs.specs.contracts.Graphs.{Keeps};
 ghost use Rattle.languages.specs.contracts.Tables.{SetsAre, GapSetsAre};
 ghost use Rattle.languages.specs.contracts.Promises.{UnionOf, AttributesTake, LineOf, LineWithContent, LineWithGap, LineWithElement, ElementPatterns, ListPatterns, IsRound, Targets, TargetsTable, Rounds, WithinSet, Grows, Settles};
@@ -50,16 +50,25 @@ pub fn gaps_from(graph: &Graph, sets: &[[u64; 4]; 32], n: usize) -> [[u64; 4]; 8
     takes
 }
 
-// Whether template n's attribute gap h has some string to take.
-fn takes_string(graph: &Graph, n: usize, h: u8) -> bool
+// Whether some string reaches template n's attribute gap h.
+pub fn string_reaches(graph: &Graph, n: usize, h: u8) -> bool
     requires { ⌜ n < 32 ⌝ }
-    ensures { λ r. ⌜ ((G : Summary) → Keeps (now (graph .entry)) G → h < 8 → r ≡ valueTakes G n (open-gap h)) ⌝ }
+    ensures { λ r. ⌜ ((G : Summary) → Keeps (now (graph .entry)) G → h < 8 → r ≡ stringReaches G n (open-gap h)) ⌝ }
 {
     let values = graphs::strings_at(graph, n as u8, h);
     !strings::is_empty(values)
 }
 
-// Whether all attribute gaps of attributes have some string to take, and the position after the attributes.
+// Whether template n's attribute gap h has something to take, a string or absence.
+fn takes_something(graph: &Graph, n: usize, h: u8) -> bool
+    requires { ⌜ n < 32 ⌝ }
+    ensures { λ r. ⌜ ((G : Summary) → Keeps (now (graph .entry)) G → h < 8 → r ≡ valueTakes G n (open-gap h)) ⌝ }
+{
+    let values = graphs::attribute_values(graph, n as u8, h);
+    !strings::takes_nothing(values)
+}
+
+// Whether all attribute gaps of attributes have something to take, and the position after the attributes.
 pub struct Filled {
     pub takes: bool,
     pub next: Position,
@@ -83,7 +92,7 @@ pub fn attributes_take(s: &[u8], start: Position, graph: &Graph, n: usize) -> Fi
             } => here = next,
             AttributeHere::Open { name: _, gap, next } => {
                 here = next;
-                if !takes_string(graph, n, gap) {
+                if !takes_something(graph, n, gap) {
                     takes = false;
                 }
             }

@@ -8,10 +8,9 @@ use mathlib.Core.Option.{some, none}
 use lib.Dec.{eqb}
 use Rattle.pages.specs.Items.{Attribute, Item, Items}
 use Rattle.programs.specs.Program.{Act, copyTemplate, setTemplate, copyString, setString, anyString, plug, plugString, show, showFramed, Statement, step, stop, statementAt, templateAt, templateVariable, stringVariable}
-use Rattle.programs.specs.Runs.{closing}
 use Rattle.summaries.specs.Proposal.{root, edge, string, gapFrom, attributeGapFrom}
 use Rattle.summaries.specs.Summaries.{Summary, Strings, Environment, Within, fragment, plugSummary, plugStringSummary, transfer}
-use Rattle.summaries.specs.Languages.{isTaken, closedSummary, AttributesDerive, no-attribute, fixed, filled, Derives, nothing, item-then, ItemDerives, text-stays, blank-stays, gap-takes, element-keeps, Language, summaryShown, closedIfShown, statementGraph, graphShown}
+use Rattle.summaries.specs.Languages.{closedSummary, AttributesDerive, no-attribute, fixed, filled, dropped, Derives, nothing, item-then, ItemDerives, text-stays, blank-stays, gap-takes, element-keeps, Language, summaryShown, closedIfShown, statementGraph, graphShown}
 use Rattle.jobs.specs.Job.{Script}
 use Rattle.jobs.specs.JobVerdict.{ShowHolds}
 use Rattle.least_entries.specs.contracts.Order.{Below}
@@ -87,8 +86,7 @@ module _ (φs : List Items) (E F : Environment) (b : Below E F) where
 pub closed-grows : (S S′ : Summary) → Within S S′ → Within (closedSummary S) (closedSummary S′)
 closed-grows S S′ s (root n) = s (root n)
 closed-grows S S′ s (edge n g m) = or-grows (S (edge n g m)) (S′ (edge n g m)) _ _ (s (edge n g m)) (test-grows (eqb m 0) _ _ (s (gapFrom g n)))
-closed-grows S S′ s (string n h t) =
-    or-grows (S (string n h t)) (S′ (string n h t)) _ _ (s (string n h t)) (test-grows (isTaken closing t) _ _ (s (attributeGapFrom h n)))
+closed-grows S S′ s (string n h t) = s (string n h t)
 closed-grows S S′ s (gapFrom g n) = s (gapFrom g n)
 closed-grows S S′ s (attributeGapFrom h n) = s (attributeGapFrom h n)
 
@@ -98,6 +96,7 @@ module _ (φs : List Items) (G G′ : Summary) (w : Within G G′) where
   attributes-grow no-attribute = no-attribute
   attributes-grow (fixed d) = fixed (attributes-grow d)
   attributes-grow (filled s e d) = filled s (w _ e) (attributes-grow d)
+  attributes-grow (dropped e d) = dropped (w _ e) (attributes-grow d)
 
   mutual
     derived-grows : {n : ℕ} {φ v : Items} → Derives φs G n φ v → Derives φs G′ n φ v

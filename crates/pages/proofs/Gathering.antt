@@ -1,4 +1,4 @@
--- Walks that gather the names of attributes and the gaps of items, one step after the other.
+-- Walks that gather the gaps of attributes and items, one step after the other.
 use Prim.Native.Nat.{ℕ, _+_, _≤_, _<_}
 use mathlib.Core.Path.{_≡_, refl, sym, _∙_}
 use mathlib.Core.List.{List, [], _∷_}
@@ -12,67 +12,22 @@ use Rattle.sets.specs.Sets.{member}
 use Rattle.sets.proofs.Laws.{member-zero}
 use Rattle.commands.specs.declared.Position.{Position}
 use Rattle.commands.specs.Reading.{whole}
-use Rattle.vocabularies.specs.Vocabulary.{isIn}
 use Rattle.pages.specs.declared.Kind.{Kind}
 use Rattle.pages.specs.declared.ItemHere.{ItemHere}
 use Rattle.pages.specs.declared.ItemHere.the-variants.{Text, Gap, Element, Blank, End}
 use Rattle.pages.specs.declared.AttributeHere.{AttributeHere}
 use Rattle.pages.specs.declared.AttributeHere.the-variants.{Fixed, Open, Done}
-use Rattle.pages.specs.declared.Named.{Named}
 use Rattle.pages.specs.declared.GapsFound.{GapsFound}
 use Rattle.pages.specs.Items.{Attribute, Item, Items, none, templateAt, gapIn, gapInItem, openIn, attributeGapIn, attributeGapInItem}
 use Rattle.pages.specs.ItemReading.{attributes, items}
-use Rattle.pages.specs.RightPages.{names}
-use Rattle.pages.specs.contracts.Steps.{itemHere, ItemMoves, attributeHere, AttributeMoves, NamesAt}
+use Rattle.pages.specs.contracts.Steps.{itemHere, ItemMoves, attributeHere, AttributeMoves}
 use Rattle.pages.specs.contracts.Gaps.{hasGap, hasAttributeGap, GapsAre, ItemsStand, StartsAt, GapsAdded, AttributeGaps, ElementGaps, ItemsGaps}
-use Rattle.pages.proofs.Steps.{AttributeFirst, LeafFirst, fixed-first, open-first, none-first, fixed-moves, open-moves, text-first, blank-first, gap-first, element-first, end-first, text-moves, blank-moves, gap-moves, element-moves, no-attribute}
+use Rattle.pages.proofs.Steps.{LeafFirst, fixed-first, open-first, none-first, fixed-moves, open-moves, text-first, blank-first, gap-first, element-first, end-first, text-moves, blank-moves, gap-moves, element-moves, no-attribute}
 
 -- What a walk that has come from an offset to another, and has gathered so much, has still to find.
 pub record Onto {R : Type 0} (Found : ℕ → ℕ → R → Type 0) (at₀ set₀ at set : ℕ) : Type 0 where
   pub forward : at₀ ≤ at
   pub goes : (r : R) → Found at set r → Found at₀ set₀ r
-
--- ---- names
-
-abbrev pub NamesWith : List ℕ → ℕ → ℕ → Named → Type 0
-NamesWith s at set r = (k : Kind) (before : List ℕ) (f end : ℕ) (δ : List Attribute) → attributes f k s before at ≡ whole δ end → attributeHere s end ≡ Done
-    → (r .next .at ≡ end) × ((a : ℕ) → member (r .names) a ≡ (member set a || isIn a (names δ)))
-
-pub names-all : (s : List ℕ) (at : ℕ) (r : Named) → NamesWith s at 0 r → NamesAt s at r
-names-all s at r N k before f end δ e done = let n = N k before f end δ e done in (n .0, λ a. n .1 a ∙ rw (member-zero a))
-
-moved-first : (x y z : Bool) → ((x || y) || z) ≡ (y || (x || z))
-moved-first true true z = refl
-moved-first true false z = refl
-moved-first false y z = refl
-
-module _ (s : List ℕ) (at : ℕ) (h : AttributeHere) (is : h ≡ attributeHere s at) (moves : AttributeMoves s at h) (at₀ set : ℕ) (walk : Onto (NamesWith s) at₀ 0 at set) where
-  named-more : (a : Attribute) (next : Position) → at < next .at
-      → ((k : Kind) (before : List ℕ) (f end : ℕ) (δ : List Attribute) → attributes f k s before at ≡ whole δ end → attributeHere s end ≡ Done → AttributeFirst k s before a next δ end)
-      → (more : ℕ) → ((k : ℕ) → member more k ≡ (eqb k (a .name) || member set k)) → Onto (NamesWith s) at₀ 0 (next .at) more
-  named-more a next l first more is-more = record {
-    forward = omega (arith, walk .forward);
-    goes = λ r rest. walk .goes r λ k before f end δ reads done.
-        let w = first k before f end δ reads done in
-        let n = rest k (a .name ∷ before) (w .fuel) end (w .rest) (w .reads-rest) done in
-        (n .0, λ b. rw (w .is-more) (n .1 b ∙ rw (is-more b) (unfold isIn in moved-first (eqb b (a .name)) (member set b) (isIn b (names (w .rest))))));
-  }
-
-  pub fixed-named : (a v : ℕ) (next : Position) → h ≡ Fixed a v next → (more : ℕ) → ((k : ℕ) → member more k ≡ (eqb k a || member set k)) → Onto (NamesWith s) at₀ 0 (next .at) more
-  fixed-named a v next e =
-      named-more _ next (fixed-moves s at h moves a v next e .0 .forward) λ k before f end δ reads done. fixed-first f k s before at δ end reads done h is a v next e .0
-
-  pub open-named : (a g : ℕ) (next : Position) → h ≡ Open a g next → (more : ℕ) → ((k : ℕ) → member more k ≡ (eqb k a || member set k)) → Onto (NamesWith s) at₀ 0 (next .at) more
-  open-named a g next e =
-      named-more _ next (open-moves s at h moves a g next e .0 .forward) λ k before f end δ reads done. open-first f k s before at δ end reads done h is a g next e .0
-
-  pub all-named : (r : Named) → r .next .at ≡ at → r .names ≡ set → h ≡ Done → (at₀ ≤ at) × NamesAt s at₀ r
-  all-named r here same e = (
-    walk .forward,
-    names-all s at₀ r (walk .goes r λ k before f end δ reads done.
-        let w = none-first f k s before at δ end reads done h is e in
-        (here ∙ w .here, λ a. rw (w .no-more, same) (unfold isIn in sym (or-false (member set a))))),
-  )
 
 -- ---- gaps
 

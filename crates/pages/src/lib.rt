@@ -7,7 +7,7 @@ ghost use Rattle.sets.specs.Sets.{member};
 ghost use Rattle.commands.specs.Reading.{enough};
 ghost use Rattle.commands.specs.contracts.Parts.{Agrees};
 ghost use Rattle.pages.specs.ItemReading.{itemContext, attributeContext, nesting, endOf, items};
-ghost use Rattle.pages.specs.contracts.Steps.{itemHere, ItemMoves, attributeHere, AttributeMoves, AfterAttributes, NamesAt};
+ghost use Rattle.pages.specs.contracts.Steps.{itemHere, ItemMoves, attributeHere, AttributeMoves, AfterAttributes};
 ghost use Rattle.pages.specs.contracts.Gaps.{AttributeGaps, ElementGaps, ItemsGaps, ItemsStand, StartsAt, GapsAre};
 ghost use Rattle.pages.specs.Items.{Items, templateAt};
 ghost use Rattle.pages.specs.contracts.Promises.{AttributesRead, ItemsRead, ItemRead, TemplatesFrom};
@@ -62,12 +62,6 @@ pub enum AttributeHere {
         next: Position,
     },
     Done,
-}
-
-// The names of attributes as a set, and the position after them.
-pub struct Named {
-    pub names: u64,
-    pub next: Position,
 }
 
 // The gaps found, bit g for gap g and bit 8 + h for attribute gap h, and the position after what was searched.
@@ -180,33 +174,6 @@ pub fn after_attributes(s: &[u8], here: Position) -> Position
                 next,
             } => p = next,
             AttributeHere::Done => return p,
-        }
-    }
-}
-
-// The names of the attributes here.
-pub fn names_at(s: &[u8], here: Position) -> Named
-    ensures forward { λ r. ⌜ here .at ≤ r .next .at ⌝ }
-    ensures named { λ r. ⌜ NamesAt (now (s .entry)) (here .at) r ⌝ }
-{
-    let mut names: u64 = 0;
-    let mut p = here;
-    loop {
-        let attribute = attribute_here(s, p);
-        match attribute {
-            AttributeHere::Fixed {
-                name,
-                string: _,
-                next,
-            } => {
-                names = sets::with(names, name);
-                p = next;
-            }
-            AttributeHere::Open { name, gap: _, next } => {
-                names = sets::with(names, name);
-                p = next;
-            }
-            AttributeHere::Done => return Named { names, next: p },
         }
     }
 }

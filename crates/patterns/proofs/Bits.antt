@@ -13,9 +13,9 @@ use lib.Dec.{eqb}
 use borrow.Author.Tests.{eqb-true, eqb-false}
 use Rattle.sets.specs.Sets.{member}
 use Rattle.vocabularies.specs.Vocabulary.{Formula, conj, disj, neg, truth, attr, content, order, value, isIn}
-use Rattle.vocabularies.specs.Facts.{Fact, present, ordered, valued, sameFact, isAmong, add, withFacts, factsOf}
-use Rattle.judging.specs.contracts.Judgement.{precedes, holdsValue}
-use Rattle.patterns.specs.contracts.Patterns.{flagged, numbered, patternOf, flagIn}
+use Rattle.vocabularies.specs.Facts.{Fact, carried, present, ordered, valued, sameFact, isAmong, add, withFacts, factsOf}
+use Rattle.judging.specs.contracts.Judgement.{precedes}
+use Rattle.patterns.specs.contracts.Patterns.{breaksValue, flagged, numbered, patternOf, flagIn}
 use Rattle.sets.proofs.Booleans.{or-left, or-right, refuted, either}
 use Rattle.patterns.proofs.Facts.{fact-same}
 use Rattle.patterns.proofs.Clauses.{lowest, higher, numbered-same}
@@ -116,7 +116,7 @@ distinct-with (conj ψ₁ ψ₂) fs d = distinct-with ψ₂ (withFacts ψ₁ fs)
 distinct-with (disj ψ₁ ψ₂) fs d = distinct-with ψ₂ (withFacts ψ₁ fs) (distinct-with ψ₁ fs d)
 distinct-with (neg ψ) fs d = distinct-with ψ fs d
 distinct-with truth fs d = d
-distinct-with (attr a) fs d = d
+distinct-with (attr a) fs d = distinct-add (carried a) fs d
 distinct-with (content c) fs d = distinct-add (present c) fs d
 distinct-with (order c d′) fs d = distinct-add (ordered c d′) (add (present d′) (add (present c) fs))
     (distinct-add (present d′) (add (present c) fs) (distinct-add (present c) fs d))
@@ -132,10 +132,11 @@ all-unflagged (f ∷ fs) = rw (all-unflagged fs)
 
 -- The pattern of nothing is 0.
 pub pattern-of-nothing : (fs : List Fact) → patternOf fs [] [] ≡ 0
-unfolding patternOf isIn precedes holdsValue
+unfolding patternOf isIn precedes breaksValue
 pattern-of-nothing fs = numbered-same fs (flagged [] []) (λ f. false) unflagged ∙ all-unflagged fs
   where
     unflagged : (f : Fact) → isAmong f fs ≡ true → flagged [] [] f ≡ false
+    unflagged (carried a) e = refl
     unflagged (present c) e = refl
     unflagged (ordered c d) e = refl
     unflagged (valued a m) e = refl

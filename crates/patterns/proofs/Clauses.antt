@@ -1,5 +1,5 @@
 -- The patterns of a clause. A pattern's flags are those of the attributes and the word; patterns are joined as the words and the
--- attributes are; and the truth of the clause follows from the pattern and the names of the attributes.
+-- attributes are; and the truth of the clause follows from the pattern, for attributes none of which stands twice.
 use Prim.Native.Nat.{ℕ, suc, _+_, _*_, _/_, _%_, _^_, _<_}
 use native.Mathlib.Omega.{arith}
 use mathlib.Core.Path.{_≡_, refl, sym, ap, ap₂, subst, _∙_}
@@ -8,15 +8,15 @@ use mathlib.Core.Bool.{Bool, true, false, cond, not, _&&_, _||_}
 use lib.ListN.{length}
 use lib.Dec.{eqb}
 use borrow.Author.Tests.{eq-eqb, ne-eqb}
-use Rattle.vocabularies.specs.Vocabulary.{Formula, conj, disj, neg, truth, attr, content, order, value, isIn}
-use Rattle.vocabularies.specs.Facts.{Fact, present, ordered, valued, sameFact, isAmong, factsOf}
+use Rattle.vocabularies.specs.Vocabulary.{Formula, conj, disj, neg, truth, attr, content, order, value, Distinct}
+use Rattle.vocabularies.specs.Facts.{Fact, carried, present, ordered, valued, sameFact, isAmong, factsOf}
 use Rattle.pages.specs.Items.{Attribute}
 use Rattle.pages.specs.RightPages.{names}
 use Rattle.judging.specs.contracts.Judgement.{truthOf, atomsOf}
 use Rattle.patterns.specs.contracts.Patterns.{flagged, numbered, patternOf, flagIn, joinedFlag, join, atomsBy}
 use Rattle.sets.proofs.Booleans.{or-left, or-right}
 use Rattle.patterns.proofs.Facts.{same-fact, fact-same, Closed, Covers, facts-cover}
-use Rattle.patterns.proofs.Words.{in-append, precedes-append, holds-append}
+use Rattle.patterns.proofs.Words.{in-append, carried-append, precedes-append, breaks-append, value-kept}
 
 double-below : (b : Bool) (n m : ℕ) → n < m → cond b 1 0 + 2 * n < 2 * m
 double-below true n m h = omega arith
@@ -71,6 +71,7 @@ numbered-same (f ∷ fs) flag flag′ h =
 
 module _ (fs : List Fact) (closed : Closed fs) (δ ε : List Attribute) (u v : List ℕ) where
   joined-flag : (f : Fact) → isAmong f fs ≡ true → flagged (δ ++ ε) (u ++ v) f ≡ joinedFlag fs (patternOf fs δ u) (patternOf fs ε v) f
+  joined-flag (carried a) e = rw (flag-of fs δ u (carried a) e, flag-of fs ε v (carried a) e) (carried-append δ ε a)
   joined-flag (present c) e = rw (flag-of fs δ u (present c) e, flag-of fs ε v (present c) e) (in-append c u v)
   joined-flag (ordered c d) e = rw (
     flag-of fs δ u (ordered c d) e,
@@ -78,7 +79,7 @@ module _ (fs : List Fact) (closed : Closed fs) (δ ε : List Attribute) (u v : L
     flag-of fs δ u (present d) (closed c d e .1),
     flag-of fs ε v (present c) (closed c d e .0),
   ) (precedes-append u v d c)
-  joined-flag (valued a m) e = rw (flag-of fs δ u (valued a m) e, flag-of fs ε v (valued a m) e) (holds-append δ ε a m)
+  joined-flag (valued a m) e = rw (flag-of fs δ u (valued a m) e, flag-of fs ε v (valued a m) e) (breaks-append δ ε a m)
 
   pub pattern-append : patternOf fs (δ ++ ε) (u ++ v) ≡ join fs (patternOf fs δ u) (patternOf fs ε v)
   unfolding patternOf join
@@ -94,19 +95,19 @@ pub pattern-below : (fs : List Fact) (δ : List Attribute) (w : List ℕ) → pa
 unfolding patternOf
 pattern-below fs δ w = numbered-below fs (flagged δ w)
 
-truth-by : (fs : List Fact) (δ : List Attribute) (w : List ℕ) (ψ : Formula) → Covers fs ψ
-    → truthOf (atomsOf δ w) ψ ≡ truthOf (atomsBy fs (names δ) (patternOf fs δ w)) ψ
-unfolding truthOf atomsOf atomsBy
-truth-by fs δ w (conj ψ₁ ψ₂) k = ap₂ _&&_ (truth-by fs δ w ψ₁ (k .0)) (truth-by fs δ w ψ₂ (k .1))
-truth-by fs δ w (disj ψ₁ ψ₂) k = ap₂ _||_ (truth-by fs δ w ψ₁ (k .0)) (truth-by fs δ w ψ₂ (k .1))
-truth-by fs δ w (neg ψ) k = ap not (truth-by fs δ w ψ k)
-truth-by fs δ w truth k = refl
-truth-by fs δ w (attr a) k = refl
-truth-by fs δ w (content c) k = sym (flag-of fs δ w (present c) k)
-truth-by fs δ w (order c d) k = ap not (sym (flag-of fs δ w (ordered c d) k))
-truth-by fs δ w (value a m) k = ap (λ (b : Bool). not (isIn a (names δ)) || b) (sym (flag-of fs δ w (valued a m) k))
+module _ (fs : List Fact) (δ : List Attribute) (w : List ℕ) (once : Distinct (names δ)) where
+  truth-by : (ψ : Formula) → Covers fs ψ → truthOf (atomsOf δ w) ψ ≡ truthOf (atomsBy fs (patternOf fs δ w)) ψ
+  unfolding truthOf atomsOf atomsBy
+  truth-by (conj ψ₁ ψ₂) k = ap₂ _&&_ (truth-by ψ₁ (k .0)) (truth-by ψ₂ (k .1))
+  truth-by (disj ψ₁ ψ₂) k = ap₂ _||_ (truth-by ψ₁ (k .0)) (truth-by ψ₂ (k .1))
+  truth-by (neg ψ) k = ap not (truth-by ψ k)
+  truth-by truth k = refl
+  truth-by (attr a) k = sym (flag-of fs δ w (carried a) k)
+  truth-by (content c) k = sym (flag-of fs δ w (present c) k)
+  truth-by (order c d) k = ap not (sym (flag-of fs δ w (ordered c d) k))
+  truth-by (value a m) k = value-kept δ a m once ∙ ap not (sym (flag-of fs δ w (valued a m) k))
 
 -- A clause is true exactly if its pattern makes it true.
-pub truth-of-pattern : (ψ : Formula) (δ : List Attribute) (w : List ℕ)
-    → truthOf (atomsOf δ w) ψ ≡ truthOf (atomsBy (factsOf ψ) (names δ) (patternOf (factsOf ψ) δ w)) ψ
-truth-of-pattern ψ δ w = truth-by (factsOf ψ) δ w ψ (facts-cover ψ)
+pub truth-of-pattern : (ψ : Formula) (δ : List Attribute) (w : List ℕ) → Distinct (names δ)
+    → truthOf (atomsOf δ w) ψ ≡ truthOf (atomsBy (factsOf ψ) (patternOf (factsOf ψ) δ w)) ψ
+truth-of-pattern ψ δ w once = truth-by (factsOf ψ) δ w once ψ (facts-cover ψ)

@@ -7,7 +7,7 @@ use Rattle.sets.proofs.Booleans.{neither}
 use Rattle.pages.specs.Items.{Attribute, Item, element, Items, none, more, one, _⋈_, gapIn, gapInItem, openIn, attributeGapIn, attributeGapInItem}
 use Rattle.pages.specs.RightPages.{Gapless}
 use Rattle.summaries.specs.Summaries.{Summary}
-use Rattle.summaries.specs.Languages.{AttributesDerive, no-attribute, fixed, filled, Derives, ItemDerives, nothing, item-then, text-stays, blank-stays, gap-takes, element-keeps}
+use Rattle.summaries.specs.Languages.{AttributesDerive, no-attribute, fixed, filled, dropped, Derives, ItemDerives, nothing, item-then, text-stays, blank-stays, gap-takes, element-keeps}
 use Rattle.agreement.proofs.Gaps.{NoGap}
 
 gap-append : (u v : Items) (g : ℕ) → gapIn (u ⋈ v) g ≡ (gapIn u g || gapIn v g)
@@ -49,6 +49,7 @@ module _ (φs : List Items) (G : Summary) where
   attributes-filled no-attribute h = refl
   attributes-filled (fixed d) h = attributes-filled d h
   attributes-filled (filled s e d) h = attributes-filled d h
+  attributes-filled (dropped e d) h = attributes-filled d h
 
   mutual
     unfolding attributeGapIn

@@ -9,9 +9,9 @@ use mathlib.Core.Bool.{Bool, true, false, cond, false≢true}
 use mathlib.Core.Option.{Option, none}
 use mathlib.Core.Logic.{_↔_, inl, inr}
 use lib.ListN.{length}
-use Rattle.vocabularies.specs.Vocabulary.{Vocabulary}
+use Rattle.vocabularies.specs.Vocabulary.{Vocabulary, Distinct}
 use Rattle.pages.specs.Items.{Attribute, Item, Items}
-use Rattle.pages.specs.RightPages.{ElementRight, Way, ElementWrong, Accepts, RootAlone, Right, SomeElement, SomeElementOf, WrongAt}
+use Rattle.pages.specs.RightPages.{names, ElementRight, Way, ElementWrong, Accepts, RootAlone, Right, SomeElement, SomeElementOf, WrongAt}
 use Rattle.programs.specs.Program.{templateAt}
 use Rattle.summaries.specs.Summaries.{Summary}
 use Rattle.summaries.specs.Languages.{AttributesDerive, Derives, ItemDerives, Language, DerivedFrom, nothing, item-then, text-stays, blank-stays, gap-takes, element-keeps}
@@ -20,7 +20,7 @@ use Rattle.agreement.proofs.Elements.{wrong-iff}
 use Rattle.agreement.proofs.Roots.{decided-alone}
 use Rattle.agreement.proofs.Gaps.{NoGap}
 use Rattle.agreement.proofs.Pages.{Found, no-wrong, wrong, found, accepts-right}
-use Rattle.patterns.specs.contracts.Given.{Bounded, contents, NamesInRange, SoundVocabulary}
+use Rattle.patterns.specs.contracts.Given.{Bounded, contents, SoundTemplates, SoundVocabulary}
 use Rattle.patterns.specs.contracts.Reached.{Reached, CanBe}
 use Rattle.patterns.specs.contracts.Elements.{wrongElement}
 use Rattle.patterns.specs.contracts.Shows.{Least, nowhere, Tables, ExactTables, notRoot, lowestMark, lowestRoot, lowestWrongIn, lowestWrong}
@@ -36,12 +36,13 @@ abbrev pub Wrong : Vocabulary → ℕ → Saying
 Wrong D at e mark δ φ = (mark ≡ at) × ((way : Way) × ElementWrong D e δ φ way)
 
 module _ (φs : List Items) (G : Summary) where
-  -- An element of template n whose gaps can be filled, and whose contents have names in range.
+  -- An element of template n whose gaps can be filled, that has no attribute twice, and whose contents have names in range.
   pub record Fillable (n : ℕ) (δ : List Attribute) (φ : Items) : Type 0 where
     pub attributes : List Attribute
     pub inside : Items
     pub attributes-fill : AttributesDerive φs G n δ attributes
     pub inside-fills : Derives φs G n φ inside
+    pub once : Distinct (names δ)
     pub small : (c : ℕ) → SomeElement (λ e mark ε χ. e ≡ c) φ → c < contents
 
   module _ (P Q : ℕ → Saying)
@@ -50,21 +51,29 @@ module _ (φs : List Items) (G : Summary) where
       unfolding SomeElement
 
       pub some-map : {n : ℕ} {φ page : Items} → Derives φs G n φ page → ((c : ℕ) → SomeElement (λ e mark ε χ. e ≡ c) φ → c < contents)
-          → SomeElement (P n) φ → SomeElement (Q n) φ
-      some-map nothing small s = s
-      some-map (item-then d ds p) small (inl s) = inl (item-some-map d (λ c t. small c (inl t)) s)
-      some-map (item-then d ds p) small (inr s) = inr (some-map ds (λ c t. small c (inr t)) s)
+          → ((δ : List Attribute) → SomeElement (λ e mark ε χ. ε ≡ δ) φ → Distinct (names δ)) → SomeElement (P n) φ → SomeElement (Q n) φ
+      some-map nothing small once s = s
+      some-map (item-then d ds p) small once (inl s) = inl (item-some-map d (λ c t. small c (inl t)) (λ δ t. once δ (inl t)) s)
+      some-map (item-then d ds p) small once (inr s) = inr (some-map ds (λ c t. small c (inr t)) (λ δ t. once δ (inr t)) s)
 
       item-some-map : {n : ℕ} {i : Item} {u : Items} → ItemDerives φs G n i u
-          → ((c : ℕ) → SomeElementOf (λ e mark ε χ. e ≡ c) i → c < contents) → SomeElementOf (P n) i → SomeElementOf (Q n) i
-      item-some-map text-stays small s = s
-      item-some-map blank-stays small s = s
-      item-some-map (gap-takes m e d) small s = absurd s
-      item-some-map (element-keeps {n = n} {e = e} {mark = mark} {δ = δ} {δ′ = δ′} {φ = φ} {φ′ = φ′} a d) small (inl s) =
-          inl (each n e mark δ φ (record { attributes = δ′; inside = φ′; attributes-fill = a; inside-fills = d; small = λ c t. small c (inr t) }) s)
-      item-some-map (element-keeps a d) small (inr s) = inr (some-map d (λ c t. small c (inr t)) s)
+          → ((c : ℕ) → SomeElementOf (λ e mark ε χ. e ≡ c) i → c < contents) → ((δ : List Attribute) → SomeElementOf (λ e mark ε χ. ε ≡ δ) i → Distinct (names δ))
+          → SomeElementOf (P n) i → SomeElementOf (Q n) i
+      item-some-map text-stays small once s = s
+      item-some-map blank-stays small once s = s
+      item-some-map (gap-takes m e d) small once s = absurd s
+      item-some-map (element-keeps {n = n} {e = e} {mark = mark} {δ = δ} {δ′ = δ′} {φ = φ} {φ′ = φ′} a d) small once (inl s) =
+          inl (each n e mark δ φ (record {
+            attributes = δ′;
+            inside = φ′;
+            attributes-fill = a;
+            inside-fills = d;
+            once = once δ (inl refl);
+            small = λ c t. small c (inr t);
+          }) s)
+      item-some-map (element-keeps a d) small once (inr s) = inr (some-map d (λ c t. small c (inr t)) (λ δ t. once δ (inr t)) s)
 
-module _ (φs : List Items) (G : Summary) (bounded : Bounded φs G) (named : NamesInRange φs) (D : Vocabulary) (sound : SoundVocabulary D)
+module _ (φs : List Items) (G : Summary) (bounded : Bounded φs G) (templates : SoundTemplates φs) (D : Vocabulary) (sound : SoundVocabulary D)
     (T : Tables) (exact : ExactTables φs G D T) where
   -- The lowest root template of which some page is not exactly the root element.
   pub lowest-root : Least (λ r. (page : Items) × DerivedFrom φs G r page × (RootAlone D page → ⊥)) (lowestRoot φs G D T)
@@ -90,8 +99,8 @@ module _ (φs : List Items) (G : Summary) (bounded : Bounded φs G) (named : Nam
   element-decided : (n e : ℕ) (δ : List Attribute) (φ : Items) → Fillable φs G n δ φ
       → wrongElement φs G (T .clauses) (T .contents) D n e δ φ ≡ true ↔ CanBe φs G n δ φ (λ δ′ φ′. ElementRight D e δ′ φ′ → ⊥)
   element-decided n e δ φ f =
-      wrong-exact φs G bounded named (T .clauses) (T .contents) (exact .contents) n δ (f .attributes) φ (f .inside)
-      (f .attributes-fill) (f .inside-fills) (f .small) D e
+      wrong-exact φs G bounded (templates .in-range) (T .clauses) (T .contents) (exact .contents) n δ (f .attributes) φ (f .inside)
+      (f .attributes-fill) (f .inside-fills) (f .once) (f .small) D e
       (λ r p ψ m. (sound .named-only e r ψ p m, exact .clauses e r ψ p m))
 
   tested-made : (at n e mark : ℕ) (δ : List Attribute) (φ : Items) → Fillable φs G n δ φ → Tested at n e mark δ φ → Made φs G (Wrong D at) n e mark δ φ
@@ -117,8 +126,8 @@ module _ (φs : List Items) (G : Summary) (bounded : Bounded φs G) (named : Nam
           let r : Reached φs G n = exact .reached n h .0 e in
           let (page, d) = reached-yields φs G r in
           least-iff (λ at. (
-            λ s. (r, some-map φs G (Tested at) (Made φs G (Wrong D at)) (tested-made at) d (named n) s),
-            λ (r′, s). some-map φs G (Made φs G (Wrong D at)) (Tested at) (made-tested at) d (named n) s,
+            λ s. (r, some-map φs G (Tested at) (Made φs G (Wrong D at)) (tested-made at) d (templates .in-range n) (templates .once n) s),
+            λ (r′, s). some-map φs G (Made φs G (Wrong D at)) (Tested at) (made-tested at) d (templates .in-range n) (templates .once n) s,
           ))
           (least-mark test (templateAt φs n))
       go false e = nowhere (λ at (r, s). false≢true (sym e ∙ exact .reached n h .1 r))

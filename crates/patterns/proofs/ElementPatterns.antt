@@ -1,37 +1,37 @@
--- The patterns of an element are exact: each is that of some choice of strings for its attributes and of some contents, and a clause
--- can fail exactly if it fails for one of them. All strings outside the named ones give an attribute the same pattern.
+-- The patterns of an element are exact: each is that of some choice of strings and absence for its attributes and of some contents, and a
+-- clause can fail exactly if it fails for one of them. All strings outside the named ones give an attribute the same pattern.
 use Prim.Native.Nat.{ℕ, suc, _≤_, _^_}
 use native.Mathlib.Omega.{arith}
 use mathlib.Core.Path.{_≡_, refl, sym, ap, ap₂, subst, _∙_}
 use mathlib.Core.List.{List, [], _∷_}
 use mathlib.Core.Bool.{Bool, true, false, not, _&&_, true≢false, false≢true}
-use mathlib.Core.Logic.{_↔_, ⊎-elim}
+use mathlib.Core.Option.{some, none}
+use mathlib.Core.Logic.{_↔_, inl, inr, ⊎-elim}
 use lib.ListN.{length}
 use lib.Dec.{eqb}
 use borrow.Author.Tests.{eqb-true, not-true}
 use Rattle.sets.specs.Sets.{member}
 use Rattle.commands.specs.Commands.{strings}
-use Rattle.vocabularies.specs.Vocabulary.{Formula, conj, disj, neg, truth, attr, content, order, value}
-use Rattle.vocabularies.specs.Facts.{Fact, present, ordered, valued, isAmong, add, withFacts, factsOf}
+use Rattle.vocabularies.specs.Vocabulary.{Formula, conj, disj, neg, truth, attr, content, order, value, isIn, Distinct}
+use Rattle.vocabularies.specs.Facts.{Fact, carried, present, ordered, valued, isAmong, add, withFacts, factsOf}
 use Rattle.pages.specs.Items.{Value, string, open-gap, Attribute, Items}
 use Rattle.pages.specs.RightPages.{names, word}
-use Rattle.judging.specs.contracts.Judgement.{truthOf, holdsValue, atomsOf}
-use Rattle.summaries.specs.Proposal as Proposal
+use Rattle.judging.specs.contracts.Judgement.{truthOf, atomsOf}
 use Rattle.summaries.specs.Summaries.{Summary}
-use Rattle.summaries.specs.Languages.{AttributesDerive, no-attribute, fixed, filled}
-use Rattle.patterns.specs.contracts.Patterns.{flagged, patternOf, join, atomsBy}
+use Rattle.summaries.specs.Languages.{takes, AttributesDerive, no-attribute, fixed, filled, dropped}
+use Rattle.patterns.specs.contracts.Patterns.{breaksValue, flagged, patternOf, join, atomsBy}
 use Rattle.patterns.specs.contracts.Morphisms.{factMorphism}
 use Rattle.patterns.specs.contracts.Given.{Bounded, NamedOnly}
 use Rattle.patterns.specs.contracts.Rounds.{Sets, only, anyBelow, patterns}
 use Rattle.patterns.specs.contracts.Reached.{CanBe}
-use Rattle.patterns.specs.contracts.Elements.{attributePattern, valuePatterns, attributePatterns, elementPatterns, clauseFails}
+use Rattle.patterns.specs.contracts.Elements.{attributePattern, absencePattern, absencePatterns, stringPatterns, valuePatterns, attributePatterns, elementPatterns, clauseFails}
 use Rattle.patterns.specs.contracts.Exactness.{Exact}
 use Rattle.patterns.proofs.Tests.{eqb-same, any-below, below-any}
-use Rattle.sets.proofs.Booleans.{and-both, and-left, and-right}
+use Rattle.sets.proofs.Booleans.{or-right, and-both, and-left, and-right}
 use Rattle.patterns.proofs.Facts.{Closed, facts-closed, among-add-cases}
 use Rattle.patterns.proofs.Clauses.{numbered-same, pattern-append, pattern-element, pattern-below, truth-of-pattern}
 use Rattle.patterns.proofs.Lawful.{clause-lawful}
-use Rattle.patterns.proofs.Attributes.{any-named}
+use Rattle.patterns.proofs.Attributes.{any-named, derived-once, Attained, attained-taken, taken-attained}
 use Rattle.patterns.proofs.Exact.{in-product, factors, contents-exact}
 
 -- Every set among the facts holds named strings alone.
@@ -39,6 +39,7 @@ abbrev pub NamedSets : List Fact → Type 0
 NamedSets fs = (a m : ℕ) → isAmong (valued a m) fs ≡ true → (s : ℕ) → strings ≤ s → member m s ≡ false
 
 isSet : Fact → Bool
+isSet (carried a) = false
 isSet (present c) = false
 isSet (ordered c d) = false
 isSet (valued a m) = true
@@ -53,7 +54,7 @@ named-with (conj ψ₁ ψ₂) fs k h = named-with ψ₂ (withFacts ψ₁ fs) (k 
 named-with (disj ψ₁ ψ₂) fs k h = named-with ψ₂ (withFacts ψ₁ fs) (k .1) (named-with ψ₁ fs (k .0) h)
 named-with (neg ψ) fs k h = named-with ψ fs k h
 named-with truth fs k h = h
-named-with (attr a) fs k h = h
+named-with (attr a) fs k h = named-add (carried a) fs refl h
 named-with (content c) fs k h = named-add (present c) fs refl h
 named-with (order c d) fs k h = named-add (ordered c d) (add (present d) (add (present c) fs)) refl
     (named-add (present d) (add (present c) fs) refl (named-add (present c) fs refl h))
@@ -68,13 +69,14 @@ facts-named ψ k = named-with ψ [] k (λ a m e. absurd (false≢true e))
 
 -- All strings outside the named ones share one pattern.
 pub others-share : (fs : List Fact) → NamedSets fs → (a s : ℕ) → strings ≤ s → attributePattern fs a s ≡ attributePattern fs a strings
-unfolding patternOf holdsValue
+unfolding patternOf isIn breaksValue
 others-share fs named a s h = numbered-same fs (flagged (one s) []) (flagged (one strings) []) each
   where
     one : ℕ → List Attribute
     one t = record { name = a; value = string t } ∷ []
 
     each : (f : Fact) → isAmong f fs ≡ true → flagged (one s) [] f ≡ flagged (one strings) [] f
+    each (carried b) e = refl
     each (present c) e = refl
     each (ordered c d) e = refl
     each (valued b m) e = rw (named b m e s h, named b m e strings (omega arith))
@@ -83,15 +85,18 @@ module _ (φs : List Items) (G : Summary) (bounded : Bounded φs G) (fs : List F
   attribute-then : (a : Attribute) (δ : List Attribute) → patternOf fs (a ∷ δ) [] ≡ join fs (patternOf fs (a ∷ []) []) (patternOf fs δ [])
   attribute-then a δ = pattern-append fs closed (a ∷ []) δ [] []
 
-  string-found : (n a h s : ℕ) → G (Proposal.string n h s) ≡ true → valuePatterns G fs n a (open-gap h) (attributePattern fs a s) ≡ true
-  string-found n a h s e =
-      any-named (λ t. G (Proposal.string n h t) && only (attributePattern fs a t) (attributePattern fs a s))
+  none-then : (δ : List Attribute) → patternOf fs δ [] ≡ join fs (absencePattern fs) (patternOf fs δ [])
+  none-then δ = pattern-append fs closed [] δ [] []
+
+  string-found : (n a h s : ℕ) → takes G n h (some s) ≡ true → valuePatterns G fs n a (open-gap h) (attributePattern fs a s) ≡ true
+  string-found n a h s e = or-right (absencePatterns fs (takes G n h) (attributePattern fs a s)) (stringPatterns fs a (takes G n h) (attributePattern fs a s))
+      (any-named (λ t. takes G n h (some t) && only (attributePattern fs a t) (attributePattern fs a s))
       (λ t k. ap₂ (λ (p : Bool) (x : ℕ). p && eqb (attributePattern fs a s) x) (bounded .others-alike n h t k) (others-share fs named a t k))
-      s (and-both _ _ e (eqb-same (attributePattern fs a s)))
+      s (and-both _ _ e (eqb-same (attributePattern fs a s))))
 
   attributes-found : {n : ℕ} {δ δ′ : List Attribute} → AttributesDerive φs G n δ δ′ → attributePatterns G fs n δ (patternOf fs δ′ []) ≡ true
   unfolding attributePatterns
-  attributes-found no-attribute = eqb-same (patternOf fs [] [])
+  attributes-found no-attribute = eqb-same (absencePattern fs)
   attributes-found {n} (fixed {a = a} {s = s} {δ = δ} {δ′ = δ′} d) =
       in-product (factMorphism fs) (valuePatterns G fs n a (string s)) (attributePatterns G fs n δ) (attributePattern fs a s) (patternOf fs δ′ [])
       (patternOf fs (record { name = a; value = string s } ∷ δ′) [])
@@ -102,6 +107,10 @@ module _ (φs : List Items) (G : Summary) (bounded : Bounded φs G) (fs : List F
       (patternOf fs (record { name = a; value = string s } ∷ δ′) [])
       (pattern-below fs (record { name = a; value = string s } ∷ []) []) (pattern-below fs δ′ [])
       (string-found n a h s e) (attributes-found d) (attribute-then (record { name = a; value = string s }) δ′)
+  attributes-found {n} (dropped {a = a} {h = h} {δ = δ} {δ′ = δ′} e d) =
+      in-product (factMorphism fs) (valuePatterns G fs n a (open-gap h)) (attributePatterns G fs n δ) (absencePattern fs) (patternOf fs δ′ [])
+      (patternOf fs δ′ []) (pattern-below fs [] []) (pattern-below fs δ′ [])
+      (attained-taken fs a (takes G n h) (absencePattern fs) (inl (e, refl))) (attributes-found d) (none-then δ′)
 
   AttributesMade : ℕ → List Attribute → ℕ → Type 0
   AttributesMade n δ x = (δ′ : List Attribute) × AttributesDerive φs G n δ δ′ × (patternOf fs δ′ [] ≡ x)
@@ -114,33 +123,29 @@ module _ (φs : List Items) (G : Summary) (bounded : Bounded φs G) (fs : List F
     fixed d,
     attribute-then (record { name = a; value = string s }) δ′ ∙ ap₂ (join fs) (sym (eqb-true x (attributePattern fs a s) e)) p,
   )
-  value-made n a (open-gap h) δ x y e (δ′, d, p) =
-      let (s, below, q) = below-any (suc strings) (λ t. G (Proposal.string n h t) && only (attributePattern fs a t) x) e in (
+  value-made n a (open-gap h) δ x y e (δ′, d, p) = made (taken-attained fs a (takes G n h) x e)
+    where
+      made : Attained fs a (takes G n h) x → AttributesMade n (record { name = a; value = open-gap h } ∷ δ) (join fs x y)
+      made (inl (t, q)) = (δ′, dropped t d, none-then δ′ ∙ ap₂ (join fs) (sym q) p)
+      made (inr (s, l, t, q)) = (
         record { name = a; value = string s } ∷ δ′,
-        filled s (and-left (G (Proposal.string n h s)) (only (attributePattern fs a s) x) q) d,
-        attribute-then (record { name = a; value = string s }) δ′
-            ∙ ap₂ (join fs) (sym (eqb-true x (attributePattern fs a s) (and-right (G (Proposal.string n h s)) (only (attributePattern fs a s) x) q))) p,
+        filled s t d,
+        attribute-then (record { name = a; value = string s }) δ′ ∙ ap₂ (join fs) (sym q) p,
       )
 
   attributes-made : (n : ℕ) (δ : List Attribute) (x : ℕ) → attributePatterns G fs n δ x ≡ true → AttributesMade n δ x
   unfolding attributePatterns AttributesMade
-  attributes-made n [] x e = ([], no-attribute, sym (eqb-true x (patternOf fs [] []) e))
+  attributes-made n [] x e = ([], no-attribute, sym (eqb-true x (absencePattern fs) e))
   attributes-made n (a ∷ δ) x e =
       let f = factors (factMorphism fs) (valuePatterns G fs n (a .name) (a .value)) (attributePatterns G fs n δ) x e in
       let (δ′, d, p) = value-made n (a .name) (a .value) δ (f .first) (f .second) (f .in-first) (attributes-made n δ (f .second) (f .in-second)) in
       (δ′, d, p ∙ sym (f .joined))
 
-  -- The attribute patterns are those of the strings that the attributes can take, each by itself.
+  -- The attribute patterns are those of the strings, or of absence, that the attributes can take, each by itself.
   pub attributes-exact : (n : ℕ) (δ : List Attribute) (x : ℕ)
       → attributePatterns G fs n δ x ≡ true ↔ ((δ′ : List Attribute) × AttributesDerive φs G n δ δ′ × (patternOf fs δ′ [] ≡ x))
   unfolding AttributesMade
   attributes-exact n δ x = (attributes-made n δ x, λ (δ′, d, p). subst (λ (y : ℕ). attributePatterns G fs n δ y ≡ true) p (attributes-found d))
-
--- Filling the gaps of attributes leaves their names.
-pub names-kept : (φs : List Items) (G : Summary) {n : ℕ} {δ δ′ : List Attribute} → AttributesDerive φs G n δ δ′ → names δ′ ≡ names δ
-names-kept φs G no-attribute = refl
-names-kept φs G (fixed {a = a} d) = ap (λ (ns : List ℕ). a ∷ ns) (names-kept φs G d)
-names-kept φs G (filled {a = a} s e d) = ap (λ (ns : List ℕ). a ∷ ns) (names-kept φs G d)
 
 module _ (φs : List Items) (G : Summary) (bounded : Bounded φs G) (ψ : Formula) (named : NamedOnly ψ)
     (X : Sets) (exact : Exact φs G (factMorphism (factsOf ψ)) X) where
@@ -170,19 +175,18 @@ module _ (φs : List Items) (G : Summary) (bounded : Bounded φs G) (ψ : Formul
   element-exact n δ φ x = (pattern-made n δ φ x, pattern-found n δ φ x)
 
   -- The truth of the clause at a filling is that at its pattern.
-  truth-at : {n : ℕ} {δ δ′ : List Attribute} → AttributesDerive φs G n δ δ′ → (w : List ℕ) (x : ℕ) → patternOf (factsOf ψ) δ′ w ≡ x
-      → truthOf (atomsOf δ′ w) ψ ≡ truthOf (atomsBy (factsOf ψ) (names δ) x) ψ
-  truth-at {δ′ = δ′} a w x p = truth-of-pattern ψ δ′ w
-      ∙ ap₂ (λ (ns : List ℕ) (y : ℕ). truthOf (atomsBy (factsOf ψ) ns y) ψ) (names-kept φs G a) p
+  truth-at : {n : ℕ} {δ δ′ : List Attribute} → Distinct (names δ) → AttributesDerive φs G n δ δ′ → (w : List ℕ) (x : ℕ) → patternOf (factsOf ψ) δ′ w ≡ x
+      → truthOf (atomsOf δ′ w) ψ ≡ truthOf (atomsBy (factsOf ψ) x) ψ
+  truth-at {δ′ = δ′} once a w x p = truth-of-pattern ψ δ′ w (derived-once φs G a once) ∙ ap (λ (y : ℕ). truthOf (atomsBy (factsOf ψ) y) ψ) p
 
   -- The test of a clause is exact.
-  pub clause-exact : (n : ℕ) (δ : List Attribute) (φ : Items) → clauseFails φs G ψ X n δ φ ≡ true
+  pub clause-exact : (n : ℕ) (δ : List Attribute) (φ : Items) → Distinct (names δ) → clauseFails φs G ψ X n δ φ ≡ true
       ↔ CanBe φs G n δ φ (λ δ′ φ′. truthOf (atomsOf δ′ (word φ′)) ψ ≡ false)
   unfolding clauseFails
-  clause-exact n δ φ = (to, back)
+  clause-exact n δ φ once = (to, back)
     where
       fails : ℕ → Bool
-      fails x = not (truthOf (atomsBy (factsOf ψ) (names δ) x) ψ)
+      fails x = not (truthOf (atomsBy (factsOf ψ) x) ψ)
 
       to : anyBelow (2 ^ length (factsOf ψ)) (λ x. elementPatterns φs G (factsOf ψ) X n δ φ x && fails x) ≡ true
           → CanBe φs G n δ φ (λ δ′ φ′. truthOf (atomsOf δ′ (word φ′)) ψ ≡ false)
@@ -193,8 +197,8 @@ module _ (φs : List Items) (G : Summary) (bounded : Bounded φs G) (ψ : Formul
             φ′,
             a,
             d,
-            truth-at a (word φ′) x q
-                ∙ not-true (truthOf (atomsBy (factsOf ψ) (names δ) x) ψ) (and-right (elementPatterns φs G (factsOf ψ) X n δ φ x) (fails x) p),
+            truth-at once a (word φ′) x q
+                ∙ not-true (truthOf (atomsBy (factsOf ψ) x) ψ) (and-right (elementPatterns φs G (factsOf ψ) X n δ φ x) (fails x) p),
           )
 
       back : CanBe φs G n δ φ (λ δ′ φ′. truthOf (atomsOf δ′ (word φ′)) ψ ≡ false)
@@ -203,4 +207,4 @@ module _ (φs : List Items) (G : Summary) (bounded : Bounded φs G) (ψ : Formul
           let x : ℕ = patternOf (factsOf ψ) δ′ (word φ′) in
           any-below (2 ^ length (factsOf ψ)) (λ x′. elementPatterns φs G (factsOf ψ) X n δ φ x′ && fails x′) x
           (pattern-below (factsOf ψ) δ′ (word φ′))
-          (and-both _ _ (pattern-found n δ φ x (δ′, φ′, a, d, refl)) (ap not (sym (truth-at a (word φ′) x refl) ∙ q)))
+          (and-both _ _ (pattern-found n δ φ x (δ′, φ′, a, d, refl)) (ap not (sym (truth-at once a (word φ′) x refl) ∙ q)))

@@ -7,24 +7,32 @@ use mathlib.Core.Logic.{_⊎_, inl, inr, ⊎-elim}
 use lib.Dec.{eqb}
 use borrow.Author.Tests.{eqb-true}
 use Rattle.vocabularies.specs.Vocabulary.{Formula, conj, disj, neg, truth, attr, content, order, value}
-use Rattle.vocabularies.specs.Facts.{Fact, present, ordered, valued, sameFact, isAmong, add, withFacts, factsOf}
+use Rattle.vocabularies.specs.Facts.{Fact, carried, present, ordered, valued, sameFact, isAmong, add, withFacts, factsOf}
 use Rattle.patterns.proofs.Tests.{eqb-same}
 use Rattle.sets.proofs.Booleans.{or-left, or-right, or-cases, and-both, and-left, and-right}
 
 pub same-fact : (f g : Fact) → sameFact f g ≡ true → f ≡ g
+same-fact (carried a) (carried b) e = ap carried (eqb-true a b e)
+same-fact (carried a) (present d) e = absurd (false≢true e)
+same-fact (carried a) (ordered d d′) e = absurd (false≢true e)
+same-fact (carried a) (valued b m) e = absurd (false≢true e)
+same-fact (present c) (carried b) e = absurd (false≢true e)
 same-fact (present c) (present d) e = ap present (eqb-true c d e)
 same-fact (present c) (ordered d d′) e = absurd (false≢true e)
 same-fact (present c) (valued a m) e = absurd (false≢true e)
+same-fact (ordered c c′) (carried b) e = absurd (false≢true e)
 same-fact (ordered c c′) (present d) e = absurd (false≢true e)
 same-fact (ordered c c′) (ordered d d′) e =
     ap₂ ordered (eqb-true c d (and-left (eqb c d) (eqb c′ d′) e)) (eqb-true c′ d′ (and-right (eqb c d) (eqb c′ d′) e))
 same-fact (ordered c c′) (valued a m) e = absurd (false≢true e)
+same-fact (valued a m) (carried b) e = absurd (false≢true e)
 same-fact (valued a m) (present d) e = absurd (false≢true e)
 same-fact (valued a m) (ordered d d′) e = absurd (false≢true e)
 same-fact (valued a m) (valued b m′) e =
     ap₂ valued (eqb-true a b (and-left (eqb a b) (eqb m m′) e)) (eqb-true m m′ (and-right (eqb a b) (eqb m m′) e))
 
 pub fact-same : (f : Fact) → sameFact f f ≡ true
+fact-same (carried a) = eqb-same a
 fact-same (present c) = eqb-same c
 fact-same (ordered c d) = and-both _ _ (eqb-same c) (eqb-same d)
 fact-same (valued a m) = and-both _ _ (eqb-same a) (eqb-same m)
@@ -85,7 +93,7 @@ Covers fs (conj ψ₁ ψ₂) = Covers fs ψ₁ × Covers fs ψ₂
 Covers fs (disj ψ₁ ψ₂) = Covers fs ψ₁ × Covers fs ψ₂
 Covers fs (neg ψ) = Covers fs ψ
 Covers fs truth = Unit {0}
-Covers fs (attr a) = Unit {0}
+Covers fs (attr a) = isAmong (carried a) fs ≡ true
 Covers fs (content c) = isAmong (present c) fs ≡ true
 Covers fs (order c d) = isAmong (ordered c d) fs ≡ true
 Covers fs (value a m) = isAmong (valued a m) fs ≡ true
@@ -96,7 +104,7 @@ among-with (conj ψ₁ ψ₂) f fs e = among-with ψ₂ f (withFacts ψ₁ fs) (
 among-with (disj ψ₁ ψ₂) f fs e = among-with ψ₂ f (withFacts ψ₁ fs) (among-with ψ₁ f fs e)
 among-with (neg ψ) f fs e = among-with ψ f fs e
 among-with truth f fs e = e
-among-with (attr a) f fs e = e
+among-with (attr a) f fs e = among-add f (carried a) fs e
 among-with (content c) f fs e = among-add f (present c) fs e
 among-with (order c d) f fs e = among-add f (ordered c d) (add (present d) (add (present c) fs))
     (among-add f (present d) (add (present c) fs) (among-add f (present c) fs e))
@@ -107,7 +115,7 @@ covers-more (conj ψ₁ ψ₂) fs gs h k = (covers-more ψ₁ fs gs h (k .0), co
 covers-more (disj ψ₁ ψ₂) fs gs h k = (covers-more ψ₁ fs gs h (k .0), covers-more ψ₂ fs gs h (k .1))
 covers-more (neg ψ) fs gs h k = covers-more ψ fs gs h k
 covers-more truth fs gs h k = tt
-covers-more (attr a) fs gs h k = tt
+covers-more (attr a) fs gs h k = h (carried a) k
 covers-more (content c) fs gs h k = h (present c) k
 covers-more (order c d) fs gs h k = h (ordered c d) k
 covers-more (value a m) fs gs h k = h (valued a m) k
@@ -124,7 +132,7 @@ with-covers (disj ψ₁ ψ₂) fs = (
 )
 with-covers (neg ψ) fs = with-covers ψ fs
 with-covers truth fs = tt
-with-covers (attr a) fs = tt
+with-covers (attr a) fs = added (carried a) fs
 with-covers (content c) fs = added (present c) fs
 with-covers (order c d) fs = added (ordered c d) (add (present d) (add (present c) fs))
 with-covers (value a m) fs = added (valued a m) fs
@@ -137,9 +145,14 @@ closed-add g fs single k c d e = ⊎-elim
     (among-add-cases (ordered c d) g fs e)
 
 isPair : Fact → Bool
+isPair (carried a) = false
 isPair (present c) = false
 isPair (ordered c d) = true
 isPair (valued a m) = false
+
+carried-single : (a c d : ℕ) → ordered c d ≡ carried a → ⊥
+unfolding isPair
+carried-single a c d e = false≢true (ap isPair (sym e))
 
 present-single : (x c d : ℕ) → ordered c d ≡ present x → ⊥
 unfolding isPair
@@ -178,7 +191,7 @@ with-closed (conj ψ₁ ψ₂) fs k = with-closed ψ₂ (withFacts ψ₁ fs) (wi
 with-closed (disj ψ₁ ψ₂) fs k = with-closed ψ₂ (withFacts ψ₁ fs) (with-closed ψ₁ fs k)
 with-closed (neg ψ) fs k = with-closed ψ fs k
 with-closed truth fs k = k
-with-closed (attr a) fs k = k
+with-closed (attr a) fs k = closed-add (carried a) fs (carried-single a) k
 with-closed (content c) fs k = closed-add (present c) fs (present-single c) k
 with-closed (order c d) fs k = closed-pair c d fs k
 with-closed (value a m) fs k = closed-add (valued a m) fs (valued-single a m) k

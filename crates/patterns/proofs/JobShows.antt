@@ -118,5 +118,5 @@ show-decided π E read p = go (graphShown (π .templates) (π .program) E p) ref
     go : (o : Option Summary) → graphShown (π .templates) (π .program) E p ≡ o → ShowDecided π E p
     go none e = holds (nothing-shown π E p e)
     go (some G) e =
-        let (T, exact) = worked-out (π .templates) G (read .graphs p G e) (read .script .templates) (π .vocabulary) in
+        let (T, exact) = worked-out (π .templates) G (read .graphs p G e) (read .script .templates .in-range) (π .vocabulary) in
         from G e T exact _ _ refl refl

@@ -9,12 +9,12 @@ use lib.ListN.{length}
 use lib.Dec.{eqb, eqb·suc-zero}
 use borrow.Author.Tests.{eqb-true}
 use Rattle.vocabularies.specs.Vocabulary.{Formula, isIn}
-use Rattle.vocabularies.specs.Facts.{Fact, present, ordered, valued, isAmong, factsOf}
+use Rattle.vocabularies.specs.Facts.{Fact, carried, present, ordered, valued, isAmong, factsOf}
 use Rattle.pages.specs.Items.{Item, text, blank, gap, element, Items, none, more}
-use Rattle.judging.specs.contracts.Judgement.{precedes, holdsValue}
+use Rattle.judging.specs.contracts.Judgement.{precedes}
 use Rattle.summaries.specs.Proposal.{edge}
 use Rattle.summaries.specs.Summaries.{Summary}
-use Rattle.patterns.specs.contracts.Patterns.{flagged, patternOf, flagIn, joinedFlag, join}
+use Rattle.patterns.specs.contracts.Patterns.{breaksValue, flagged, patternOf, flagIn, joinedFlag, join}
 use Rattle.patterns.specs.contracts.Morphisms.{Morphism, factMorphism, rootMorphism, classOf, joinClasses, empty, other}
 use Rattle.patterns.specs.contracts.Given.{Bounded}
 use Rattle.patterns.specs.contracts.Rounds.{Set, Sets, only, product, anyBelow, allTake, itemTakes, patterns, itemPatterns}
@@ -104,6 +104,8 @@ module _ (fs : List Fact) (closed : Closed fs) (distinct : Distinct fs) where
   join-assoc x y z = numbered-same fs (joinedFlag fs (join fs x y) z) (joinedFlag fs x (join fs y z)) each
     where
       each : (f : Fact) → isAmong f fs ≡ true → joinedFlag fs (join fs x y) z f ≡ joinedFlag fs x (join fs y z) f
+      each (carried a) e = rw (flag-join x y (carried a) e, flag-join y z (carried a) e)
+          (or-assoc (flagIn fs x (carried a)) (flagIn fs y (carried a)) (flagIn fs z (carried a)))
       each (present c) e = rw (flag-join x y (present c) e, flag-join y z (present c) e)
           (or-assoc (flagIn fs x (present c)) (flagIn fs y (present c)) (flagIn fs z (present c)))
       each (ordered c d) e = rw (
@@ -118,7 +120,8 @@ module _ (fs : List Fact) (closed : Closed fs) (distinct : Distinct fs) where
           (or-assoc (flagIn fs x (valued a m)) (flagIn fs y (valued a m)) (flagIn fs z (valued a m)))
 
   unit-unflagged : (f : Fact) → isAmong f fs ≡ true → flagIn fs (patternOf fs [] []) f ≡ false
-  unfolding isIn precedes holdsValue
+  unfolding isIn precedes breaksValue
+  unit-unflagged (carried a) e = flag-of fs [] [] (carried a) e
   unit-unflagged (present c) e = flag-of fs [] [] (present c) e
   unit-unflagged (ordered c d) e = flag-of fs [] [] (ordered c d) e
   unit-unflagged (valued a m) e = flag-of fs [] [] (valued a m) e
@@ -128,6 +131,7 @@ module _ (fs : List Fact) (closed : Closed fs) (distinct : Distinct fs) where
   join-unit-left x h = numbered-same fs (joinedFlag fs (patternOf fs [] []) x) (flagIn fs x) each ∙ numbered-flags fs distinct x h
     where
       each : (f : Fact) → isAmong f fs ≡ true → joinedFlag fs (patternOf fs [] []) x f ≡ flagIn fs x f
+      each (carried a) e = rw (unit-unflagged (carried a) e)
       each (present c) e = rw (unit-unflagged (present c) e)
       each (ordered c d) e = rw (unit-unflagged (ordered c d) e, unit-unflagged (present d) (closed c d e .1)) (or-false (flagIn fs x (ordered c d)))
       each (valued a m) e = rw (unit-unflagged (valued a m) e)
@@ -142,6 +146,7 @@ module _ (fs : List Fact) (closed : Closed fs) (distinct : Distinct fs) where
       none-left false false = refl
 
       each : (f : Fact) → isAmong f fs ≡ true → joinedFlag fs x (patternOf fs [] []) f ≡ flagIn fs x f
+      each (carried a) e = rw (unit-unflagged (carried a) e) (or-false (flagIn fs x (carried a)))
       each (present c) e = rw (unit-unflagged (present c) e) (or-false (flagIn fs x (present c)))
       each (ordered c d) e = rw (unit-unflagged (ordered c d) e, unit-unflagged (present c) (closed c d e .0))
           (none-left (flagIn fs x (ordered c d)) (flagIn fs x (present d)))

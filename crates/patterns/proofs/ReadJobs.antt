@@ -12,14 +12,14 @@ use Rattle.summaries.specs.Languages.{graphShown}
 use Rattle.jobs.specs.Job.{Script, Job, script, job}
 use Rattle.agreement.proofs.Readings.{Gives, gives, given, gives-then, gives-alone}
 use Rattle.agreement.proofs.ReadPrograms.{TemplatesThere, program-there}
-use Rattle.patterns.specs.contracts.Given.{Bounded, NamesInRange, SoundVocabulary}
+use Rattle.patterns.specs.contracts.Given.{Bounded, SoundTemplates, SoundVocabulary}
 use Rattle.patterns.proofs.ReadVocabularies.{Bytes, vocabulary-sound}
-use Rattle.patterns.proofs.ReadTemplates.{templates-in-range}
+use Rattle.patterns.proofs.ReadTemplates.{templates-sound}
 use Rattle.patterns.proofs.ReadProposals.{proposal-in-range, shown-bounded}
 
 pub record GivenScript (π : Script) : Type 0 where
   pub vocabulary : SoundVocabulary (π .vocabulary)
-  pub templates : NamesInRange (π .templates)
+  pub templates : SoundTemplates (π .templates)
   pub program : TemplatesThere (length (π .templates)) (π .program)
 
 pub record GivenShows (π : Script) (E : ℕ → Environment) : Type 0 where
@@ -30,7 +30,7 @@ gives-script : (s : List ℕ) → Bytes s → Gives (Unit {0}) (λ π end. Given
 unfolding script
 gives-script s bytes =
     gives-then (vocabulary-sound s bytes) λ D next v.
-    gives-then (templates-in-range (declared (D .rules)) s (enough s) 0 next) λ φs next′ t.
+    gives-then (templates-sound (declared (D .rules)) s (enough s) 0 next) λ φs next′ t.
     gives-then (program-there (length φs) s (enough s) next′) λ ts end p. gives (record { vocabulary = v; templates = t; program = p .templates })
 
 gives-job : (s : List ℕ) → Bytes s → Gives (Unit {0}) (λ j end. GivenShows (j .script) (entries (j .proposal))) (job s)

@@ -210,7 +210,7 @@ module _ (φs : List Items) (S : Summary) (b : Bounded φs S) where
         (b .edges n g m)
         (λ p. let z = eqb-true m 0 (and-left (eqb m 0) (S (gapFrom g n)) p) in omega arith)
         (or-cases (S (edge n g m)) (eqb m 0 && S (gapFrom g n)) e);
-    others-alike = λ n k s l. rw (b .others-alike n k s l, ne-eqb s 0 (λ e. omega arith));
+    others-alike = b .others-alike;
   }
 
 -- The graph that a point shows.

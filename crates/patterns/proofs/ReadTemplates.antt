@@ -1,56 +1,97 @@
--- Templates that were read have elements in range.
+-- Templates that were read have elements in range, and no attribute twice in one element.
 use Prim.Native.Nat.{ℕ, zero, suc, _+_, _<_}
 use native.Mathlib.Omega.{arith}
-use mathlib.Core.Path.{_≡_}
+use mathlib.Core.Path.{_≡_, sym, subst, _∙_}
 use mathlib.Core.List.{List, [], _∷_}
-use mathlib.Core.Bool.{Bool, true, false, cond}
-use mathlib.Core.Logic.{inl, inr}
+use mathlib.Core.Bool.{Bool, true, false, cond, true≢false}
+use mathlib.Core.Logic.{inl, inr, ⊎-elim}
 use lib.Dec.{eqb, leb, ltb}
 use borrow.Author.Tests.{eqb-true, leb-true}
 use Rattle.commands.specs.declared.Context.the-variants.{Templates}
 use Rattle.commands.specs.declared.Context.{Context}
-use Rattle.commands.specs.Commands.{byte, operandsOf, inRange, allInRange}
+use Rattle.commands.specs.Commands.{byte, allowed, operandsOf, inRange, allInRange}
 use Rattle.commands.specs.Commands as Commands
+use Rattle.vocabularies.specs.Vocabulary.{isIn, Distinct}
 use Rattle.pages.specs.declared.Kind.{Kind}
 use Rattle.pages.specs.declared.Kind.the-variants.{Template}
-use Rattle.pages.specs.Items.{Attribute, Item, text, blank, gap, element, Items, none, more}
-use Rattle.pages.specs.RightPages.{SomeElement, SomeElementOf}
-use Rattle.pages.specs.ItemReading.{itemContext, nesting, attributes, endOf, leafAt, items, item, mostTemplates, templates}
+use Rattle.pages.specs.Items.{Value, Attribute, Item, text, blank, gap, element, Items, none, more}
+use Rattle.pages.specs.RightPages.{names, SomeElement, SomeElementOf}
+use Rattle.pages.specs.ItemReading.{attributeContext, valueAt, itemContext, nesting, attributes, endOf, leafAt, items, item, mostTemplates, templates}
 use Rattle.programs.specs.Program.{templateAt}
-use Rattle.agreement.proofs.Readings.{Gives, gives, refuses, runs-out, gives-any, gives-when, gives-then}
-use Rattle.patterns.specs.contracts.Given.{contents, NamesInRange}
-use Rattle.sets.proofs.Booleans.{and-left, and-right}
+use Rattle.agreement.proofs.Readings.{Gives, gives, refuses, runs-out, gives-when, gives-then, gives-map}
+use Rattle.patterns.specs.contracts.Given.{contents, SoundTemplates}
+use Rattle.sets.proofs.Booleans.{or-left, or-cases, or-neither, and-left, and-right, refuted}
+use Rattle.patterns.proofs.Tests.{eqb-same}
 use Rattle.patterns.proofs.Ranges.{Ranged, ranges-of, gives-ranged}
 
--- Every element of the items is in range.
-abbrev ItemsInRange : Items → Type 0
-ItemsInRange φ = (c : ℕ) → SomeElement (λ e mark δ χ. e ≡ c) φ → c < contents
+-- What each element that was read has: a name in range, and no attribute twice.
+abbrev ElementSound : ℕ → List Attribute → Type 0
+ElementSound e δ = (e < contents) × Distinct (names δ)
 
-abbrev ItemInRange : Item → Type 0
-ItemInRange i = (c : ℕ) → SomeElementOf (λ e mark δ χ. e ≡ c) i → c < contents
+unfoldable mutual
+  ItemsSound : Items → Type 0
+  ItemsSound none = Unit {0}
+  ItemsSound (more i φ) = ItemSound i × ItemsSound φ
 
-none-in-range : ItemsInRange none
-unfolding SomeElement
-none-in-range c s = absurd s
+  ItemSound : Item → Type 0
+  ItemSound text = Unit {0}
+  ItemSound blank = Unit {0}
+  ItemSound (gap g) = Unit {0}
+  ItemSound (element e mark δ φ) = ElementSound e δ × ItemsSound φ
 
-more-in-range : (i : Item) (φ : Items) → ItemInRange i → ItemsInRange φ → ItemsInRange (more i φ)
-unfolding SomeElement
-more-in-range i φ h k c (inl s) = h c s
-more-in-range i φ h k c (inr s) = k c s
+-- What follows from it for each element, follows for some element of the items.
+module _ (P : ℕ → List Attribute → Type 0) (R : Type 0) (each : (e : ℕ) (δ : List Attribute) → ElementSound e δ → P e δ → R) where
+  mutual
+    unfolding ItemsSound SomeElement
 
-element-in-range : (e mark : ℕ) (δ : List Attribute) (φ : Items) → e < contents → ItemsInRange φ → ItemInRange (element e mark δ φ)
-unfolding SomeElement
-element-in-range e mark δ φ h k c (inl s) = omega arith
-element-in-range e mark δ φ h k c (inr s) = k c s
+    some-sound : (φ : Items) → ItemsSound φ → SomeElement (λ e mark δ χ. P e δ) φ → R
+    some-sound none u s = absurd s
+    some-sound (more i φ) (h, k) (inl s) = some-sound-of i h s
+    some-sound (more i φ) (h, k) (inr s) = some-sound φ k s
 
-leaf-in-range : (s : List ℕ) (at code : ℕ) → ItemInRange (leafAt s at code)
-unfolding SomeElement
-leaf-in-range s at code = cases (eqb code 0x21) (eqb code 0x29)
+    some-sound-of : (i : Item) → ItemSound i → SomeElementOf (λ e mark δ χ. P e δ) i → R
+    some-sound-of text u s = absurd s
+    some-sound-of blank u s = absurd s
+    some-sound-of (gap g) u s = absurd s
+    some-sound-of (element e mark δ φ) (h, k) (inl s) = each e δ h s
+    some-sound-of (element e mark δ φ) (h, k) (inr s) = some-sound φ k s
+
+-- Attributes none of which was named before, nor stands twice.
+abbrev Apart : List ℕ → List Attribute → Type 0
+Apart before δ = Distinct (names δ) × ((c : ℕ) → isIn c (names δ) ≡ true → isIn c before ≡ false)
+
+none-apart : (before : List ℕ) → Apart before []
+unfolding Distinct isIn
+none-apart before = (tt, λ c e. absurd (true≢false (sym e)))
+
+one-apart : (a : ℕ) (v : Value) (before : List ℕ) (δ : List Attribute) → isIn a before ≡ false → Apart (a ∷ before) δ → Apart before (record { name = a; value = v } ∷ δ)
+unfolding Distinct isIn
+one-apart a v before δ fresh (once, apart) = (
+  (refuted (isIn a (names δ)) (λ t. true≢false (sym (or-left (eqb a a) (isIn a before) (eqb-same a)) ∙ apart a t)), once),
+  λ c e. ⊎-elim
+      (λ q. subst (λ (k : ℕ). isIn k before ≡ false) (sym (eqb-true c a q)) fresh)
+      (λ q. or-neither (eqb c a) (isIn c before) (apart c q) .1)
+      (or-cases (eqb c a) (isIn c (names δ)) e),
+)
+
+attributes-apart : (k : Kind) (s : List ℕ) (f : ℕ) (before : List ℕ) (at : ℕ) → Gives (Unit {0}) (λ δ end. Apart before δ) (attributes f k s before at)
+unfolding attributes
+attributes-apart k s zero before at = runs-out tt
+attributes-apart k s (suc f) before at = gives-when (allowed (attributeContext k) (byte s at))
+    (λ _ _. gives-ranged (attributeContext k) s at λ code next t. gives-when (isIn (byte s (at + 1)) before)
+    (λ _ _. refuses)
+    (λ _ fresh. gives-then (attributes-apart k s f (byte s (at + 1) ∷ before) next) λ δ end apart.
+    gives (one-apart (byte s (at + 1)) (valueAt s at code) before δ fresh apart)))
+    (λ _ _. gives (none-apart before))
+
+leaf-sound : (s : List ℕ) (at code : ℕ) → ItemSound (leafAt s at code)
+unfolding ItemsSound
+leaf-sound s at code = cases (eqb code 0x21) (eqb code 0x29)
   where
-    cases : (a b : Bool) → ItemInRange (cond a text (cond b blank (gap (byte s (at + 1)))))
-    cases true b c t = absurd t
-    cases false true c t = absurd t
-    cases false false c t = absurd t
+    cases : (a b : Bool) → ItemSound (cond a text (cond b blank (gap (byte s (at + 1)))))
+    cases true b = tt
+    cases false true = tt
+    cases false false = tt
 
 -- `23 e` has an element, 63 at most.
 element-ranged : (x : Context) (s : List ℕ) (at code : ℕ) → Ranged x s at code → eqb code 0x23 ≡ true → byte s (at + 1) < contents
@@ -62,41 +103,52 @@ element-ranged x s at code t e =
 
 module _ (k : Kind) (ruled : ℕ → Bool) (s : List ℕ) where
   mutual
-    unfolding items
+    unfolding items ItemsSound
 
-    items-in-range : (f depth at : ℕ) → Gives (Unit {0}) (λ φ end. ItemsInRange φ) (items f k ruled s depth at)
-    items-in-range zero depth at = runs-out tt
-    items-in-range (suc f) depth at = gives-when (eqb (byte s at) (endOf depth))
-        (λ _ _. gives none-in-range)
-        (λ _ _. gives-then (item-in-range f depth at) λ i next m. gives-then (items-in-range f depth next) λ φ end n. gives (more-in-range i φ m n))
+    items-sound : (f depth at : ℕ) → Gives (Unit {0}) (λ φ end. ItemsSound φ) (items f k ruled s depth at)
+    items-sound zero depth at = runs-out tt
+    items-sound (suc f) depth at = gives-when (eqb (byte s at) (endOf depth))
+        (λ _ _. gives tt)
+        (λ _ _. gives-then (item-sound f depth at) λ i next m. gives-then (items-sound f depth next) λ φ end n. gives (m, n))
 
-    item-in-range : (f depth at : ℕ) → Gives (Unit {0}) (λ i end. ItemInRange i) (item f k ruled s depth at)
-    item-in-range zero depth at = runs-out tt
-    item-in-range (suc f) depth at = gives-ranged (itemContext k) s at λ code next t. gives-when (eqb code 0x23)
+    item-sound : (f depth at : ℕ) → Gives (Unit {0}) (λ i end. ItemSound i) (item f k ruled s depth at)
+    item-sound zero depth at = runs-out tt
+    item-sound (suc f) depth at = gives-ranged (itemContext k) s at λ code next t. gives-when (eqb code 0x23)
         (λ _ e. gives-when (ruled (byte s (at + 1)))
         (λ _ _. gives-when (ltb depth (nesting k))
-        (λ _ _. gives-then (gives-any (attributes f k s [] next)) λ δ inside _. gives-then (items-in-range f (depth + 1) inside) λ φ end n.
-        gives (element-in-range (byte s (at + 1)) at δ φ (element-ranged (itemContext k) s at code t e) n))
+        (λ _ _. gives-then (attributes-apart k s f [] next) λ δ inside apart. gives-then (items-sound f (depth + 1) inside) λ φ end n.
+        gives ((element-ranged (itemContext k) s at code t e, apart .0), n))
         (λ _ _. refuses))
         (λ _ _. refuses))
-        (λ _ _. gives (leaf-in-range s at code))
+        (λ _ _. gives (leaf-sound s at code))
 
-no-templates : NamesInRange []
-unfolding templateAt
-no-templates n c s = none-in-range c s
+AllSound : List Items → Type 0
+AllSound φs = (n : ℕ) → ItemsSound (templateAt φs n)
 
-more-templates : (φ : Items) (φs : List Items) → ItemsInRange φ → NamesInRange φs → NamesInRange (φ ∷ φs)
-unfolding templateAt
-more-templates φ φs h k zero c s = none-in-range c s
-more-templates φ φs h k (suc zero) c s = h c s
-more-templates φ φs h k (suc (suc n)) c s = k (suc n) c s
+no-templates : AllSound []
+unfolding AllSound ItemsSound templateAt
+no-templates n = tt
 
-pub templates-in-range : (ruled : ℕ → Bool) (s : List ℕ) (f count at : ℕ) → Gives (Unit {0}) (λ φs end. NamesInRange φs) (templates f ruled s count at)
+more-templates : (φ : Items) (φs : List Items) → ItemsSound φ → AllSound φs → AllSound (φ ∷ φs)
+unfolding AllSound ItemsSound templateAt
+more-templates φ φs h k zero = tt
+more-templates φ φs h k (suc zero) = h
+more-templates φ φs h k (suc (suc n)) = k (suc n)
+
+all-sound : (ruled : ℕ → Bool) (s : List ℕ) (f count at : ℕ) → Gives (Unit {0}) (λ φs end. AllSound φs) (templates f ruled s count at)
 unfolding templates
-templates-in-range ruled s zero count at = runs-out tt
-templates-in-range ruled s (suc f) count at = gives-ranged Templates s at λ code next t. gives-when (eqb code 0x2F)
+all-sound ruled s zero count at = runs-out tt
+all-sound ruled s (suc f) count at = gives-ranged Templates s at λ code next t. gives-when (eqb code 0x2F)
     (λ _ _. gives no-templates)
     (λ _ _. gives-when (ltb count mostTemplates)
-    (λ _ _. gives-then (items-in-range Template ruled s f 0 next) λ φ after m. gives-then (templates-in-range ruled s f (count + 1) after) λ φs end n.
+    (λ _ _. gives-then (items-sound Template ruled s f 0 next) λ φ after m. gives-then (all-sound ruled s f (count + 1) after) λ φs end n.
     gives (more-templates φ φs m n))
     (λ _ _. refuses))
+
+pub templates-sound : (ruled : ℕ → Bool) (s : List ℕ) (f count at : ℕ) → Gives (Unit {0}) (λ φs end. SoundTemplates φs) (templates f ruled s count at)
+unfolding AllSound
+templates-sound ruled s f count at = gives-map (λ φs end all. record {
+  in-range = λ n c. some-sound (λ e δ. e ≡ c) (c < contents) (λ e δ h q. rw (sym q) (h .0)) (templateAt φs n) (all n);
+  once = λ n δ. some-sound (λ e ε. ε ≡ δ) (Distinct (names δ)) (λ e ε h q. subst (λ (ζ : List Attribute). Distinct (names ζ)) q (h .1)) (templateAt φs n) (all n);
+})
+    (all-sound ruled s f count at)

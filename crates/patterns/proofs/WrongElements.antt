@@ -7,7 +7,7 @@ use mathlib.Core.Option.{Option, some, none}
 use mathlib.Core.Logic.{_↔_, _⊎_, ⊎-elim}
 use lib.Dec.{eqb}
 use borrow.Author.Tests.{eqb-true, not-true}
-use Rattle.vocabularies.specs.Vocabulary.{Formula, Rule, Vocabulary, ruleOf, isIn}
+use Rattle.vocabularies.specs.Vocabulary.{Formula, Rule, Vocabulary, ruleOf, isIn, Distinct}
 use Rattle.vocabularies.specs.Facts.{factsOf}
 use Rattle.pages.specs.Items.{Attribute, Items}
 use Rattle.pages.specs.RightPages.{_∈_, names, word, ElementRight, SomeElement}
@@ -20,12 +20,13 @@ use Rattle.patterns.specs.contracts.Morphisms.{factMorphism}
 use Rattle.patterns.specs.contracts.Given.{Bounded, contents, NamesInRange, NamedOnly}
 use Rattle.patterns.specs.contracts.Rounds.{Sets}
 use Rattle.patterns.specs.contracts.Reached.{CanBe, contentsOf}
-use Rattle.patterns.specs.contracts.Elements.{clauseFails, someClauseFails, contentOutside, wrongUnder, wrongBy, wrongElement}
+use Rattle.patterns.specs.contracts.Elements.{carriableNames, clauseFails, someClauseFails, contentOutside, wrongUnder, wrongBy, wrongElement}
 use Rattle.patterns.specs.contracts.Exactness.{Exact, ContentsExact}
 use Rattle.patterns.proofs.Tests.{eqb-same, any-below, below-any}
 use Rattle.sets.proofs.Booleans.{or-left, or-right, or-cases, and-both, and-left, and-right, fails-left, fails-right, fails-cases}
+use Rattle.patterns.proofs.Attributes.{carried-in, carried-by}
 use Rattle.patterns.proofs.Contents.{occurs-small, items-contents-exact}
-use Rattle.patterns.proofs.ElementPatterns.{names-kept, clause-exact}
+use Rattle.patterns.proofs.ElementPatterns.{clause-exact}
 
 -- A number of the list that is not allowed.
 outside : (ns allowed : List ℕ) → allIn ns allowed ≡ false → (c : ℕ) × (isIn c ns ≡ true) × (isIn c allowed ≡ false)
@@ -50,36 +51,36 @@ module _ (φs : List Items) (G : Summary) (bounded : Bounded φs G) (named : Nam
     abbrev pub Worked : Formula → Type 0
     Worked ψ = NamedOnly ψ × Exact φs G (factMorphism (factsOf ψ)) (X ψ)
 
-    clauses-fail : (ψs : List Formula) → ((ψ : Formula) → ψ ∈ ψs → Worked ψ) → (n : ℕ) (δ : List Attribute) (φ : Items)
+    clauses-fail : (ψs : List Formula) → ((ψ : Formula) → ψ ∈ ψs → Worked ψ) → (n : ℕ) (δ : List Attribute) (φ : Items) → Distinct (names δ)
         → someClauseFails φs G X ψs n δ φ ≡ true → CanBe φs G n δ φ (λ δ′ φ′. allTrue (atomsOf δ′ (word φ′)) ψs ≡ false)
     unfolding someClauseFails allTrue
-    clauses-fail [] worked n δ φ e = absurd (false≢true e)
-    clauses-fail (ψ ∷ ψs) worked n δ φ e = ⊎-elim
+    clauses-fail [] worked n δ φ once e = absurd (false≢true e)
+    clauses-fail (ψ ∷ ψs) worked n δ φ once e = ⊎-elim
         (λ p.
         let (k, ex) = worked ψ (List·Memᴰ·head refl) in
-        let (δ′, φ′, a, d, q) = clause-exact φs G bounded ψ k (X ψ) ex n δ φ .0 p in
+        let (δ′, φ′, a, d, q) = clause-exact φs G bounded ψ k (X ψ) ex n δ φ once .0 p in
         (δ′, φ′, a, d, fails-left (truthOf (atomsOf δ′ (word φ′)) ψ) (allTrue (atomsOf δ′ (word φ′)) ψs) q))
         (λ p.
-        let (δ′, φ′, a, d, q) = clauses-fail ψs (λ χ m. worked χ (List·Memᴰ·tail m)) n δ φ p in
+        let (δ′, φ′, a, d, q) = clauses-fail ψs (λ χ m. worked χ (List·Memᴰ·tail m)) n δ φ once p in
         (δ′, φ′, a, d, fails-right (truthOf (atomsOf δ′ (word φ′)) ψ) (allTrue (atomsOf δ′ (word φ′)) ψs) q))
         (or-cases (clauseFails φs G ψ (X ψ) n δ φ) (someClauseFails φs G X ψs n δ φ) e)
 
-    fail-clauses : (ψs : List Formula) → ((ψ : Formula) → ψ ∈ ψs → Worked ψ) → (n : ℕ) (δ : List Attribute) (φ : Items)
+    fail-clauses : (ψs : List Formula) → ((ψ : Formula) → ψ ∈ ψs → Worked ψ) → (n : ℕ) (δ : List Attribute) (φ : Items) → Distinct (names δ)
         → CanBe φs G n δ φ (λ δ′ φ′. allTrue (atomsOf δ′ (word φ′)) ψs ≡ false) → someClauseFails φs G X ψs n δ φ ≡ true
     unfolding someClauseFails allTrue
-    fail-clauses [] worked n δ φ (δ′, φ′, a, d, e) = absurd (true≢false e)
-    fail-clauses (ψ ∷ ψs) worked n δ φ (δ′, φ′, a, d, e) = ⊎-elim
+    fail-clauses [] worked n δ φ once (δ′, φ′, a, d, e) = absurd (true≢false e)
+    fail-clauses (ψ ∷ ψs) worked n δ φ once (δ′, φ′, a, d, e) = ⊎-elim
         (λ p.
         let (k, ex) = worked ψ (List·Memᴰ·head refl) in
         or-left (clauseFails φs G ψ (X ψ) n δ φ) (someClauseFails φs G X ψs n δ φ)
-        (clause-exact φs G bounded ψ k (X ψ) ex n δ φ .1 (δ′, φ′, a, d, p)))
+        (clause-exact φs G bounded ψ k (X ψ) ex n δ φ once .1 (δ′, φ′, a, d, p)))
         (λ p. or-right (clauseFails φs G ψ (X ψ) n δ φ) (someClauseFails φs G X ψs n δ φ)
-        (fail-clauses ψs (λ χ m. worked χ (List·Memᴰ·tail m)) n δ φ (δ′, φ′, a, d, p)))
+        (fail-clauses ψs (λ χ m. worked χ (List·Memᴰ·tail m)) n δ φ once (δ′, φ′, a, d, p)))
         (fails-cases (truthOf (atomsOf δ′ (word φ′)) ψ) (allTrue (atomsOf δ′ (word φ′)) ψs) e)
 
-  -- An element of template n whose gaps can be filled, and whose contents have names in range.
+  -- An element of template n whose gaps can be filled, that has no attribute twice, and whose contents have names in range.
   module _ (X : Formula → Sets) (C : Sets) (exact : ContentsExact φs G C) (n : ℕ) (δ δ₀ : List Attribute) (φ φ₀ : Items)
-      (a₀ : AttributesDerive φs G n δ δ₀) (d₀ : Derives φs G n φ φ₀)
+      (a₀ : AttributesDerive φs G n δ δ₀) (d₀ : Derives φs G n φ φ₀) (once : Distinct (names δ))
       (small : (c : ℕ) → SomeElement (λ e mark ε χ. e ≡ c) φ → c < contents) where
     content-fails : (allowed : List ℕ) → contentOutside φs G C allowed n φ ≡ true → CanBe φs G n δ φ (λ δ′ φ′. allIn (word φ′) allowed ≡ false)
     unfolding contentOutside
@@ -100,7 +101,21 @@ module _ (φs : List Items) (G : Summary) (bounded : Bounded φs G) (named : Nam
         any-below contents (λ c′. contentsOf φs G C n φ c′ && not (isIn c′ allowed)) c (occurs-small φs G named d small c i)
         (and-both _ _ (items-contents-exact φs G bounded C exact n φ φ₀ d₀ c .1 (φ′, d, i)) (ap not p))
 
+    attribute-fails : (allowed : List ℕ) → allIn (carriableNames G n δ) allowed ≡ false → CanBe φs G n δ φ (λ δ′ φ′. allIn (names δ′) allowed ≡ false)
+    attribute-fails allowed e =
+        let (c, i, p) = outside (carriableNames G n δ) allowed e in
+        let (δ′, a, h) = carried-by φs G bounded a₀ c i in
+        (δ′, φ₀, a, d₀, not-all-in (names δ′) allowed c h p)
+
+    fail-attribute : (allowed : List ℕ) (δ′ : List Attribute) → AttributesDerive φs G n δ δ′ → allIn (names δ′) allowed ≡ false → allIn (carriableNames G n δ) allowed ≡ false
+    fail-attribute allowed δ′ a e =
+        let (c, i, p) = outside (names δ′) allowed e in
+        not-all-in (carriableNames G n δ) allowed c (carried-in φs G bounded a c i) p
+
     module _ (r : Rule) (worked : (ψ : Formula) → ψ ∈ r .clauses → Worked X ψ) where
+      carried-right : Bool
+      carried-right = allIn (carriableNames G n δ) (r .attributes)
+
       names-right : List Attribute → Bool
       names-right ε = allIn (names ε) (r .attributes)
 
@@ -111,35 +126,29 @@ module _ (φs : List Items) (G : Summary) (bounded : Bounded φs G) (named : Nam
       clauses-right ε χ = allTrue (atomsOf ε (word χ)) (r .clauses)
 
       under-wrong : wrongUnder φs G X C r n δ φ ≡ true → CanBe φs G n δ φ (λ δ′ φ′. rightUnder r δ′ (word φ′) ≡ false)
-      unfolding wrongUnder rightUnder names-right word-right clauses-right
+      unfolding wrongUnder rightUnder carried-right names-right word-right clauses-right
       under-wrong e = ⊎-elim
           (λ p. ⊎-elim
-          (λ q. (
-            δ₀,
-            φ₀,
-            a₀,
-            d₀,
-            fails-left (names-right δ₀ && word-right φ₀) (clauses-right δ₀ φ₀) (fails-left (names-right δ₀) (word-right φ₀)
-                (ap (λ (ns : List ℕ). allIn ns (r .attributes)) (names-kept φs G a₀) ∙ not-true (names-right δ) q)),
-          ))
+          (λ q. let (δ′, φ′, a, d, h) = attribute-fails (r .attributes) (not-true carried-right q) in
+          (δ′, φ′, a, d, fails-left (names-right δ′ && word-right φ′) (clauses-right δ′ φ′) (fails-left (names-right δ′) (word-right φ′) h)))
           (λ q. let (δ′, φ′, a, d, h) = content-fails (r .contents) q in
           (δ′, φ′, a, d, fails-left (names-right δ′ && word-right φ′) (clauses-right δ′ φ′) (fails-right (names-right δ′) (word-right φ′) h)))
-          (or-cases (not (names-right δ)) (contentOutside φs G C (r .contents) n φ) p))
-          (λ p. let (δ′, φ′, a, d, h) = clauses-fail X (r .clauses) worked n δ φ p in
+          (or-cases (not carried-right) (contentOutside φs G C (r .contents) n φ) p))
+          (λ p. let (δ′, φ′, a, d, h) = clauses-fail X (r .clauses) worked n δ φ once p in
           (δ′, φ′, a, d, fails-right (names-right δ′ && word-right φ′) (clauses-right δ′ φ′) h))
-          (or-cases (not (names-right δ) || contentOutside φs G C (r .contents) n φ) (someClauseFails φs G X (r .clauses) n δ φ) e)
+          (or-cases (not carried-right || contentOutside φs G C (r .contents) n φ) (someClauseFails φs G X (r .clauses) n δ φ) e)
 
       wrong-under : CanBe φs G n δ φ (λ δ′ φ′. rightUnder r δ′ (word φ′) ≡ false) → wrongUnder φs G X C r n δ φ ≡ true
-      unfolding wrongUnder rightUnder names-right word-right clauses-right
+      unfolding wrongUnder rightUnder carried-right names-right word-right clauses-right
       wrong-under (δ′, φ′, a, d, e) = ⊎-elim
-          (λ p. or-left (not (names-right δ) || contentOutside φs G C (r .contents) n φ) (someClauseFails φs G X (r .clauses) n δ φ)
+          (λ p. or-left (not carried-right || contentOutside φs G C (r .contents) n φ) (someClauseFails φs G X (r .clauses) n δ φ)
           (⊎-elim
-          (λ q. or-left (not (names-right δ)) (contentOutside φs G C (r .contents) n φ)
-          (ap not (sym (ap (λ (ns : List ℕ). allIn ns (r .attributes)) (names-kept φs G a)) ∙ q)))
-          (λ q. or-right (not (names-right δ)) (contentOutside φs G C (r .contents) n φ) (fail-content (r .contents) (δ′, φ′, a, d, q)))
+          (λ q. or-left (not carried-right) (contentOutside φs G C (r .contents) n φ)
+          (ap not (fail-attribute (r .attributes) δ′ a q)))
+          (λ q. or-right (not carried-right) (contentOutside φs G C (r .contents) n φ) (fail-content (r .contents) (δ′, φ′, a, d, q)))
           (fails-cases (names-right δ′) (word-right φ′) p)))
-          (λ p. or-right (not (names-right δ) || contentOutside φs G C (r .contents) n φ) (someClauseFails φs G X (r .clauses) n δ φ)
-          (fail-clauses X (r .clauses) worked n δ φ (δ′, φ′, a, d, p)))
+          (λ p. or-right (not carried-right || contentOutside φs G C (r .contents) n φ) (someClauseFails φs G X (r .clauses) n δ φ)
+          (fail-clauses X (r .clauses) worked n δ φ once (δ′, φ′, a, d, p)))
           (fails-cases (names-right δ′ && word-right φ′) (clauses-right δ′ φ′) e)
 
     -- What is to be known of a vocabulary: of each clause of each rule.

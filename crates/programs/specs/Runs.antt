@@ -1,4 +1,4 @@
--- Runs of a program (document 01, "A run"; document 02, F-3). A run knows the templates and the statements of a job and a list of
+-- Runs of a program (document 01, "A run"; document 02, F-3 and F-5). A run knows the templates and the statements of a job and a list of
 -- choices, and no proposal. Values are lists of items with gaps still open; strings are all numbers, of which 0 to 63 are the named ones.
 use Prim.Native.Nat.{ℕ}
 use mathlib.Core.List.{List, [], _∷_, _++_}
@@ -14,7 +14,7 @@ abbrev pub filledValue : (ℕ → Option Value) → Value → Option Value
 filledValue fill (string s) = some (string s)
 filledValue fill (open-gap h) = fill h
 
--- An attribute with what fills it, before others; without it the attribute is left out, which no filling does before document 02's F-5.
+-- An attribute with what fills it, before others; where nothing does, the attribute is left out.
 abbrev pub filledBefore : ℕ → Option Value → List Attribute → List Attribute
 filledBefore a Option.none δ = δ
 filledBefore a (some v) δ = record { name = a; value = v } ∷ δ
@@ -23,7 +23,8 @@ unfoldable pub filled : (ℕ → Option Value) → List Attribute → List Attri
 filled fill [] = []
 filled fill (a ∷ δ) = filledBefore (a .name) (filledValue fill (a .value)) (filled fill δ)
 
--- Items with `put g` in place of each gap g and `fill h` in place of each attribute gap h, at any depth.
+-- Items with `put g` in place of each gap g and `fill h` in place of each attribute gap h, at any depth; an attribute whose gap gets
+-- nothing is left out.
 unfoldable mutual
   unfolding filled _⋈_
 
@@ -53,15 +54,16 @@ unfoldable pub pluggedString : ℕ → ℕ → Items → Items
 unfolding replaced
 pluggedString h s φ = replaced stay (λ k. cond (eqb k h) (some (string s)) (stayOpen k)) φ
 
--- What an attribute gap that is still open takes at a show, in a run and in the language alike: string 0.
+-- What an attribute gap that is still open takes at a show, in a run and in the language alike: no string, and so its attribute is left
+-- out (document 02, F-5, in place of document 01's string 0; source 002, section 3, "the entire attribute is removed").
 abbrev pub closing : Option ℕ
-closing = some emptyString
+closing = Option.none
 
 abbrev pub stringOf : Option ℕ → Option Value
 stringOf Option.none = Option.none
 stringOf (some s) = some (string s)
 
--- A page as a show closes it: nothing in each gap still open, and in each open attribute gap what closes it.
+-- A page as a show closes it: nothing in each gap still open, and no attribute whose gap is still open.
 unfoldable pub closed : Items → Items
 unfolding replaced
 closed φ = replaced (λ g. none) (λ h. stringOf closing) φ

@@ -11,5 +11,6 @@ pub mod Outlining
 pub mod ListWalks
 pub mod Leading
 pub mod Bringing
+pub mod Carrying
 pub mod Templates
 pub mod Splitting

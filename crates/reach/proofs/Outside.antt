@@ -7,7 +7,6 @@ use Rattle.sets.specs.Sets.{member}
 use Rattle.sets.specs.contracts.Promises.{MembersWithin}
 use Rattle.vocabularies.specs.Vocabulary.{isIn}
 use Rattle.pages.specs.Items.{Items}
-use Rattle.pages.specs.RightPages.{names}
 use Rattle.judging.specs.contracts.Judgement.{allIn}
 use Rattle.judging.proofs.Rules.{within-lists}
 use Rattle.summaries.specs.Summaries.{Summary}
@@ -15,7 +14,7 @@ use Rattle.patterns.specs.declared.Wrong.the-variants.{Nowhere, At}
 use Rattle.patterns.specs.contracts.Given.{contents}
 use Rattle.patterns.specs.contracts.Rounds.{Sets, anyBelow}
 use Rattle.patterns.specs.contracts.Reached.{contentsOf}
-use Rattle.patterns.specs.contracts.Elements.{contentOutside}
+use Rattle.patterns.specs.contracts.Elements.{carriableNames, contentOutside}
 use Rattle.patterns.proofs.Tests.{any-below, below-any}
 use Rattle.sets.proofs.Booleans.{and-both, and-left, and-right, refuted}
 use Rattle.reach.specs.contracts.PlainlyWrong.{plainlyUnder}
@@ -40,19 +39,19 @@ module _ (n at named allowed inside held : ℕ) where
   pub names-outside : (t : Bool) → MembersWithin named allowed t → t ≡ false → TellsOutside n at named allowed inside held (At n at)
   unfolding plainlyUnder
   names-outside t w e φs G C R δ φ c =
-      let a : allIn (names δ) (R .attributes) ≡ false = within-lists named allowed (names δ) (R .attributes) (c .has-names) (c .allows) t w ∙ e in
+      let a : allIn (carriableNames G n δ) (R .attributes) ≡ false = within-lists named allowed (carriableNames G n δ) (R .attributes) (c .has-names) (c .allows) t w ∙ e in
       rw a
 
   pub content-outside : (t u : Bool) → MembersWithin named allowed t → t ≡ true → MembersWithin inside held u → u ≡ false → TellsOutside n at named allowed inside held (At n at)
   unfolding plainlyUnder
   content-outside t u w e v q φs G C R δ φ c =
-      let a : allIn (names δ) (R .attributes) ≡ true = within-lists named allowed (names δ) (R .attributes) (c .has-names) (c .allows) t w ∙ e in
+      let a : allIn (carriableNames G n δ) (R .attributes) ≡ true = within-lists named allowed (carriableNames G n δ) (R .attributes) (c .has-names) (c .allows) t w ∙ e in
       let b : contentOutside φs G C (R .contents) n φ ≡ true = content-test φs G C n (R .contents) φ inside held (c .has-contents) (c .holds) u v ∙ ap not q in
       rw (a, b)
 
   pub none-outside : (t u : Bool) → MembersWithin named allowed t → t ≡ true → MembersWithin inside held u → u ≡ true → TellsOutside n at named allowed inside held Nowhere
   unfolding plainlyUnder
   none-outside t u w e v q φs G C R δ φ c =
-      let a : allIn (names δ) (R .attributes) ≡ true = within-lists named allowed (names δ) (R .attributes) (c .has-names) (c .allows) t w ∙ e in
+      let a : allIn (carriableNames G n δ) (R .attributes) ≡ true = within-lists named allowed (carriableNames G n δ) (R .attributes) (c .has-names) (c .allows) t w ∙ e in
       let b : contentOutside φs G C (R .contents) n φ ≡ false = content-test φs G C n (R .contents) φ inside held (c .has-contents) (c .holds) u v ∙ ap not q in
       rw (a, b)

@@ -1,5 +1,5 @@
-// Which templates are reached in a show, which contents can stand in the pages of each, and the elements that are wrong by the names
-// of their attributes or by their contents.
+// Which templates are reached in a show, which contents can stand in the pages of each, and the elements that are wrong by the
+// attributes that they can carry or by their contents.
 ghost use mathlib.Core.Path.{_≡_};
 ghost use Prim.Native.Nat.{ℕ, _≤_, _<_};
 ghost use lib.ListN.{length};
@@ -8,9 +8,10 @@ ghost use Rattle.summaries.specs.Summaries.{Summary};
 ghost use Rattle.graphs.specs.contracts.Graphs.{Keeps};
 ghost use Rattle.reach.specs.contracts.Closures.{United, Closure};
 ghost use Rattle.reach.specs.contracts.Promises.{TellsYielding, edgesBy, EdgeTable, TellsReached, LedContents, TellsContents};
-ghost use Rattle.reach.specs.contracts.Walking.{TellsOutside, WalksElement, WalksItems, TellsBrings, TellsWrongIn, TellsPlainlyWrong};
+ghost use Rattle.reach.specs.contracts.Walking.{TellsCarriable, TellsOutside, WalksElement, WalksItems, TellsBrings, TellsWrongIn, TellsPlainlyWrong};
 use commands::Position;
 use graphs::Graph;
+use pages::AttributeHere;
 use pages::ItemHere;
 use pages::TEXT;
 use patterns::Wrong;
@@ -105,6 +106,41 @@ pub fn reached(graph: &Graph, gaps: &[u64; 32], count: usize, yields: u64) -> u6
     closure(sets::common(graphs::roots(graph), yields), &edges)
 }
 
+// The names of the attributes that can be carried, and the position after all attributes.
+pub struct Carriable {
+    pub names: u64,
+    pub next: Position,
+}
+
+// The attributes straight after `23 e`, of an element of template n: those that some string reaches can be carried, the others are
+// absent in every page.
+fn carriable_names(s: &[u8], start: Position, graph: &Graph, n: usize) -> Carriable
+    requires { ⌜ n < 32 ⌝ }
+    ensures forward { λ r. ⌜ start .at ≤ r .next .at ⌝ }
+    ensures carriable { λ r. ⌜ TellsCarriable (now (s .entry)) (start .at) (now (graph .entry)) n r ⌝ }
+{
+    let mut here = start;
+    let mut names: u64 = 0;
+    loop {
+        let attribute = pages::attribute_here(s, here);
+        match attribute {
+            AttributeHere::Fixed {
+                name,
+                string: _,
+                next,
+            } => {
+                here = next;
+                names = sets::with(names, name);
+            }
+            AttributeHere::Open { name, gap, next } => {
+                here = next;
+                names = sets::with_if(names, name, languages::string_reaches(graph, n, gap));
+            }
+            AttributeHere::Done => return Carriable { names, next: here },
+        }
+    }
+}
+
 // An element of a template that was walked over: the position after it, and the lowest element in it, itself one of them, that is plainly
 // wrong.
 pub struct WalkedElement {
@@ -121,7 +157,7 @@ pub struct WalkedItems {
     pub wrong: Wrong,
 }
 
-// The element at an offset of template n, if it has an attribute or a content that is not allowed.
+// The element at an offset of template n, if it can carry an attribute, or get a content, that is not allowed.
 fn outside_at(n: usize, at: usize, names: u64, attributes: u64, inside: u64, contents: u64) -> Wrong
     ensures { λ r. ⌜ TellsOutside n at names attributes inside contents r ⌝ }
 {
@@ -140,22 +176,30 @@ fn walk_element(
     s: &[u8],
     attributes: &[u64; 64],
     contents: &[u64; 64],
+    graph: &Graph,
     brings: &[u64; 8],
     n: usize,
     here: Position,
     e: u8,
     start: Position,
 ) -> WalkedElement
-    requires { ⌜ e < 64 ⌝ }
+    requires { ⌜ (e < 64) × (n < 32) ⌝ }
     ensures forward { λ r. ⌜ start .at ≤ r .next .at ⌝ }
-    ensures walked { λ r. ⌜ WalksElement (now (s .entry)) (now (attributes .entry)) (now (contents .entry)) (now (brings .entry)) n (here .at) e start r ⌝ }
+    ensures walked { λ r. ⌜ WalksElement (now (s .entry)) (now (attributes .entry)) (now (contents .entry)) (now (graph .entry)) (now (brings .entry)) n (here .at) e start r ⌝ }
 {
-    let named = pages::names_at(s, start);
-    let first = named.next;
-    let list = walk_items(s, attributes, contents, brings, n, first);
+    let carriable = carriable_names(s, start, graph, n);
+    let first = carriable.next;
+    let list = walk_items(s, attributes, contents, graph, brings, n, first);
     let inside = union_of(list.inside, list.gaps, brings);
     let i = e as usize;
-    let own = outside_at(n, here.at, named.names, attributes[i], inside, contents[i]);
+    let own = outside_at(
+        n,
+        here.at,
+        carriable.names,
+        attributes[i],
+        inside,
+        contents[i],
+    );
     let inner = list.wrong;
     let next = list.next;
     WalkedElement {
@@ -169,12 +213,14 @@ fn walk_items(
     s: &[u8],
     attributes: &[u64; 64],
     contents: &[u64; 64],
+    graph: &Graph,
     brings: &[u64; 8],
     n: usize,
     start: Position,
 ) -> WalkedItems
+    requires { ⌜ n < 32 ⌝ }
     ensures forward { λ r. ⌜ start .at ≤ r .next .at ⌝ }
-    ensures walked { λ r. ⌜ WalksItems (now (s .entry)) (now (attributes .entry)) (now (contents .entry)) (now (brings .entry)) n (start .at) r ⌝ }
+    ensures walked { λ r. ⌜ WalksItems (now (s .entry)) (now (attributes .entry)) (now (contents .entry)) (now (graph .entry)) (now (brings .entry)) n (start .at) r ⌝ }
 {
     let mut here = start;
     let mut inside: u64 = 0;
@@ -192,7 +238,17 @@ fn walk_items(
             }
             ItemHere::Element(e, first) => {
                 inside = sets::with(inside, e);
-                let element = walk_element(s, attributes, contents, brings, n, here, e, first);
+                let element = walk_element(
+                    s,
+                    attributes,
+                    contents,
+                    graph,
+                    brings,
+                    n,
+                    here,
+                    e,
+                    first,
+                );
                 let own = element.wrong;
                 wrong = patterns::lower(wrong, own);
                 here = element.next;
@@ -270,12 +326,20 @@ fn wrong_in(
     ensures { λ r. ⌜ TellsWrongIn (now (s .entry)) (now (attributes .entry)) (now (contents .entry)) at (now (graph .entry)) n (now (within .entry)) r ⌝ }
 {
     let brings = brings_of(graph, n, within);
-    let walked = walk_items(s, attributes, contents, &brings, n, Position::new(at));
+    let walked = walk_items(
+        s,
+        attributes,
+        contents,
+        graph,
+        &brings,
+        n,
+        Position::new(at),
+    );
     let wrong = walked.wrong;
     wrong
 }
 
-// The lowest element of the templates of a set that is wrong by the names of its attributes or by its contents. `within` has the
+// The lowest element of the templates of a set that is wrong by the attributes that it can carry or by its contents. `within` has the
 // contents that can stand in the pages of each template.
 pub fn plainly_wrong(
     s: &[u8],

@@ -6,7 +6,8 @@ use mathlib.Core.Path.{_≡_}
 use mathlib.Core.List.{List, [], _∷_, map}
 use mathlib.Core.Bool.{Bool, true, false}
 use lib.ListN.{length}
-use Rattle.vocabularies.specs.Vocabulary.{Formula, conj, disj, neg, truth, attr, content, order, value, Rule, Vocabulary, isIn, declared}
+use Rattle.vocabularies.specs.Vocabulary.{Formula, conj, disj, neg, truth, attr, content, order, value, Rule, Vocabulary, declared}
+unfoldable pub use Rattle.vocabularies.specs.Vocabulary.{Distinct}
 use Rattle.vocabularies.specs.Facts.{factsOf}
 use Rattle.commands.specs.Commands.{strings}
 use Rattle.pages.specs.declared.Kind.{Kind}
@@ -17,12 +18,6 @@ use Rattle.pages.specs.Items.{Value, string, open-gap, Attribute, Item, text, b
 unfoldable pub Rising : ℕ → ℕ → List ℕ → Type 0
 Rising least most [] = Unit {0}
 Rising least most (n ∷ ns) = (least ≤ n) × (n ≤ most) × Rising (n + 1) most ns
-
--- No number stands in the list twice.
-unfoldable pub Distinct : List ℕ → Type 0
-unfolding isIn
-Distinct [] = Unit {0}
-Distinct (n ∷ ns) = (isIn n ns ≡ false) × Distinct ns
 
 abbrev pub IsElement : ℕ → Type 0
 IsElement e = (1 ≤ e) × (e ≤ 63)

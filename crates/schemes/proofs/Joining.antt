@@ -11,9 +11,9 @@ use borrow.Author.Tests.{eq-eqb, ne-eqb, ltb-true, ltb-false}
 use Rattle.sets.specs.Sets.{member}
 use Rattle.sets.proofs.Laws.{member-zero, member-high, member-single}
 use Rattle.vocabularies.specs.Vocabulary.{isIn}
-use Rattle.vocabularies.specs.Facts.{Fact, present, ordered, valued, sameFact}
-use Rattle.judging.specs.contracts.Judgement.{precedes, holdsValue}
-use Rattle.patterns.specs.contracts.Patterns.{flagged, patternOf, flagIn, joinedFlag, join}
+use Rattle.vocabularies.specs.Facts.{Fact, carried, present, ordered, valued, sameFact}
+use Rattle.judging.specs.contracts.Judgement.{precedes}
+use Rattle.patterns.specs.contracts.Patterns.{breaksValue, flagged, patternOf, flagIn, joinedFlag, join}
 use Rattle.patterns.specs.contracts.Morphisms as Morphisms
 use Rattle.patterns.specs.contracts.Morphisms.{classOf}
 use Rattle.patterns.proofs.Clauses.{numbered-below}
@@ -39,6 +39,7 @@ module _ (fs : List Fact) (few : length fs ≤ 8) where
     alone f = or-absent (flagIn fs x f || flagIn fs y f) (ap (λ (b : Bool). b && member y 8) (nowhere x p))
 
     joined-by : (f : Fact) → ((flagIn fs x f || flagIn fs y f) || (member x (beforeOf fs f) && member y (afterOf fs f))) ≡ joinedFlag fs x y f
+    joined-by (carried a) = alone (carried a)
     joined-by (present c) = alone (present c)
     joined-by (ordered c d) = rw (flag-placed fs (present d) x p, flag-placed fs (present c) y q)
     joined-by (valued a m) = alone (valued a m)
@@ -52,6 +53,7 @@ module _ (fs : List Fact) (few : length fs ≤ 8) where
         rw (← left, ← right) (joined-by f)
 
 pair-small : (inFirst : Bool) (fs : List Fact) → length fs ≤ 8 → (f : Fact) → pairPlace inFirst fs f ≤ 8
+pair-small inFirst fs few (carried a) = omega arith
 pair-small inFirst fs few (present c) = omega arith
 pair-small inFirst fs few (ordered c d) = omega (arith, place-le fs (present (cond inFirst d c)))
 pair-small inFirst fs few (valued a m) = omega arith
@@ -69,7 +71,8 @@ pair-at inFirst fs places L i b = go (ltb i (length fs)) refl
 
 -- In a word of one content no pair is broken.
 one-flag : (c : ℕ) (f : Fact) → flagged [] (c ∷ []) f ≡ sameFact f (present c)
-unfolding isIn precedes holdsValue
+unfolding isIn precedes breaksValue
+one-flag c (carried a) = refl
 one-flag c (present c′) = or-false (eqb c′ c)
 one-flag c (ordered c′ d′) = rw (and-false (eqb c d′))
 one-flag c (valued a m) = refl
@@ -96,6 +99,7 @@ module _ (r : Scheme) (fs : List Fact) (h : StandsForFacts r fs) where
   content-found c place small b p = go (ltb place (length fs)) refl
     where
       is-content : (f : Fact) → c ≡ contentOf f → f ≡ present c
+      is-content (carried a) e = absurd (omega arith)
       is-content (present d) e = ap present (sym e)
       is-content (ordered d d′) e = absurd (omega arith)
       is-content (valued a m) e = absurd (omega arith)
@@ -178,11 +182,13 @@ module _ (r : Scheme) (fs : List Fact) (h : StandsForFacts r fs) where
 
   -- The contents of a pair are no pairs themselves.
   before-content : (f : Fact) (p : ℕ) → p ≡ afterOf fs f → p < 8 → getD (r .befores) p 0 ≡ 8
+  before-content (carried a) p e l = absurd (omega arith)
   before-content (present c) p e l = absurd (omega arith)
   before-content (ordered c d) p e l = before-at p l ∙ ap (λ (k : ℕ). beforeOf fs (getD fs k (present 0))) e ∙ content-alone fs (beforeOf fs) (λ c. refl) c
   before-content (valued a m) p e l = absurd (omega arith)
 
   after-content : (f : Fact) (p : ℕ) → p ≡ beforeOf fs f → p < 8 → getD (r .afters) p 0 ≡ 8
+  after-content (carried a) p e l = absurd (omega arith)
   after-content (present c) p e l = absurd (omega arith)
   after-content (ordered c d) p e l = after-at p l ∙ ap (λ (k : ℕ). afterOf fs (getD fs k (present 0))) e ∙ content-alone fs (afterOf fs) (λ c. refl) d
   after-content (valued a m) p e l = absurd (omega arith)

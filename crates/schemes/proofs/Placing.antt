@@ -13,7 +13,7 @@ use borrow.Author.Tests.{ltb-true, ltb-false}
 use lib.Seq.{getD-set-same, getD-set-other}
 use Rattle.strings.specs.declared.StringSet.{StringSet}
 use Rattle.vocabularies.specs.declared.Fact as Kept
-use Rattle.vocabularies.specs.declared.Fact.the-variants.{Present, Ordered, Valued}
+use Rattle.vocabularies.specs.declared.Fact.the-variants.{Carried, Present, Ordered, Valued}
 use Rattle.vocabularies.specs.declared.Facts.{Facts}
 use Rattle.vocabularies.specs.Facts.{Fact, present, sameFact}
 use Rattle.vocabularies.specs.contracts.Promises.{meaningOf, keptAt, Represents}
@@ -81,6 +81,9 @@ module _ (t : Facts) (x : Fact) where
 -- ---- pairs
 
 module _ (t : Facts) (inFirst : Bool) (y : Kept.Fact) where
+  pub no-pair-attribute : (a : ℕ) → y ≡ Carried a → PlacesPair inFirst t (meaningOf y) 8
+  no-pair-attribute a e fs h few = rw e
+
   pub no-pair-content : (c : ℕ) → y ≡ Present c → PlacesPair inFirst t (meaningOf y) 8
   no-pair-content c e fs h few = rw e
 

@@ -61,6 +61,7 @@ fn content_of(fact: Fact) -> u8
     ensures { λ r. ⌜ r ≡ contentOf (meaningOf fact) ⌝ }
 {
     match fact {
+        Fact::Carried(_) => NO_CONTENT,
         Fact::Present(c) => c,
         Fact::Ordered(_, _) => NO_CONTENT,
         Fact::Valued(_, _) => NO_CONTENT,
@@ -90,6 +91,7 @@ fn pair_place(facts: Facts, fact: Fact, in_first: bool) -> u8
     ensures { λ r. ⌜ PlacesPair «in_first» facts (meaningOf fact) r ⌝ }
 {
     match fact {
+        Fact::Carried(_) => NOWHERE,
         Fact::Present(_) => NOWHERE,
         Fact::Ordered(c, d) => {
             if in_first {

@@ -35,7 +35,7 @@ module _ (s : List ℕ) (rules : Tables) (templates : TemplateTables) (count : �
   -- Exact tables of the graph.
   tables : (T : Decided.Tables) × ExactTables (j .script .templates) (A .shown) (j .script .vocabulary) T
   tables = worked-out (j .script .templates) (A .shown) (bounded s rules templates count starts graph j p A bytes)
-      (given s rules templates count starts graph j p A bytes .script .templates) (j .script .vocabulary)
+      (given s rules templates count starts graph j p A bytes .script .templates .in-range) (j .script .vocabulary)
 
   module _ (r : Scheme) (reads : StandsFor r (rootMorphism (rules .root))) (made : ℕ) (classes : List (List ℕ))
       (settles : Settles r s graph starts count made classes) (roots : ℕ) (roots-are : (n : ℕ) → member roots n ≡ holds graph (root n))

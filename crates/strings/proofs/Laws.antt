@@ -13,8 +13,9 @@ use Rattle.sets.specs.contracts.Promises.{MembersWithin, FirstMember}
 use Rattle.sets.proofs.Laws.{member-high}
 use Rattle.strings.specs.declared.StringSet.{StringSet}
 use Rattle.strings.specs.declared.Values.{Values}
+use Rattle.strings.specs.declared.AttributeValues.{AttributeValues}
 use Rattle.strings.specs.Strings.{strings}
-use Rattle.strings.specs.contracts.Promises.{hasString, StringsWithin, FirstString, holdsValue, ValuesWithin, NoValues}
+use Rattle.strings.specs.contracts.Promises.{hasString, StringsWithin, FirstString, holdsValue, ValuesWithin, NoValues, NothingToTake}
 
 -- The word that has every string.
 unfoldable allBelow : ℕ → (ℕ → Bool) → Bool
@@ -104,3 +105,8 @@ no-first v b n first f false e =
     let q = eqb-false first strings e in
     let w = f .within in
     (first, w, holds-named v n first ∙ f .is-held (omega (arith, q)))
+
+-- Where absence cannot be taken, the strings decide.
+pub no-absence : (v : AttributeValues) → v .absent ≡ false → (r : Bool) → NoValues (v .strings) r → NothingToTake v r
+no-absence v e true n = (e, n)
+no-absence v e false n = inr n

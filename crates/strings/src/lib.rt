@@ -4,17 +4,23 @@ ghost use mathlib.Core.Bool.{true, false, not, _&&_, _||_};
 ghost use Prim.Native.Nat.{ℕ, _≤_, _<_};
 ghost use lib.Dec.{eqb, ltb};
 ghost use Rattle.strings.specs.Strings.{strings};
-ghost use Rattle.strings.specs.contracts.Promises.{setNumber, hasString, StringsWithin, FirstString, holdsValue, ValuesWithin, NoValues};
+ghost use Rattle.strings.specs.contracts.Promises.{setNumber, hasString, StringsWithin, FirstString, holdsValue, ValuesWithin, NoValues, NothingToTake};
 
 // A set of named strings.
 pub struct StringSet {
     pub word: u64,
 }
 
-// What an attribute gap can take: some of the named strings, or any string.
+// Strings: some of the named ones, or all that exist.
 pub struct Values {
     pub named: StringSet,
     pub any: bool,
+}
+
+// What an attribute gap can take at a show: strings or, where it can still be open, no string, so that its attribute is absent.
+pub struct AttributeValues {
+    pub strings: Values,
+    pub absent: bool,
 }
 
 // The last of the named strings, and the number that stands for every other string.
@@ -135,7 +141,7 @@ pub fn one_value(s: u8) -> Values
     }
 }
 
-// What either can take.
+// What is in either.
 pub fn values_union(a: Values, b: Values) -> Values
     ensures { λ r. ⌜ ((s : ℕ) → holdsValue r s ≡ (holdsValue a s || holdsValue b s)) ⌝ }
 {
@@ -151,7 +157,7 @@ pub fn values_union(a: Values, b: Values) -> Values
     }
 }
 
-// Whether `b` can take whatever `a` can. Only any string covers any string: other strings than the named ones exist.
+// Whether `b` has whatever `a` has. Only any string covers any string: other strings than the named ones exist.
 pub fn values_within(a: Values, b: Values) -> bool
     ensures { λ r. ⌜ ValuesWithin a b r ⌝ }
 {
@@ -164,7 +170,7 @@ pub fn values_within(a: Values, b: Values) -> bool
     is_within(a.named, b.named)
 }
 
-// Whether there is nothing to take.
+// Whether there is no string.
 pub fn is_empty(values: Values) -> bool
     ensures { λ r. ⌜ NoValues values r ⌝ }
 {
@@ -172,4 +178,14 @@ pub fn is_empty(values: Values) -> bool
         return false;
     }
     next(values.named, 0) == OUTSIDE
+}
+
+// Whether an attribute gap has nothing to take: neither a string nor absence.
+pub fn takes_nothing(values: AttributeValues) -> bool
+    ensures { λ r. ⌜ NothingToTake values r ⌝ }
+{
+    if values.absent {
+        return false;
+    }
+    is_empty(values.strings)
 }

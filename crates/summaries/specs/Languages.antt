@@ -1,5 +1,6 @@
--- The language of a summary graph (source 000, section 3) and the closed graph of a show (section 5, close), as document 01,
--- "Covering, and the language of a show", reads them. Pages of any length and depth belong to it.
+-- The closed graph of a show (source 000, section 5, close) and the language of a closed graph (section 3), as document 01, "Covering, and
+-- the language of a show", and document 02, F-5, read them: `closedSummary` closes gaps, `takes` attribute gaps. Pages of any length and
+-- depth belong to it.
 use Prim.Native.Nat.{ℕ}
 use mathlib.Core.Path.{_≡_}
 use mathlib.Core.List.{List, [], _∷_}
@@ -13,27 +14,40 @@ use Rattle.programs.specs.Runs.{closing}
 use Rattle.summaries.specs.Proposal.{root, edge, string, gapFrom, attributeGapFrom}
 use Rattle.summaries.specs.Summaries.{Summary, Environment, fragment, plugSummary}
 
--- Whether a string is what an open attribute gap takes.
-abbrev pub isTaken : Option ℕ → ℕ → Bool
-isTaken none s = false
-isTaken (some t) s = eqb s t
-
--- close: each origin of a gap also gets an edge to template 0, each origin of an attribute gap also string 0.
+-- close: each origin of a gap also gets an edge to template 0. The origins of an attribute gap stay: they tell where it may still be open,
+-- and so where its attribute can be absent.
 abbrev pub closedSummary : Summary → Summary
 closedSummary S (root n) = S (root n)
 closedSummary S (edge n g m) = S (edge n g m) || (eqb m 0 && S (gapFrom g n))
-closedSummary S (string n h s) = S (string n h s) || (isTaken closing s && S (attributeGapFrom h n))
+closedSummary S (string n h s) = S (string n h s)
 closedSummary S (gapFrom g n) = S (gapFrom g n)
 closedSummary S (attributeGapFrom h n) = S (attributeGapFrom h n)
 
+-- Whether this, a string or no string, is what closes an attribute gap that is still open.
+abbrev pub isClosing : Option ℕ → Option ℕ → Bool
+isClosing none none = true
+isClosing none (some s) = false
+isClosing (some t) none = false
+isClosing (some t) (some s) = eqb s t
+
+-- What attribute gap h of template n takes in a closed graph: the strings that the graph holds there and, if n is an origin of h, what
+-- closes it. No string means that the attribute is absent (source 002, section 3: the gap may still be open, and close then removes the
+-- attribute; its section 5 writes ÷ for that among the strings).
+abbrev pub takes : Summary → ℕ → ℕ → Option ℕ → Bool
+takes G n h none = isClosing closing none && G (attributeGapFrom h n)
+takes G n h (some s) = (isClosing closing (some s) && G (attributeGapFrom h n)) || G (string n h s)
+
 module _ (φs : List Items) (G : Summary) where
-  -- G, n ⊢ δ ⇒ δ′. Section 3 prints no rule for no attributes and for a string; they stay as they are.
+  -- G, n ⊢ δ ⇒ δ′. Source 000's section 3 prints no rule for no attributes and for a string; they stay as they are. `dropped` is the
+  -- attribute that close removes: each chooses by itself, also where two have one gap.
   pub data AttributesDerive (n : ℕ) : List Attribute → List Attribute → Type 0 where
     no-attribute : AttributesDerive n [] []
     fixed : {a s : ℕ} {δ δ′ : List Attribute} → AttributesDerive n δ δ′
         → AttributesDerive n (record { name = a; value = Items.string s } ∷ δ) (record { name = a; value = Items.string s } ∷ δ′)
-    filled : {a h : ℕ} {δ δ′ : List Attribute} (s : ℕ) → G (string n h s) ≡ true → AttributesDerive n δ δ′
+    filled : {a h : ℕ} {δ δ′ : List Attribute} (s : ℕ) → takes G n h (some s) ≡ true → AttributesDerive n δ δ′
         → AttributesDerive n (record { name = a; value = open-gap h } ∷ δ) (record { name = a; value = Items.string s } ∷ δ′)
+    dropped : {a h : ℕ} {δ δ′ : List Attribute} → takes G n h none ≡ true → AttributesDerive n δ δ′
+        → AttributesDerive n (record { name = a; value = open-gap h } ∷ δ) δ′
 
   -- G, n ⊢ φ ⇒ φ′, for lists of items and for one item. Blank text (document 02, F-2), of which section 3 knows nothing, stays as text does.
   mutual

@@ -16,7 +16,7 @@ use Rattle.commands.specs.Reading.{whole}
 use Rattle.commands.proofs.Laws.{moved, MovedOver}
 use Rattle.vocabularies.specs.declared.Facts.{Facts}
 use Rattle.vocabularies.specs.Vocabulary.{Formula}
-use Rattle.vocabularies.specs.Facts.{Fact, present, ordered, valued, isAmong, add, withFacts, factsOf}
+use Rattle.vocabularies.specs.Facts.{Fact, carried, present, ordered, valued, isAmong, add, withFacts, factsOf}
 use Rattle.vocabularies.specs.VocabularyReading.{Shape, binary, unary, leaf, shapeAt, mostFacts, formula}
 use Rattle.vocabularies.specs.contracts.Promises.{FactsRead, ManyFacts}
 use Rattle.vocabularies.proofs.Formulas.{Formed, formed-by, not-formed}
@@ -45,7 +45,7 @@ adding s at code k one three = go (eqb code 0x10) (eqb code 0x11) (eqb code 0x12
     go false true b₂ b₃ b₄ b₅ b₆ p₀ p₁ p₂ p₃ p₄ p₅ p₆ = rw (p₀, p₁) (λ ψ₁ ψ₂ xs. refl)
     go false false true b₃ b₄ b₅ b₆ p₀ p₁ p₂ p₃ p₄ p₅ p₆ = rw (p₀, p₁, p₂) (λ ψ xs. refl)
     go false false false true b₄ b₅ b₆ p₀ p₁ p₂ p₃ p₄ p₅ p₆ = rw (p₀, p₁, p₂, p₃) (λ xs. omega arith)
-    go false false false false true b₅ b₆ p₀ p₁ p₂ p₃ p₄ p₅ p₆ = rw (p₀, p₁, p₂, p₃, p₄) (λ xs. omega arith)
+    go false false false false true b₅ b₆ p₀ p₁ p₂ p₃ p₄ p₅ p₆ = rw (p₀, p₁, p₂, p₃, p₄) (λ xs. let a = add-most (carried (byte s (at + 1))) xs in omega arith)
     go false false false false false true b₆ p₀ p₁ p₂ p₃ p₄ p₅ p₆ = rw (p₀, p₁, p₂, p₃, p₄, p₅) (λ xs. let a = add-most (present (byte s (at + 1))) xs in omega arith)
     go false false false false false false true p₀ p₁ p₂ p₃ p₄ p₅ p₆ = rw (p₀, p₁, p₂, p₃, p₄, p₅, p₆) (λ xs.
         let wide = three (eqb-true code 0x16 p₆) in

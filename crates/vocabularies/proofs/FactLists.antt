@@ -12,14 +12,17 @@ use borrow.Author.Tests.{eq-eqb, ne-eqb, eqb-true, eqb-false}
 use Rattle.strings.specs.declared.StringSet.{StringSet}
 use Rattle.strings.specs.contracts.Promises.{setNumber}
 use Rattle.vocabularies.specs.declared.Fact as Kept
-use Rattle.vocabularies.specs.declared.Fact.the-variants.{Present, Ordered, Valued}
+use Rattle.vocabularies.specs.declared.Fact.the-variants.{Carried, Present, Ordered, Valued}
 use Rattle.vocabularies.specs.declared.KeptFact.{KeptFact}
 use Rattle.vocabularies.specs.declared.Facts.{Facts}
-use Rattle.vocabularies.specs.Facts.{Fact, present, ordered, valued, sameFact, isAmong, add}
+use Rattle.vocabularies.specs.Facts.{Fact, carried, present, ordered, valued, sameFact, isAmong, add}
 use Rattle.vocabularies.specs.contracts.Promises.{meaningOf, keptAt, Stored, Represents, TellsAmong, Adds}
 
 -- Facts of one kind are compared by their operands.
 module _ (x : Kept.Fact) where
+  pub told-carried : (a of : ℕ) → x ≡ Carried of → eqb a of ≡ sameFact (carried a) (meaningOf x)
+  told-carried a of e = rw e
+
   pub told-present : (c of : ℕ) → x ≡ Present of → eqb c of ≡ sameFact (present c) (meaningOf x)
   told-present c of e = rw e
 
@@ -117,13 +120,13 @@ module _ (t : Facts) (x : Kept.Fact) where
         go i true e l m =
             let q : i ≡ t .count = eqb-true i (t .count) e in
             let n : i ≡ length xs = omega (arith, h .counts) in
-            ap (λ (k : ℕ). meaningOf (getD (set (t .kept) (t .count) (record { fact = x })) k (record { fact = Present 0 }) .fact)) q
-            ∙ ap (λ (k : KeptFact). meaningOf (k .fact)) (getD-set-same (t .kept) (t .count) (record { fact = x }) (record { fact = Present 0 }) (omega (arith, h .room)))
+            ap (λ (k : ℕ). meaningOf (getD (set (t .kept) (t .count) (record { fact = x })) k (record { fact = Carried 0 }) .fact)) q
+            ∙ ap (λ (k : KeptFact). meaningOf (k .fact)) (getD-set-same (t .kept) (t .count) (record { fact = x }) (record { fact = Carried 0 }) (omega (arith, h .room)))
             ∙ sym (ap (λ (k : ℕ). getD (xs ++ (meaningOf x ∷ [])) k (present 0)) n ∙ getD-append-seam xs (meaningOf x) [] (present 0))
         go i false e l m =
             let q : i ≡ t .count → ⊥ = eqb-false i (t .count) e in
             let n : i < length xs = omega (arith, longer (meaningOf x) xs, h .counts, q) in
-            ap (λ (k : KeptFact). meaningOf (k .fact)) (getD-set-other (t .kept) (t .count) i (record { fact = x }) (record { fact = Present 0 }) q)
+            ap (λ (k : KeptFact). meaningOf (k .fact)) (getD-set-other (t .kept) (t .count) i (record { fact = x }) (record { fact = Carried 0 }) q)
             ∙ h .stores i l n
             ∙ sym (List·getD-append xs (meaningOf x ∷ []) (present 0) i n)
 

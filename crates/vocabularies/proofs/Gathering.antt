@@ -4,7 +4,7 @@ use mathlib.Core.Path.{_≡_, refl}
 use mathlib.Core.List.{List}
 use Rattle.strings.specs.declared.StringSet.{StringSet}
 use Rattle.strings.specs.contracts.Promises.{setNumber}
-use Rattle.vocabularies.specs.declared.Fact.the-variants.{Present, Ordered, Valued}
+use Rattle.vocabularies.specs.declared.Fact.the-variants.{Carried, Present, Ordered, Valued}
 use Rattle.vocabularies.specs.declared.Facts.{Facts}
 use Rattle.vocabularies.specs.Vocabulary.{Formula, conj, disj, neg, truth, attr, content, order, value}
 use Rattle.vocabularies.specs.Facts.{Fact, withFacts}
@@ -34,11 +34,11 @@ module _ (t : Facts) where
   unfolding withFacts
   truth-adds xs h = h
 
-  pub attr-adds : (a : ℕ) → ShapeAdds t t (leaf (attr a))
-  unfolding withFacts
-  attr-adds a xs h = h
-
   module _ (r : Facts) where
+    pub attr-adds : (a : ℕ) → Adds t (Carried a) r → ShapeAdds t r (leaf (attr a))
+    unfolding withFacts
+    attr-adds a h = h
+
     pub content-adds : (c : ℕ) → Adds t (Present c) r → ShapeAdds t r (leaf (content c))
     unfolding withFacts
     content-adds c h = h

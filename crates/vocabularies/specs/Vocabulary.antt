@@ -1,6 +1,7 @@
 -- Vocabularies as trees: the abstract DTD of source 000, section 6, with document 01's numbers for names. An element is 1 to 63,
 -- a content 0 (text) or an element, an attribute 0 to 31. Document 01 calls the formulas of a rule its clauses: all are to be met.
 use Prim.Native.Nat.{ℕ}
+use mathlib.Core.Path.{_≡_}
 use mathlib.Core.List.{List, [], _∷_}
 use mathlib.Core.Option.{Option, some, none}
 use mathlib.Core.Bool.{Bool, true, false, cond, _||_}
@@ -29,6 +30,12 @@ pub record Vocabulary : Type 0 where
 unfoldable pub isIn : ℕ → List ℕ → Bool
 isIn n [] = false
 isIn n (m ∷ ms) = eqb n m || isIn n ms
+
+-- No number stands in the list twice.
+unfoldable pub Distinct : List ℕ → Type 0
+unfolding isIn
+Distinct [] = Unit {0}
+Distinct (n ∷ ns) = (isIn n ns ≡ false) × Distinct ns
 
 -- The rule of an element: at most one, since a rule given twice is refused.
 unfoldable pub ruleOf : List Rule → ℕ → Option Rule

@@ -6,7 +6,7 @@ ghost use mathlib.Core.Logic.{_⊎_};
 ghost use Rattle.strings.specs.contracts.Promises.{setNumber};
 ghost use Rattle.commands.specs.contracts.Parts.{Single, partOf};
 ghost use Rattle.vocabularies.specs.Vocabulary.{order};
-ghost use Rattle.vocabularies.specs.Facts.{present, ordered, valued, sameFact};
+ghost use Rattle.vocabularies.specs.Facts.{carried, present, ordered, valued, sameFact};
 ghost use Rattle.vocabularies.specs.contracts.Promises.{meaningOf, keptAt, Represents, TellsAmong, Adds, FactsWith, Stands, FormulaReads, FactsRead, ManyFacts, NamesRead, ClausesRead, RuleReads, Long, DescribesRules, VocabularyReads};
 use commands::Context;
 use commands::Decoded;
@@ -47,8 +47,9 @@ pub enum FormulaHere {
     Nothing,
 }
 
-// A fact of a clause: a content of `15` and `16`, a pair of `16`, an attribute and a set of `17`.
+// A fact of a clause: an attribute of `14`, a content of `15` and `16`, a pair of `16`, an attribute and a set of `17`.
 pub enum Fact {
+    Carried(u8),
     Present(u8),
     Ordered(u8, u8),
     Valued(u8, StringSet),
@@ -88,7 +89,7 @@ pub fn no_facts() -> Facts
     ensures { λ r. ⌜ Represents r [] ⌝ }
 {
     let none = KeptFact {
-        fact: Fact::Present(0),
+        fact: Fact::Carried(0),
     };
     Facts {
         kept: [none; 8],
@@ -105,11 +106,24 @@ fn fact_at(facts: Facts, i: usize) -> Fact
     kept.fact
 }
 
+// Whether a fact is that attribute a is carried.
+fn is_carried(fact: Fact, a: u8) -> bool
+    ensures { λ r. ⌜ r ≡ sameFact (carried a) (meaningOf fact) ⌝ }
+{
+    match fact {
+        Fact::Carried(of) => a == of,
+        Fact::Present(_) => false,
+        Fact::Ordered(_, _) => false,
+        Fact::Valued(_, _) => false,
+    }
+}
+
 // Whether a fact is that content c is present.
 fn is_present(fact: Fact, c: u8) -> bool
     ensures { λ r. ⌜ r ≡ sameFact (present c) (meaningOf fact) ⌝ }
 {
     match fact {
+        Fact::Carried(_) => false,
         Fact::Present(of) => c == of,
         Fact::Ordered(_, _) => false,
         Fact::Valued(_, _) => false,
@@ -120,6 +134,7 @@ fn is_ordered(fact: Fact, c: u8, d: u8) -> bool
     ensures { λ r. ⌜ r ≡ sameFact (ordered c d) (meaningOf fact) ⌝ }
 {
     match fact {
+        Fact::Carried(_) => false,
         Fact::Present(_) => false,
         Fact::Ordered(first, second) => c == first && d == second,
         Fact::Valued(_, _) => false,
@@ -130,6 +145,7 @@ fn is_valued(fact: Fact, a: u8, set: StringSet) -> bool
     ensures { λ r. ⌜ r ≡ sameFact (valued a (setNumber set)) (meaningOf fact) ⌝ }
 {
     match fact {
+        Fact::Carried(_) => false,
         Fact::Present(_) => false,
         Fact::Ordered(_, _) => false,
         Fact::Valued(of, among) => a == of && strings::same(set, among),
@@ -140,6 +156,7 @@ pub fn same_fact(fact: Fact, other: Fact) -> bool
     ensures { λ r. ⌜ r ≡ sameFact (meaningOf fact) (meaningOf other) ⌝ }
 {
     match fact {
+        Fact::Carried(a) => is_carried(other, a),
         Fact::Present(c) => is_present(other, c),
         Fact::Ordered(c, d) => is_ordered(other, c, d),
         Fact::Valued(a, set) => is_valued(other, a, set),
@@ -261,7 +278,8 @@ pub fn facts_of(s: &[u8], start: Position, end: Position) -> Facts
             FormulaHere::Truth(next) => {
                 here = next;
             }
-            FormulaHere::Attr(_, next) => {
+            FormulaHere::Attr(a, next) => {
+                facts = with_fact(facts, Fact::Carried(a));
                 here = next;
             }
             FormulaHere::Content(c, next) => {

@@ -1,6 +1,6 @@
 -- Derivations with attributes, and pages that are not derived (source 000, section 3, as document 01, "Covering, and the language of a
 -- show", reads it): "from a root, each gap occurrence takes one edge's template, each attribute gap one string, each occurrence by
--- itself, until none is left".
+-- itself, until none is left"; document 02, F-5: absence in place of string 0.
 use Prim.Native.Nat.{ℕ}
 use mathlib.Core.Path.{_≡_, refl, sym, _∙_}
 use mathlib.Core.List.{List, [], _∷_}
@@ -12,8 +12,9 @@ use Rattle.programs.specs.Program.{templateAt}
 use Rattle.summaries.specs.Proposal.{root, edge, gapFrom, attributeGapFrom, claim, anyAt}
 use Rattle.summaries.specs.Proposal as Proposal
 use Rattle.summaries.specs.Summaries.{Summary, sameCode, saysClaim, held}
-use Rattle.summaries.specs.Languages.{closedSummary, AttributesDerive, no-attribute, fixed, filled, Derives, ItemDerives, nothing, item-then, text-stays, blank-stays, gap-takes, element-keeps, Language}
+use Rattle.summaries.specs.Languages.{closedSummary, AttributesDerive, no-attribute, fixed, filled, dropped, Derives, ItemDerives, nothing, item-then, text-stays, blank-stays, gap-takes, element-keeps, Language}
 use Rattle.worked_examples.proofs.Runs.{attribute}
+use Rattle.worked_examples.proofs.ClosedGraphs.{holding-empty}
 
 -- Template 1 has a fixed string, attribute gap 0 twice and gap 0 twice; template 2 has attribute gap 0; template 3 is gap 1.
 abbrev outer : List Attribute → Items → Items
@@ -45,14 +46,37 @@ graph = closedSummary (held saysClaim (
 abbrev Attributes : ℕ → List Attribute → List Attribute → Type 0
 Attributes n δ δ′ = AttributesDerive templates graph n δ δ′
 
--- A fixed string stays as it is, and no other comes of it: not string 0 of a close, not one held at the template's gaps.
+-- A fixed string stays as it is, and no other comes of it, nor is it left out: it has no gap to be open.
 pub fixed-stays : {δ : List Attribute} → Attributes 1 (attribute 0 (string 7) ∷ []) δ → δ ≡ attribute 0 (string 7) ∷ []
 fixed-stays (fixed no-attribute) = refl
 
--- "Each occurrence by itself": of two attributes with one h, one takes string 5, the other string 0. To choose once for h is wrong.
-pub each-by-itself : Attributes 1 outer-attributes (attribute 0 (string 7) ∷ attribute 1 (string 5) ∷ attribute 2 (string 0) ∷ [])
+-- "Each occurrence by itself": of two attributes with one h, one takes string 5, the other is absent; or the other way; or both are
+-- absent. To choose once for h is wrong.
+pub each-by-itself : Attributes 1 outer-attributes (attribute 0 (string 7) ∷ attribute 1 (string 5) ∷ [])
 unfolding held sameCode
-each-by-itself = fixed (filled 5 refl (filled 0 refl no-attribute))
+each-by-itself = fixed (filled 5 refl (dropped refl no-attribute))
+
+pub the-other-way : Attributes 1 outer-attributes (attribute 0 (string 7) ∷ attribute 2 (string 5) ∷ [])
+unfolding held sameCode
+the-other-way = fixed (dropped refl (filled 5 refl no-attribute))
+
+pub both-absent : Attributes 1 outer-attributes (attribute 0 (string 7) ∷ [])
+unfolding held sameCode
+both-absent = fixed (dropped refl (dropped refl no-attribute))
+
+-- Of no attribute comes none.
+none-of-none : {n : ℕ} {a : Attribute} {δ : List Attribute} → Attributes n [] (a ∷ δ) → ⊥
+none-of-none = elim [ ]
+
+-- String 0 is not taken: the summary does not hold it there. Where it does, it is.
+pub not-empty-string : Attributes 1 (attribute 0 (open-gap 0) ∷ []) (attribute 0 (string 0) ∷ []) → ⊥
+unfolding held sameCode
+not-empty-string (filled s e d) = false≢true e
+not-empty-string (dropped e d) = none-of-none d
+
+pub empty-string-taken : AttributesDerive templates holding-empty 1 (attribute 0 (open-gap 0) ∷ []) (attribute 0 (string 0) ∷ [])
+unfolding held sameCode
+empty-string-taken = filled 0 refl no-attribute
 
 -- A string is held at a template and its gap: what template 2 may take at attribute gap 0, template 1 may not.
 pub other-template : Attributes 2 (attribute 0 (open-gap 0) ∷ []) (attribute 0 (string 1000) ∷ [])
@@ -62,13 +86,15 @@ other-template = filled 1000 refl no-attribute
 pub not-taken : Attributes 1 (attribute 0 (open-gap 0) ∷ []) (attribute 0 (string 1000) ∷ []) → ⊥
 unfolding held sameCode
 not-taken (filled s e d) = false≢true e
+not-taken (dropped e d) = none-of-none d
 
--- An attribute gap takes one string: the attribute is not left out, and its gap is not left open.
-pub not-left-out : Attributes 1 (attribute 0 (open-gap 0) ∷ []) [] → ⊥
-not-left-out = elim [ ]
+-- Template 2 is no origin of attribute gap 0: there the attribute is not left out. Nowhere is its gap left open.
+pub not-left-out : Attributes 2 (attribute 0 (open-gap 0) ∷ []) [] → ⊥
+unfolding held sameCode
+not-left-out (dropped e d) = false≢true e
 
 pub not-left-open : Attributes 1 (attribute 0 (open-gap 0) ∷ []) (attribute 0 (open-gap 0) ∷ []) → ⊥
-not-left-open = elim [ ]
+not-left-open (dropped e d) = none-of-none d
 
 -- An element in a gap derives from its own template: at template 2 attribute gap 0 takes any string, one outside 0 to 63 too.
 pub element-taken : ItemDerives templates graph 1 (gap 0) (inner (attribute 0 (string 64) ∷ []))
@@ -82,7 +108,7 @@ nothing-taken = gap-takes 0 refl nothing
 
 -- A whole page of root 1: of two occurrences of gap 0, each by itself, one takes template 2 and the other nothing.
 pub page-derived : Language templates graph
-    (outer (attribute 0 (string 7) ∷ attribute 1 (string 5) ∷ attribute 2 (string 0) ∷ []) (inner (attribute 0 (string 64) ∷ [])))
+    (outer (attribute 0 (string 7) ∷ attribute 1 (string 5) ∷ []) (inner (attribute 0 (string 64) ∷ [])))
 unfolding templateAt held sameCode _⋈_
 page-derived =
     (1, (refl, item-then (element-keeps each-by-itself (item-then element-taken (item-then nothing-taken nothing refl) refl)) nothing refl))

@@ -6,20 +6,21 @@ use mathlib.Core.Path.{_≡_, refl}
 use mathlib.Core.List.{List, [], _∷_}
 use mathlib.Core.Bool.{true, false}
 use mathlib.Core.Option.{some}
+use mathlib.Core.Option as Option
 use lib.ListN.{take}
 use Rattle.verdicts.specs.declared.Form.the-variants.{Ended, NotAllowed, OutOfRange, Missing}
 use Rattle.commands.specs.Commands.{command}
 use Rattle.commands.specs.Reading.{whole}
 use Rattle.vocabularies.specs.Vocabulary.{ruleOf}
 use Rattle.vocabularies.specs.Facts.{withFacts}
-use Rattle.pages.specs.Items.{Value, string, open-gap, text, gap, element, Items, none, more, one, _⋈_, gapIn, attributeGapIn}
+use Rattle.pages.specs.Items.{open-gap, Attribute, text, gap, element, Items, none, more, one, _⋈_, gapIn, attributeGapIn}
 use Rattle.programs.specs.Program.{setTemplate, anyString, showFramed, Statement, step, stop, templateVariable, stringVariable, named, statementAt, templateAt}
 use Rattle.programs.specs.ProgramReading.{statementOf}
 use Rattle.programs.specs.Runs.{Choice, State, start, plugged, closed, runFrom, shown}
 use Rattle.summaries.specs.Proposal.{root, edge, gapFrom, attributeGapFrom}
 use Rattle.summaries.specs.Proposal as Proposal
 use Rattle.summaries.specs.Summaries.{Summary, Environment, fragment, plugSummary, transfer, sameCode, held, under, entries}
-use Rattle.summaries.specs.Languages.{closedSummary, graphShown, LanguageAt, nothing, item-then, text-stays, gap-takes, element-keeps, no-attribute}
+use Rattle.summaries.specs.Languages.{closedSummary, takes, graphShown, LanguageAt, nothing, item-then, text-stays, gap-takes, element-keeps, no-attribute}
 use Rattle.jobs.specs.Job.{Script, Job, job}
 use Rattle.jobs.specs.JobVerdict.{AllCovered}
 use Rattle.worked_examples.specs.FramedJob.{framedJob}
@@ -29,13 +30,13 @@ use Rattle.worked_examples.proofs.RunningJ1.{page}
 use Rattle.worked_examples.proofs.Runs.{attribute, first, second, choosing}
 use Rattle.worked_examples.proofs.Transfers as Transfers
 
--- Element 1 around items and element 2, which has the same items, others before them, and an attribute.
-abbrev around : Items → Items → Value → Items
-around φ ψ v = one (element 1 10 [] (φ ⋈ one (element 2 20 (attribute 0 v ∷ []) (ψ ⋈ φ))))
+-- Element 1 around items and element 2, which has the same items, others before them, and attributes.
+abbrev around : Items → Items → List Attribute → Items
+around φ ψ δ = one (element 1 10 [] (φ ⋈ one (element 2 20 δ (ψ ⋈ φ))))
 
 -- Template 1 has gap 0 at two depths, gap 1, and attribute gap 0; template 2 has a gap 0 too.
 abbrev templates : List Items
-templates = around (one (gap 0)) (one (gap 1)) (open-gap 0) ∷ more text (one (gap 0)) ∷ []
+templates = around (one (gap 0)) (one (gap 1)) (attribute 0 (open-gap 0) ∷ []) ∷ more text (one (gap 0)) ∷ []
 
 abbrev framing : List Statement
 framing =
@@ -48,9 +49,10 @@ framing =
     ∷ []
 
 abbrev framed-shown : Items
-framed-shown = around (one text) none (string 0)
+framed-shown = around (one text) none []
 
--- "All its gaps g", at any depth. The gap 0 that came with x0 is not filled with x0 again: it is closed, as gap 1 and attribute gap 0 are.
+-- "All its gaps g", at any depth. The gap 0 that came with x0 is not filled with x0 again: it is closed, as gap 1 is, and attribute gap 0,
+-- with which its attribute goes (document 02, F-5).
 pub shows-framed : shown templates framing (first ∷ choosing 7 ∷ first ∷ []) ≡ framed-shown ∷ []
 unfolding shown statementAt templateAt plugged closed _⋈_
 shows-framed = refl
@@ -69,7 +71,7 @@ unfolding runFrom statementAt templateAt
 framed-leaves = (refl, refl, refl, refl, refl, refl)
 
 -- "If t has no gap g, a run shows t alone", closed; template 0 has nothing in it, so the page is empty.
-pub alone-without-gap : shown templates framing (first ∷ choosing 7 ∷ first ∷ first ∷ first ∷ []) ≡ framed-shown ∷ around none none (string 0) ∷ none ∷ []
+pub alone-without-gap : shown templates framing (first ∷ choosing 7 ∷ first ∷ first ∷ first ∷ []) ≡ framed-shown ∷ around none none [] ∷ none ∷ []
 unfolding shown statementAt templateAt plugged closed _⋈_
 alone-without-gap = refl
 
@@ -112,9 +114,9 @@ unfolding entries sameCode templateAt gapIn
 origin-closed = (refl, refl, refl, refl)
 
 -- `39 00 02 00`: template 2 stands in x0's graph as well, and is one node. The origin of gap 0 that x0 has there stays, beside the edge
--- to x0's root; attribute gap 0, which has string 9 in x0, is open in the frame.
+-- to x0's root; attribute gap 0, which has string 9 in x0, is open in the frame: closed, it takes that string or is absent.
 pub one-node : (framed 0 2 0 (gapFrom 0 2) ≡ true) × (framed 0 2 0 (edge 2 0 1) ≡ true) × (closedSummary (framed 0 2 0) (edge 2 0 0) ≡ true)
-    × (framed 0 2 0 (root 1) ≡ false) × (closedSummary (framed 0 2 0) (Proposal.string 2 0 0) ≡ true) × (framed 0 2 0 (Proposal.string 2 0 9) ≡ true)
+    × (framed 0 2 0 (root 1) ≡ false) × (takes (closedSummary (framed 0 2 0)) 2 0 Option.none ≡ true) × (takes (closedSummary (framed 0 2 0)) 2 0 (some 9) ≡ true)
 unfolding entries sameCode templateAt gapIn attributeGapIn
 one-node = (refl, refl, refl, refl, refl, refl)
 

@@ -5,6 +5,7 @@ pub mod RunningJ1
 pub mod Transfers
 pub mod ClosedGraphs
 pub mod Derivations
+pub mod Facts
 pub mod RightPages
 pub mod JudgingJ1
 pub mod BlankText

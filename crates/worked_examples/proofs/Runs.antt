@@ -27,8 +27,11 @@ frame φ = one (element 1 10 [] (more text φ))
 abbrev row : Items
 row = more (gap 0) (one text)
 
+abbrev card-with : List Attribute → List Attribute → Items → Items
+card-with δ ε φ = one (element 2 20 δ (more (element 3 30 ε none) φ))
+
 abbrev card : Value → Value → Items → Items
-card v w φ = one (element 2 20 (attribute 0 v ∷ attribute 1 w ∷ []) (more (element 3 30 (attribute 0 v ∷ []) none) φ))
+card v w φ = card-with (attribute 0 v ∷ attribute 1 w ∷ []) (attribute 0 v ∷ []) φ
 
 -- Template 3 has attribute gap 0 at two depths, attribute gap 1, and gap 0.
 abbrev open-card : Items
@@ -89,11 +92,20 @@ pub string-not-used : value filling (choosing 64 ∷ choosing 64 ∷ choosing 64
 unfolding runFrom statementAt templateAt pluggedString
 string-not-used = refl
 
+abbrev filling-empty : List Statement
+filling-empty = step (setTemplate 0 3) 1 1 ∷ step (plugString 0 0 0 0) 2 2 ∷ step (show 0) 3 3 ∷ stop ∷ []
+
+-- A gap that a run fills with string 0 is filled: its attribute stays. Only attribute 1, whose gap is still open, goes.
+pub filled-with-empty : pages filling-empty (first ∷ first ∷ first ∷ []) ≡ card-with (attribute 0 (string 0) ∷ []) (attribute 0 (string 0) ∷ []) none ∷ []
+unfolding shown statementAt templateAt pluggedString closed
+filled-with-empty = refl
+
 abbrev any : List Statement
 any = step (setTemplate 0 3) 1 1 ∷ step (anyString 0) 2 2 ∷ step (plugString 0 0 0 0) 3 3 ∷ step (show 0) 4 4 ∷ stop ∷ []
 
--- "A string out of all that exist": 1,000 is none of the strings 0 to 63, and is not taken for another string outside them.
-pub string-outside : pages any (first ∷ choosing 1000 ∷ first ∷ first ∷ []) ≡ card (string 1000) (string 0) none ∷ []
+-- "A string out of all that exist": 1,000 is none of the strings 0 to 63, and is not taken for another string outside them. Attribute 1,
+-- whose gap is still open, is not in the page (document 02, F-5).
+pub string-outside : pages any (first ∷ choosing 1000 ∷ first ∷ first ∷ []) ≡ card-with (attribute 0 (string 1000) ∷ []) (attribute 0 (string 1000) ∷ []) none ∷ []
 unfolding shown statementAt templateAt pluggedString closed
 string-outside = refl
 
@@ -117,13 +129,12 @@ showing-twice =
     ∷ []
 
 -- "The variable itself keeps its gaps": what is shown with nothing in gap 0 can be plugged after, and is shown with a frame there.
--- Gaps that came with the frame are closed as well; open attribute gaps have string 0, and are not left out.
-pub shown-and-plugged : pages showing-twice (first ∷ first ∷ first ∷ first ∷ first ∷ [])
-    ≡ card (string 0) (string 0) none ∷ card (string 0) (string 0) (frame none) ∷ []
+-- Gaps that came with the frame are closed as well; each open attribute gap takes its attribute away, at any depth (document 02, F-5).
+pub shown-and-plugged : pages showing-twice (first ∷ first ∷ first ∷ first ∷ first ∷ []) ≡ card-with [] [] none ∷ card-with [] [] (frame none) ∷ []
 unfolding shown statementAt templateAt plugged closed
 shown-and-plugged = refl
 
--- Right after the first show all its gaps are open, attribute gaps too: no variable is what was shown.
+-- "The variable itself keeps its gaps": right after the first show all its gaps are open, attribute gaps too; no variable is what was shown.
 pub shown-keeps-gaps : value showing-twice (first ∷ first ∷ first ∷ []) 0 ≡ open-card
 unfolding runFrom statementAt templateAt
 shown-keeps-gaps = refl

@@ -54,7 +54,7 @@ pub other-template-left : (filled (string 2 0 7) ≡ false) × (filled (string 2
 unfolding entries sameCode
 other-template-left = (refl, refl)
 
--- "Leaves h no origin": so a show adds no string 0 there. The other attribute gap stays open.
+-- "Leaves h no origin": so at a show its attribute cannot be absent. The other attribute gap stays open.
 pub leaves-no-origin : (filled (attributeGapFrom 0 1) ≡ false) × (filled (attributeGapFrom 1 1) ≡ true)
 unfolding entries sameCode
 leaves-no-origin = (refl, refl)
@@ -110,7 +110,7 @@ pub string-set : (after (setString 1 9) .string 1 9 ≡ true) × (after (setStri
     × (after (anyString 0) .string 0 1000 ≡ true)
 string-set = (refl, refl, refl)
 
--- `37 00`: a show closes the page and not the variable, so no step adds string 0 or takes an origin.
+-- `37 00`: a show closes the page and not the variable: no string comes to an attribute gap, and no origin goes.
 pub show-leaves : (after (show 0) .template 0 (string 1 0 0) ≡ false) × (after (show 0) .template 0 (attributeGapFrom 0 1) ≡ true)
 unfolding entries sameCode
 show-leaves = (refl, refl)

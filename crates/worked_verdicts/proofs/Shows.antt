@@ -119,7 +119,7 @@ module _ (t : ℕ) (π : Script) (E : ℕ → Environment) (read : GivenShows π
     where
       enough-or : (G : Summary) → graphShown (π .templates) (π .program) E p ≡ some G → (b : Bool) → enoughRounds (π .templates) G t (π .vocabulary) ≡ b
           → (f : Found) → (ExactTables (π .templates) G (π .vocabulary) (tablesBy (π .templates) G t (π .vocabulary)) → FoundAt π E p f) → FoundAt π E p (onlyEnough b f)
-      enough-or G shows true e f h = h (tables-exact (π .templates) G t (π .vocabulary) (read .graphs p G shows) (read .script .templates) e)
+      enough-or G shows true e f h = h (tables-exact (π .templates) G t (π .vocabulary) (read .graphs p G shows) (read .script .templates .in-range) e)
       enough-or G shows false e f h = tt
 
       go : (o : Option Summary) → graphShown (π .templates) (π .program) E p ≡ o → FoundAt π E p (inGraph t π E o)

@@ -1,16 +1,21 @@
 //! Checking a job: reading, covering, then each show over its whole language.
 
+use crate::closing::Closing;
 use crate::cover::{covering, shown};
 use crate::graph::Graph;
 use crate::job::Job;
 use crate::patterns::{Clause, Patterns, WordFacts};
 use crate::reader::*;
-use crate::summary::members;
+use crate::summary::{members, ABSENT, ANY_STRING};
 use crate::templates::Element;
 
 /// The verdict on a job.
 pub fn check(job: &[u8]) -> Verdict {
-    let job = match Job::read(job) {
+    check_as(job, Closing::Absence)
+}
+
+pub fn check_as(job: &[u8], closing: Closing) -> Verdict {
+    let job = match Job::read_as(job, closing) {
         Ok(job) => job,
         Err(fault) => return fault.verdict(0),
     };
@@ -27,7 +32,7 @@ pub fn shows(job: &Job) -> impl Iterator<Item = (usize, Verdict)> + '_ {
     let clauses = clauses(job);
     job.program.points.iter().enumerate().filter_map(move |(point, at)| {
         let summary = shown(at.statement, &job.templates, &job.entries, point)?;
-        Some((point, show(job, &clauses, point, &Graph::new(&job.templates, &summary))))
+        Some((point, show(job, &clauses, point, &Graph::new(&job.templates, &summary, job.closing))))
     })
 }
 
@@ -52,7 +57,7 @@ fn clauses(job: &Job) -> Vec<Clause> {
         while from < rule.to as usize {
             let nodes = &vocabulary.nodes[from + 1..rule.to as usize];
             let length = nodes.iter().position(|node| *node == crate::vocabulary::Node::Clause).unwrap_or(nodes.len());
-            clauses.push(Clause::new(element, &vocabulary.nodes, from + 1..from + 1 + length));
+            clauses.push(Clause::new(element, &vocabulary.nodes, from + 1..from + 1 + length, job.closing));
             from += 1 + length;
         }
     }
@@ -81,7 +86,7 @@ fn wrong_element(job: &Job, clauses: &[Clause], graph: &Graph) -> Option<(usize,
     for template in members(graph.live) {
         for element in job.templates.elements(template) {
             let rule = &job.vocabulary.rules[element.name as usize];
-            let allowed = element.attributes & !rule.attributes == 0
+            let allowed = !carries(job, graph, (template, element), !rule.attributes)
                 && graph.contents(template, &element.items) & !rule.contents == 0;
             if !allowed && lowest.is_none() {
                 lowest = Some((template, element.at));
@@ -107,12 +112,20 @@ fn wrong_element(job: &Job, clauses: &[Clause], graph: &Graph) -> Option<(usize,
     lowest
 }
 
+/// The element carries one of these attributes in some page: a string reaches it.
+fn carries(job: &Job, graph: &Graph, (template, element): Standing, attributes: u32) -> bool {
+    element.attributes & attributes != 0
+        && job.templates.attributes(element).iter().any(|&(attribute, value)| {
+            attributes >> attribute & 1 == 1 && graph.strings(template, value) & ANY_STRING != 0
+        })
+}
+
 /// Some clause of these, all with the same content and pair facts, fails in some page.
 fn fails(job: &Job, clauses: &[Clause], graph: &Graph, sets: &[Patterns; 32], (template, element): Standing) -> bool {
     let contents = graph.patterns_of(&clauses[0].word, sets, template, &element.items);
     let strings = |attribute: u8| {
         let mut attributes = job.templates.attributes(element).iter();
-        attributes.find(|(a, _)| *a == attribute).map(|&(_, value)| graph.strings(template, value))
+        attributes.find(|(a, _)| *a == attribute).map_or(ABSENT, |&(_, value)| graph.strings(template, value))
     };
     clauses.iter().any(|clause| {
         let holds = clause.holds(&job.vocabulary.nodes, element.attributes);

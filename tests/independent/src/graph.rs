@@ -1,5 +1,6 @@
 //! The closed summary graph of a show, cut down to what takes part in whole pages.
 
+use crate::closing::Closing;
 use crate::patterns::{Patterns, WordFacts};
 use crate::summary::*;
 use crate::templates::{AttributeValue, Items, Templates};
@@ -11,6 +12,7 @@ pub struct Graph<'a> {
     /// The templates that stand in some page.
     pub live: u32,
     edges: [Edges; 32],
+    /// Absence among them.
     strings: [Strings; 32],
     /// For each live template those that can have it among their outermost items.
     outer_users: [u32; 32],
@@ -19,7 +21,7 @@ pub struct Graph<'a> {
 }
 
 impl<'a> Graph<'a> {
-    pub fn new(templates: &'a Templates, summary: &Summary) -> Graph<'a> {
+    pub fn new(templates: &'a Templates, summary: &Summary, closing: Closing) -> Graph<'a> {
         let mut graph = Graph {
             templates,
             roots: summary.roots,
@@ -33,21 +35,21 @@ impl<'a> Graph<'a> {
             graph.edges[template] = *summary.edges(template);
             graph.strings[template] = *summary.strings(template);
         }
-        graph.close(summary);
+        graph.close(summary, closing);
         graph.keep_ending();
         graph.find_live();
         graph.find_outer_contents();
         graph
     }
 
-    /// An open gap may get nothing, an open attribute gap string 0.
-    fn close(&mut self, summary: &Summary) {
+    /// An open gap may get nothing; the attribute of an open attribute gap may go.
+    fn close(&mut self, summary: &Summary, closing: Closing) {
         for gap in 0..8 {
             for origin in members(summary.origins[gap]) {
                 self.edges[origin][gap] |= 1;
             }
             for origin in members(summary.attribute_origins[gap]) {
-                self.strings[origin][gap] |= 1;
+                self.strings[origin][gap] |= closing.taken();
             }
         }
     }
@@ -148,7 +150,7 @@ impl<'a> Graph<'a> {
         facts.of_items(self.templates.items(items), &gaps)
     }
 
-    /// The strings that a value can be.
+    /// The strings that a value can be, and absence.
     pub fn strings(&self, template: usize, value: AttributeValue) -> StringSet {
         match value {
             AttributeValue::String(string) => 1 << string,

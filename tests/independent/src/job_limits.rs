@@ -23,6 +23,7 @@ pub fn all() -> Vec<Vec<u8>> {
     jobs.extend(framed_operands());
     jobs.extend(framed_points());
     jobs.extend(framed_gaps());
+    jobs.extend(absent_attributes());
     jobs
 }
 
@@ -247,6 +248,21 @@ fn framed_points() -> Vec<Vec<u8>> {
         // Every point a framed show.
         let shows: Vec<u8> = (0..count as u8).flat_map(|point| [0x39, point % 4, 1, point % 8, 0, point]).collect();
         jobs.push(job(&shortest(), &TEMPLATES, &[&shows[..], &[0x3F]].concat()));
+    }
+    jobs
+}
+
+/// Clauses that ask for attributes. The root lacks them or has one, whose gap is open, plugged, or either.
+fn absent_attributes() -> Vec<Vec<u8>> {
+    let open = [&TEMPLATES[..3], &[0x25, 0, 0], &TEMPLATES[3..]].concat();
+    let plugging = |q: u8| [0x31, 0, 1, 1, q, 0x36, 0, 0, 0, 0, 2, 2, 0x37, 0, 3, 3, 0x38, 0x3F];
+    let mut jobs = Vec::new();
+    for clause in many_presences() {
+        let vocabulary = with_clause(&clause);
+        jobs.push(job(&vocabulary, &TEMPLATES, &PROGRAM));
+        jobs.push(job(&vocabulary, &open, &PROGRAM));
+        jobs.push(job(&vocabulary, &open, &plugging(1)));
+        jobs.push(job(&vocabulary, &open, &plugging(2)));
     }
     jobs
 }

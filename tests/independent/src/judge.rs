@@ -1,5 +1,6 @@
 //! Judging one page: reading and judging go over the page once, without recursion.
 
+use crate::closing::Closing;
 use crate::reader::*;
 use crate::vocabulary::*;
 
@@ -7,7 +8,11 @@ const PAGE_NESTING: usize = 1024;
 
 /// The verdict on a page under a vocabulary.
 pub fn judge(vocabulary: &[u8], page: &[u8]) -> Verdict {
-    let vocabulary = match Vocabulary::read_whole(vocabulary) {
+    judge_as(vocabulary, page, Closing::Absence)
+}
+
+pub fn judge_as(vocabulary: &[u8], page: &[u8], closing: Closing) -> Verdict {
+    let vocabulary = match Vocabulary::read_whole(vocabulary, closing) {
         Ok(vocabulary) => vocabulary,
         Err(fault) => return fault.verdict(0),
     };

@@ -1,5 +1,5 @@
 //! Pages of a show's language, drawn at random: from a root each gap takes one edge's template and each attribute gap one
-//! string, each occurrence by itself.
+//! string, or its attribute goes where that is allowed, each occurrence by itself.
 
 use crate::damage::operands;
 use crate::job::Job;
@@ -13,6 +13,17 @@ const LENGTH: usize = 3000;
 /// A page of the language of the show at `point`, ended by `27`. Nothing where there is no show, or the draw leads
 /// nowhere, or too far.
 pub fn draw(random: &mut Random, job: &Job, bytes: &[u8], point: usize) -> Option<Vec<u8>> {
+    let closed = closed(job, point)?;
+    let root = pick(random, closed.roots)?;
+    let mut page = Vec::new();
+    unfold(random, job, bytes, &closed, root, 0, &mut page)?;
+    page.push(0x27);
+    Some(page)
+}
+
+/// What is shown at a point, its gaps closed: an origin of a gap also allows template 0, an origin of an attribute gap
+/// absence. Nothing where there is no show.
+pub fn closed(job: &Job, point: usize) -> Option<Summary> {
     let mut closed = match job.program.points[point].statement {
         Statement::Show(x) => job.entries.summary(point, x).clone(),
         Statement::Framed(x, template, gap) => framed(job, job.entries.summary(point, x), template, gap.into()),
@@ -20,13 +31,10 @@ pub fn draw(random: &mut Random, job: &Job, bytes: &[u8], point: usize) -> Optio
     };
     for gap in 0..8 {
         members(closed.origins[gap]).for_each(|origin| closed.add_edges(origin, gap, 1));
-        members(closed.attribute_origins[gap]).for_each(|origin| closed.add_strings(origin, gap, 1));
+        let taken = job.closing.taken();
+        members(closed.attribute_origins[gap]).for_each(|origin| closed.add_strings(origin, gap, taken));
     }
-    let root = pick(random, closed.roots)?;
-    let mut page = Vec::new();
-    unfold(random, job, bytes, &closed, root, 0, &mut page)?;
-    page.push(0x27);
-    Some(page)
+    Some(closed)
 }
 
 /// A summary with a frame as its only root, around what it was. The frame brings its own gaps, but for the one plugged.
@@ -77,13 +85,18 @@ fn unfold(
             }
             [0x25, attribute, gap] => {
                 let set = closed.strings(template)[gap as usize];
-                let list: Vec<u8> = (0..65).filter(|string| set >> string & 1 == 1).collect();
+                let mut list: Vec<u8> = (0..65).filter(|string| set >> string & 1 == 1).collect();
+                // The strings outside 0-63 are many, and absence differs from all, whatever their share of the list.
+                if list.len() == 65 && random.percent(20) {
+                    list = vec![64];
+                }
+                if set & ABSENT != 0 && (list.is_empty() || random.percent(40)) {
+                    continue;
+                }
                 if list.is_empty() {
                     return None;
                 }
-                // The strings outside 0-63 are many, whatever their share of the list.
-                let outside = list.len() == 65 && random.percent(20);
-                match if outside { 64 } else { random.pick(&list) } {
+                match random.pick(&list) {
                     64 => page.extend([0x28, attribute]),
                     string => page.extend([0x24, attribute, string]),
                 }

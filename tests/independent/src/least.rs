@@ -1,5 +1,6 @@
 //! The least covering proposal, and writing a proposal down.
 
+use crate::closing::Closing;
 use crate::cover::{named, transfer, Change};
 use crate::job::Job;
 use crate::program::{Program, VARIABLES};
@@ -48,9 +49,10 @@ fn step(before: &Entries, entries: &mut Entries, change: &Change, point: usize, 
     };
 }
 
-/// A job up to its `3F`, with the least proposal that holds all of `held`; nothing if it doesn't read.
+/// A job up to its `3F`, with the least proposal that holds all of `held`; nothing if it doesn't read, for any other
+/// reason than that `14` makes too many facts.
 pub fn with_least(start: &[u8], held: &[u8]) -> Option<Vec<u8>> {
-    let job = Job::read(&[start, held, &[0x4F]].concat()).ok()?;
+    let job = Job::read_as(&[start, held, &[0x4F]].concat(), Closing::StringZero).ok()?;
     let entries = least(&job.program, &job.templates, job.entries);
     Some([start, &write(&entries, job.program.points.len())].concat())
 }

@@ -1,7 +1,8 @@
 //! The page check of document 01: reading a job, checking it, judging one page. And of document 02: working out the
-//! proposal (F-1), blank text (F-2), shows inside a frame (F-3).
+//! proposal (F-1), blank text (F-2), shows inside a frame (F-3), attributes that disappear (F-5).
 
 pub mod check;
+pub mod closing;
 pub mod cover;
 pub mod flow;
 pub mod graph;
@@ -20,10 +21,13 @@ pub mod templates;
 pub mod vocabulary;
 pub mod writer;
 
+pub mod absent_facts;
+pub mod absent_jobs;
 pub mod apart;
 pub mod blank;
 pub mod blank_jobs;
 pub mod damage;
+pub mod exhaustive;
 pub mod frame_jobs;
 pub mod job_limits;
 pub mod language;
@@ -37,6 +41,7 @@ pub mod random_pages;
 pub mod random_scripts;
 pub mod random_vocabulary;
 pub mod run;
+pub mod trials;
 
 pub use check::check;
 pub use infer::{infer, Inferred};

@@ -1,6 +1,9 @@
 //! What the programs that make records have in common: their arguments, and the two files that they write.
 
+use crate::absent_facts;
+use crate::closing::Closing;
 use crate::random::Random;
+use crate::random_vocabulary::{formula, many_facts, RuleDraft};
 use crate::records::push;
 use std::io;
 
@@ -12,6 +15,8 @@ pub enum Much {
     Blank,
     /// Framed shows.
     Frames,
+    /// Attributes that can be absent.
+    Absent,
 }
 
 impl Much {
@@ -21,12 +26,40 @@ impl Much {
             Much::Nothing => "",
             Much::Blank => "blank",
             Much::Frames => "frames",
+            Much::Absent => "absent",
+        }
+    }
+
+    /// How shows close in the verdicts that records are chosen by.
+    pub fn closing(self) -> Closing {
+        match self {
+            Much::Absent => Closing::Absence,
+            _ => Closing::StringZero,
+        }
+    }
+
+    /// A formula about what `rule` allows, now and then about other things.
+    pub fn formula(self, random: &mut Random, rule: &RuleDraft) -> Vec<u8> {
+        match self {
+            Much::Absent => absent_facts::formula(random, rule),
+            _ => formula(random, rule),
+        }
+    }
+
+    /// A clause of so many facts or, where it is not about attributes that are there, perhaps one more.
+    pub fn many_facts(self, random: &mut Random, rule: &RuleDraft, least: usize) -> Vec<u8> {
+        match self {
+            Much::Absent => absent_facts::many_facts(random, rule, least),
+            _ => many_facts(random, least),
         }
     }
 }
 
 pub struct Making {
+    /// The records come of it.
     pub random: Random,
+    /// For what is tried out with records besides.
+    pub trials: Random,
     pub count: usize,
     pub much: Much,
     paths: [String; 2],
@@ -44,8 +77,10 @@ impl Making {
             [word] => of.iter().copied().find(|much| much.word() == word),
             _ => None,
         };
+        let seed: u64 = seed.parse().expect("SEED is a number");
         Making {
-            random: Random::new(seed.parse().expect("SEED is a number")),
+            random: Random::new(seed),
+            trials: Random::new(!seed),
             count: count.parse().expect("COUNT is a number"),
             much: much.unwrap_or_else(|| panic!("{usage}")),
             paths: [records_path.clone(), lines_path.clone()],

@@ -18,6 +18,12 @@ pub fn all() -> Vec<Record> {
     for clause in many_facts() {
         records.push(Record { vocabulary: with_clause(&clause), page: RIGHT_PAGE.to_vec() });
     }
+    for clause in many_presences() {
+        for attribute in [&[][..], &[0x24, 0, 0], &[0x28, 0]] {
+            let page = [&RIGHT_PAGE[..2], attribute, &RIGHT_PAGE[2..]].concat();
+            records.push(Record { vocabulary: with_clause(&clause), page });
+        }
+    }
     records
 }
 
@@ -204,6 +210,33 @@ pub fn many_facts() -> Vec<Vec<u8>> {
         [sets(4), pairs(2), vec![content(0), content(2)]].concat(),
         [sets(5), pairs(2)].concat(),
         [sets(8), vec![vec![0x14, 0], vec![0x14, 1], vec![0x13]]].concat(),
+    ];
+    lists.into_iter().flat_map(|list| [under(0x10, list.clone()), under(0x11, list)]).collect()
+}
+
+/// Clauses of eight and of nine facts, attributes that are there among them.
+pub fn many_presences() -> Vec<Vec<u8>> {
+    let there = |from: u8, to: u8| (from..to).map(|a| vec![0x14, a]).collect::<Vec<_>>();
+    let sets =
+        |count: u64| (0..count).map(|i| [&[0x17, 0][..], &(1u64 << i).to_be_bytes()].concat()).collect::<Vec<_>>();
+    let contents = |to: u8| (0..to).map(|c| vec![0x15, c]).collect::<Vec<_>>();
+    let unique = |to: u8| (0..to).map(|c| vec![0x16, c, c]).collect::<Vec<_>>();
+    let lists = [
+        there(0, 8),
+        there(24, 32),
+        there(0, 9),
+        [there(0, 8), there(0, 8), vec![vec![0x13]]].concat(),
+        there(0, 32),
+        [sets(7), there(0, 1)].concat(),
+        [sets(7), there(0, 1), there(0, 1), sets(3)].concat(),
+        [sets(8), there(0, 1)].concat(),
+        [sets(7), there(0, 2)].concat(),
+        [contents(7), there(31, 32)].concat(),
+        [contents(8), there(31, 32)].concat(),
+        [unique(3), there(0, 2)].concat(),
+        [unique(3), there(0, 3)].concat(),
+        [unique(2), sets(2), there(0, 2), contents(2)].concat(),
+        [unique(2), sets(2), there(0, 2), contents(3)].concat(),
     ];
     lists.into_iter().flat_map(|list| [under(0x10, list.clone()), under(0x11, list)]).collect()
 }

@@ -1,7 +1,9 @@
 //! Patterns: which facts of a clause hold, one bit each. The lowest bits are the contents that are there, rising; then
-//! come the pairs that are out of order; then the attributes that are absent, or whose string is of the set.
+//! come the pairs that are out of order; then the attributes that are there, and those that are absent or whose string
+//! is of the set.
 
-use crate::summary::StringSet;
+use crate::closing::Closing;
+use crate::summary::{StringSet, ABSENT, ANY_STRING};
 use crate::templates::GAP;
 use crate::vocabulary::Node;
 
@@ -175,38 +177,40 @@ pub struct Clause {
     pub element: u8,
     pub word: WordFacts,
     pairs: Vec<(u8, u8)>,
-    /// Rising, so that the sets of one attribute stand together.
-    values: Vec<(u8, u64)>,
+    /// Attributes with the strings, absence among them, for which a fact about them holds: rising, so that those of one
+    /// attribute stand together.
+    attributes: Vec<(u8, StringSet)>,
     nodes: std::ops::Range<usize>,
-    /// The patterns under which it holds, unless that hangs on the attributes there.
+    /// The patterns under which it holds, unless presence is asked for and is no fact.
     holds: Option<Patterns>,
 }
 
 impl Clause {
-    pub fn new(element: u8, all: &[Node], nodes: std::ops::Range<usize>) -> Clause {
-        let mut asks_presence = false;
+    pub fn new(element: u8, all: &[Node], nodes: std::ops::Range<usize>, closing: Closing) -> Clause {
+        let mut hangs_on_element = false;
         let mut contents = 0u64;
         let mut pairs = Vec::new();
-        let mut values = Vec::new();
+        let mut attributes = Vec::new();
         for node in &all[nodes.clone()] {
             match *node {
                 Node::Clause | Node::And | Node::Or | Node::Not | Node::True => {}
-                Node::Attribute(_) => asks_presence = true,
+                Node::Attribute(_) if closing == Closing::StringZero => hangs_on_element = true,
+                Node::Attribute(attribute) => attributes.push((attribute, ANY_STRING)),
                 Node::Content(content) => contents |= 1 << content,
                 Node::Order(later, earlier) => {
                     contents |= 1 << later | 1 << earlier;
                     pairs.push((later, earlier));
                 }
-                Node::Value(attribute, set) => values.push((attribute, set)),
+                Node::Value(attribute, set) => attributes.push((attribute, of_set(set))),
             }
         }
         pairs.sort_unstable();
         pairs.dedup();
-        values.sort_unstable();
-        values.dedup();
+        attributes.sort_unstable();
+        attributes.dedup();
         let word = WordFacts::new(contents, &pairs);
-        let mut clause = Clause { element, word, pairs, values, nodes, holds: None };
-        if !asks_presence {
+        let mut clause = Clause { element, word, pairs, attributes, nodes, holds: None };
+        if !hangs_on_element {
             clause.holds = Some(clause.evaluate(all, 0));
         }
         clause
@@ -235,17 +239,17 @@ impl Clause {
                     continue;
                 }
                 Node::True => Patterns::ALL,
-                Node::Attribute(attribute) if attributes >> attribute & 1 == 1 => Patterns::ALL,
-                Node::Attribute(_) => Patterns::NONE,
+                Node::Attribute(attribute) => match self.attribute_fact(attribute, ANY_STRING) {
+                    Some(bit) => Patterns::with_bit(bit),
+                    None if attributes >> attribute & 1 == 1 => Patterns::ALL,
+                    None => Patterns::NONE,
+                },
                 Node::Content(content) => Patterns::with_bit(self.word.content_bit(content)),
                 Node::Order(later, earlier) => {
                     let index = self.pairs.binary_search(&(later, earlier)).unwrap();
                     Patterns::with_bit(self.word.pair_bit(index)).complement()
                 }
-                Node::Value(attribute, set) => {
-                    let index = self.values.binary_search(&(attribute, set)).unwrap();
-                    Patterns::with_bit(self.value_bit(index))
-                }
+                Node::Value(attribute, set) => Patterns::with_bit(self.attribute_fact(attribute, of_set(set)).unwrap()),
             };
             top += 1;
             stack[top] = leaf;
@@ -253,20 +257,23 @@ impl Clause {
         stack[top]
     }
 
-    fn value_bit(&self, index: usize) -> u32 {
+    fn attribute_bit(&self, index: usize) -> u32 {
         self.word.pair_bit(self.pairs.len() + index)
     }
 
-    /// The value patterns that can stand together. `strings` gives those that an attribute can have, none if absent.
-    pub fn of_attributes(&self, strings: impl Fn(u8) -> Option<StringSet>) -> Patterns {
+    /// The bit of the fact that an attribute has one of these strings.
+    fn attribute_fact(&self, attribute: u8, strings: StringSet) -> Option<u32> {
+        let index = self.attributes.binary_search(&(attribute, strings)).ok()?;
+        Some(self.attribute_bit(index))
+    }
+
+    /// The patterns of attributes that can stand together. `strings` gives those that an attribute can have, and absence.
+    pub fn of_attributes(&self, strings: impl Fn(u8) -> StringSet) -> Patterns {
         let mut result = Patterns::one(0);
         let mut first = 0;
-        for facts in self.values.chunk_by(|a, b| a.0 == b.0) {
-            let bit = |index: usize| 1u8 << self.value_bit(first + index);
-            let own = match strings(facts[0].0) {
-                None => Patterns::one((0..facts.len()).fold(0, |all, index| all | bit(index))),
-                Some(strings) => of_strings(strings, facts, bit),
-            };
+        for facts in self.attributes.chunk_by(|a, b| a.0 == b.0) {
+            let bit = |index: usize| 1u8 << self.attribute_bit(first + index);
+            let own = of_strings(strings(facts[0].0), facts, bit);
             let mut joined = Patterns::NONE;
             for pattern in result.members() {
                 own.members().for_each(|other| joined.insert(pattern | other));
@@ -278,8 +285,13 @@ impl Clause {
     }
 }
 
+/// What `17` lets through: absence, and the strings of its set.
+fn of_set(set: u64) -> StringSet {
+    set as StringSet | ABSENT
+}
+
 /// Steps through the strings of a set, leaving out at once all that have the pattern of one met before.
-fn of_strings(strings: StringSet, facts: &[(u8, u64)], bit: impl Fn(usize) -> Pattern) -> Patterns {
+fn of_strings(strings: StringSet, facts: &[(u8, StringSet)], bit: impl Fn(usize) -> Pattern) -> Patterns {
     let mut result = Patterns::NONE;
     let mut left = strings;
     while left != 0 {
@@ -287,7 +299,6 @@ fn of_strings(strings: StringSet, facts: &[(u8, u64)], bit: impl Fn(usize) -> Pa
         let mut pattern = 0;
         let mut alike = left;
         for (index, &(_, set)) in facts.iter().enumerate() {
-            let set = set as StringSet;
             if set >> string & 1 == 1 {
                 pattern |= bit(index);
                 alike &= set;

@@ -1,8 +1,10 @@
 //! Jobs at random: with the least covering proposal or a larger one, damaged, or of commands at random.
 
+use crate::absent_jobs;
 use crate::blank::misplace;
 use crate::blank_jobs;
-use crate::check::check;
+use crate::check::check_as;
+use crate::closing::Closing;
 use crate::damage::{any_command, commands, damage};
 use crate::frame_jobs;
 use crate::job::Job;
@@ -28,14 +30,16 @@ pub fn job(random: &mut Random, much: Much) -> Vec<u8> {
         let count = random.below(30);
         return (0..count).flat_map(|_| any_command(random, &COMMANDS)).collect();
     }
-    let (number, _) = AIMS[random.weighted(&AIMS.map(|(_, weight)| weight))];
+    let more = |number: u32| if much == Much::Absent && number == TOO_MANY_FACTS { 6 } else { 0 };
+    let (number, _) = AIMS[random.weighted(&AIMS.map(|(number, weight)| weight + more(number)))];
     // Left to chance, most accepted jobs would plug nothing in.
     let plugs = number == 0 && random.percent(60);
     let mut tries = 0;
     loop {
         let job = attempt(random, much, number);
         tries += 1;
-        let fits = check(&job)[0] == number && (!plugs || commands(&job).iter().any(|command| command[0] == 0x42));
+        let fits = check_as(&job, much.closing())[0] == number
+            && (!plugs || commands(&job).iter().any(|command| command[0] == 0x42));
         if fits || tries == 300 {
             return job;
         }
@@ -46,7 +50,7 @@ fn attempt(random: &mut Random, much: Much, number: u32) -> Vec<u8> {
     let mut parts = Parts::random(random, much);
     match number {
         0 => {
-            if check(&parts.with_proposal(random)) == ACCEPTED {
+            if check_as(&parts.with_proposal(random), much.closing()) == ACCEPTED {
                 parts.add_clauses(random);
             }
             parts.with_proposal(random)
@@ -70,7 +74,8 @@ fn attempt(random: &mut Random, much: Much, number: u32) -> Vec<u8> {
         7 => {
             let count = parts.draft.rules.len();
             let rule = &mut parts.draft.rules[random.below(count)];
-            rule.clauses.push(many_facts(random, 9));
+            let clause = much.many_facts(random, rule, 9);
+            rule.clauses.push(clause);
             parts.with_proposal(random)
         }
         9..=12 if random.percent(50) => {
@@ -93,12 +98,13 @@ fn attempt(random: &mut Random, much: Much, number: u32) -> Vec<u8> {
 
 /// One command or operand of the proposal at fault.
 fn damaged_proposal(random: &mut Random, job: &[u8]) -> Vec<u8> {
-    let Ok(read) = Job::read(job) else { return job.to_vec() };
+    let Ok(read) = Job::read_as(job, Closing::StringZero) else { return job.to_vec() };
     let (start, proposal) = job.split_at(read.program_end);
     [start, &damage(random, proposal, &[0x40, 0x41, 0x42, 0x43, 0x44, 0x45, 0x46, 0x47, 0x48])].concat()
 }
 
 struct Parts {
+    much: Much,
     draft: Draft,
     templates: Vec<u8>,
     program: Vec<u8>,
@@ -109,9 +115,10 @@ impl Parts {
         let (draft, templates, program) = match much {
             Much::Blank if random.percent(40) => blank_jobs::parts(random),
             Much::Frames if random.percent(85) => frame_jobs::parts(random),
+            Much::Absent if random.percent(92) => absent_jobs::parts(random),
             _ => any_parts(random),
         };
-        Parts { draft, templates: much.scatter(random, &templates), program }
+        Parts { much, draft, templates: much.scatter(random, &templates), program }
     }
 
     fn start(&self) -> Vec<u8> {
@@ -121,11 +128,14 @@ impl Parts {
     /// The whole job. Where its start doesn't read, the proposal is empty.
     fn with_proposal(&self, random: &mut Random) -> Vec<u8> {
         let start = self.start();
-        let Ok(mut job) = Job::read(&[&start[..], &[0x4F]].concat()) else {
+        let Ok(mut job) = Job::read_as(&[&start[..], &[0x4F]].concat(), Closing::StringZero) else {
             return [&start[..], &[0x4F]].concat();
         };
         if random.percent(30) {
-            enlarge(random, &mut job);
+            match self.much {
+                Much::Absent => absent_jobs::enlarge(random, &mut job),
+                _ => enlarge(random, &mut job),
+            }
         }
         let entries = least(&job.program, &job.templates, job.entries);
         [start, write(&entries, job.program.points.len())].concat()
@@ -135,12 +145,12 @@ impl Parts {
     fn add_clauses(&mut self, random: &mut Random) {
         for _ in 0..random.below(5) {
             let index = random.below(self.draft.rules.len());
-            let formula = formula(random, &self.draft.rules[index]);
+            let formula = self.much.formula(random, &self.draft.rules[index]);
             let negation = [vec![0x12], formula.clone()].concat();
             for clause in [formula, negation] {
                 self.draft.rules[index].clauses.push(clause);
                 let start = self.start();
-                if with_least(&start, &[]).is_some_and(|job| check(&job) == ACCEPTED) {
+                if with_least(&start, &[]).is_some_and(|job| check_as(&job, self.much.closing()) == ACCEPTED) {
                     break;
                 }
                 self.draft.rules[index].clauses.pop();
@@ -151,7 +161,7 @@ impl Parts {
     fn add_random_clauses(&mut self, random: &mut Random) {
         for _ in 0..random.below(3) {
             let index = random.below(self.draft.rules.len());
-            let clause = formula(random, &self.draft.rules[index]);
+            let clause = self.much.formula(random, &self.draft.rules[index]);
             self.draft.rules[index].clauses.push(clause);
         }
     }

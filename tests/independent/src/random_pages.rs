@@ -2,7 +2,7 @@
 
 use crate::blank::misplace;
 use crate::damage::{any_command, damage};
-use crate::judge::judge;
+use crate::judge::{judge, judge_as};
 use crate::making::Much;
 use crate::random::Random;
 use crate::random_vocabulary::*;
@@ -30,13 +30,14 @@ pub fn record(random: &mut Random, much: Much) -> Record {
     if random.percent(1) {
         return bytes(random, much);
     }
-    let (number, _) = AIMS[random.weighted(&AIMS.map(|(_, weight)| weight))];
+    let more = |number: u32| if much == Much::Absent && number == TOO_MANY_FACTS { 6 } else { 0 };
+    let (number, _) = AIMS[random.weighted(&AIMS.map(|(number, weight)| weight + more(number)))];
     let mut tries = 0;
     loop {
         let record = attempt(random, much, number);
         tries += 1;
         // An aim that is missed for long is given up, so that every seed comes to an end.
-        if record.verdict()[0] == number || tries == 500 {
+        if judge_as(&record.vocabulary, &record.page, much.closing())[0] == number || tries == 500 {
             return record;
         }
     }
@@ -48,9 +49,9 @@ fn attempt(random: &mut Random, much: Much, number: u32) -> Record {
         0 => Record { vocabulary: draft.bytes(), page },
         3 if much == Much::Blank && random.percent(60) => misplaced(random, draft, page),
         11 => not_the_root(random, much, draft, page),
-        12 => wrong(random, draft, page),
-        6 if random.percent(80) => too_deep(random, draft, page),
-        7 => too_many_facts(random, draft, page),
+        12 => wrong(random, much, draft, page),
+        6 if random.percent(80) => too_deep(random, much, draft, page),
+        7 => too_many_facts(random, much, draft, page),
         _ => damaged(random, draft, page),
     }
 }
@@ -58,6 +59,9 @@ fn attempt(random: &mut Random, much: Much, number: u32) -> Record {
 /// A page that is right, and a vocabulary whose clauses all hold in it.
 pub fn right(random: &mut Random, much: Much) -> (Draft, Vec<u8>) {
     let mut draft = Draft::random(random);
+    if much == Much::Absent {
+        allow_attributes(random, &mut draft);
+    }
     let mut page = Vec::new();
     let shape = Shape { deep: random.percent(20) };
     let mut budget = if shape.deep { random.from_to(5, 50) } else { random.from_to(1, 10) };
@@ -65,9 +69,17 @@ pub fn right(random: &mut Random, much: Much) -> (Draft, Vec<u8>) {
     page.push(0x27);
     let page = much.scatter(random, &page);
     for _ in 0..random.weighted(&[5, 20, 30, 25, 15, 5]) {
-        add_clause(random, &mut draft, &page);
+        add_clause(random, much, &mut draft, &page);
     }
     (draft, page)
+}
+
+/// A few in every rule.
+fn allow_attributes(random: &mut Random, draft: &mut Draft) {
+    for rule in &mut draft.rules {
+        let count = random.from_to(1, 4);
+        rule.attributes = random.rising(0, 32, count);
+    }
 }
 
 struct Shape {
@@ -109,13 +121,13 @@ fn attribute_with_string(random: &mut Random, attribute: u8, page: &mut Vec<u8>)
 }
 
 /// Adds a formula, or its negation, if the page then stays right.
-fn add_clause(random: &mut Random, draft: &mut Draft, page: &[u8]) {
+fn add_clause(random: &mut Random, much: Much, draft: &mut Draft, page: &[u8]) {
     let index = if random.percent(50) { 0 } else { random.below(draft.rules.len()) };
-    let formula = formula(random, &draft.rules[index]);
+    let formula = much.formula(random, &draft.rules[index]);
     let negation = [vec![0x12], formula.clone()].concat();
     for clause in [formula, negation] {
         draft.rules[index].clauses.push(clause);
-        if judge(&draft.bytes(), page) == ACCEPTED {
+        if judge_as(&draft.bytes(), page, much.closing()) == ACCEPTED {
             return;
         }
         draft.rules[index].clauses.pop();
@@ -123,11 +135,11 @@ fn add_clause(random: &mut Random, draft: &mut Draft, page: &[u8]) {
 }
 
 /// Wrong by a clause, by what the rules allow, or by a change in the page.
-fn wrong(random: &mut Random, mut draft: Draft, page: Vec<u8>) -> Record {
+fn wrong(random: &mut Random, much: Much, mut draft: Draft, page: Vec<u8>) -> Record {
     let index = random.below(draft.rules.len());
     match random.below(10) {
         0..=2 => {
-            let clause = formula(random, &draft.rules[index]);
+            let clause = much.formula(random, &draft.rules[index]);
             let place = random.below(draft.rules[index].clauses.len() + 1);
             draft.rules[index].clauses.insert(place, clause);
         }
@@ -139,12 +151,26 @@ fn wrong(random: &mut Random, mut draft: Draft, page: Vec<u8>) -> Record {
             let place = random.below(draft.rules[index].contents.len());
             draft.rules[index].contents.remove(place);
         }
+        5..=6 if much == Much::Absent => {
+            let page = without_attribute(random, &page);
+            return Record { vocabulary: draft.bytes(), page };
+        }
         _ => {
             let page = changed(random, &draft, &page);
             return Record { vocabulary: draft.bytes(), page };
         }
     }
     Record { vocabulary: draft.bytes(), page }
+}
+
+/// One attribute fewer, if there is any.
+fn without_attribute(random: &mut Random, page: &[u8]) -> Vec<u8> {
+    let mut list = crate::damage::commands(page);
+    let attributes: Vec<usize> = (0..list.len()).filter(|&at| matches!(list[at][0], 0x24 | 0x28)).collect();
+    if !attributes.is_empty() {
+        list.remove(random.pick(&attributes));
+    }
+    list.concat()
 }
 
 /// Another page that reads, if `page` does: something added at one place.
@@ -196,7 +222,7 @@ fn not_the_root(random: &mut Random, much: Much, draft: Draft, page: Vec<u8>) ->
     Record { vocabulary: draft.bytes(), page: much.scatter(random, &page) }
 }
 
-fn too_deep(random: &mut Random, mut draft: Draft, page: Vec<u8>) -> Record {
+fn too_deep(random: &mut Random, much: Much, mut draft: Draft, page: Vec<u8>) -> Record {
     if random.percent(8) {
         let depth = random.from_to(1025, 1030);
         let mut page = [0x23, draft.root].repeat(depth);
@@ -218,16 +244,17 @@ fn too_deep(random: &mut Random, mut draft: Draft, page: Vec<u8>) -> Record {
             }
         }
     }
-    clause.extend(formula(random, &draft.rules[index]));
+    clause.extend(much.formula(random, &draft.rules[index]));
     clause.extend(after);
     draft.rules[index].clauses.push(clause);
     Record { vocabulary: draft.bytes(), page }
 }
 
-fn too_many_facts(random: &mut Random, mut draft: Draft, page: Vec<u8>) -> Record {
+fn too_many_facts(random: &mut Random, much: Much, mut draft: Draft, page: Vec<u8>) -> Record {
     let index = random.below(draft.rules.len());
     let least = random.from_to(8, 10);
-    draft.rules[index].clauses.push(many_facts(random, least));
+    let clause = much.many_facts(random, &draft.rules[index], least);
+    draft.rules[index].clauses.push(clause);
     Record { vocabulary: draft.bytes(), page }
 }
 

@@ -10,7 +10,8 @@ use crate::vocabulary::Vocabulary;
 
 pub fn script(random: &mut Random, much: Much) -> Vec<u8> {
     let mut parts = whole(random, much);
-    match random.weighted(&[62, 4, 4, 1, 29]) {
+    let too_many_facts = if much == Much::Absent { 9 } else { 1 };
+    match random.weighted(&[62, 4, 4, too_many_facts, 29]) {
         0 => {}
         1 => parts[2].push(random.pick(&[0x00, 0x38, 0x3F, 0x40, 0x4F])),
         2 if much == Much::Frames && random.percent(50) => parts[2] = frame_jobs::one_too_many(random, &parts[2]),
@@ -18,7 +19,8 @@ pub fn script(random: &mut Random, much: Much) -> Vec<u8> {
         3 => {
             // Before `05` and the root.
             let end = parts[0].len() - 2;
-            parts[0].splice(end..end, [vec![0x04], many_facts(random, 9)].concat());
+            let clause = much.many_facts(random, &RuleDraft::default(), 9);
+            parts[0].splice(end..end, [vec![0x04], clause].concat());
         }
         _ if much == Much::Frames && random.percent(60) => return frame_jobs::damaged(random, &parts.concat()),
         _ => {
@@ -42,16 +44,16 @@ fn add_many(random: &mut Random, [_, templates, program]: &mut [Vec<u8>; 3]) {
     }
 }
 
-/// A script without a fault: vocabulary, templates, program.
+/// A script without a fault, as its word is chosen: vocabulary, templates, program.
 pub fn whole(random: &mut Random, much: Much) -> [Vec<u8>; 3] {
     let shape = Shape::random(random, much);
     let mut draft = Draft::random(random);
     for _ in 0..random.below(3) {
         let index = random.below(draft.rules.len());
-        let clause = formula(random, &draft.rules[index]);
+        let clause = much.formula(random, &draft.rules[index]);
         draft.rules[index].clauses.push(clause);
         // It may have too many facts.
-        if Vocabulary::read_whole(&draft.bytes()).is_err() {
+        if Vocabulary::read_whole(&draft.bytes(), much.closing()).is_err() {
             draft.rules[index].clauses.pop();
         }
     }
@@ -88,8 +90,11 @@ struct Shape {
     /// Gaps in templates; plugs go to absent ones too.
     gaps: usize,
     way: Way,
-    /// How often a statement is a framed show, where a load weighs 25.
+    /// How often a statement is a framed show or plugs a string in, where a load weighs 25.
     frames: usize,
+    strings: usize,
+    /// How many templates of a hundred start with an element of attribute gaps.
+    attribute_gaps: usize,
 }
 
 impl Shape {
@@ -110,6 +115,8 @@ impl Shape {
             gaps: random.pick(&[1, 2, 3, 8]),
             way: random.pick(&[Way::On, Way::Round, Way::Back, Way::Anywhere]),
             frames: if much == Much::Frames { 60 } else { 5 },
+            strings: if much == Much::Absent { 40 } else { 16 },
+            attribute_gaps: if much == Much::Absent { 85 } else { 40 },
         }
     }
 
@@ -120,7 +127,7 @@ impl Shape {
             for _ in 0..random.below(4) {
                 bytes.extend([0x22, random.below(self.gaps) as u8]);
             }
-            if random.percent(40) {
+            if random.percent(self.attribute_gaps) {
                 bytes.extend([0x23, random.pick(&draft.elements())]);
                 for attribute in random.rising(0, 32, self.gaps) {
                     bytes.extend([0x25, attribute, random.below(self.gaps) as u8]);
@@ -166,7 +173,7 @@ impl Shape {
     fn statement(&self, random: &mut Random) -> Vec<u8> {
         let x = |random: &mut Random| random.pick(&self.xs);
         let kinds = if self.ys.is_empty() { 6 } else { 10 };
-        match random.weighted(&[25, 35, 8, 5, 3, self.frames, 16, 7, 6, 5][..kinds]) {
+        match random.weighted(&[25, 35, 8, 5, 3, self.frames, self.strings, 7, 6, 5][..kinds]) {
             0 => vec![0x31, x(random), random.below(self.templates + 1) as u8],
             1 => {
                 let [to, from] = self.two(random, 60);

@@ -2,7 +2,7 @@
 
 use crate::random::Random;
 
-#[derive(Clone)]
+#[derive(Clone, Default)]
 pub struct RuleDraft {
     pub element: u8,
     pub attributes: Vec<u8>,
@@ -118,14 +118,14 @@ fn leaf(random: &mut Random, rule: &RuleDraft, bytes: &mut Vec<u8>) {
     }
 }
 
-fn an_attribute(random: &mut Random, rule: &RuleDraft) -> u8 {
+pub fn an_attribute(random: &mut Random, rule: &RuleDraft) -> u8 {
     if rule.attributes.is_empty() || random.percent(10) {
         return random.below(32) as u8;
     }
     random.pick(&rule.attributes)
 }
 
-fn a_content(random: &mut Random, rule: &RuleDraft) -> u8 {
+pub fn a_content(random: &mut Random, rule: &RuleDraft) -> u8 {
     if rule.contents.is_empty() || random.percent(10) {
         return random.below(64) as u8;
     }
@@ -183,7 +183,7 @@ pub fn many_facts(random: &mut Random, least: usize) -> Vec<u8> {
 }
 
 /// The formulas under connectives, as flat as can be.
-fn joined(random: &mut Random, mut formulas: Vec<Vec<u8>>) -> Vec<u8> {
+pub fn joined(random: &mut Random, mut formulas: Vec<Vec<u8>>) -> Vec<u8> {
     while formulas.len() > 1 {
         let right = formulas.remove(0);
         let left = formulas.remove(0);

@@ -1,6 +1,8 @@
 //! Records: slices one after another, each behind a 32-bit length, lowest byte first.
 
-use crate::infer::{infer, WORK};
+use crate::closing::Closing;
+use crate::damage::commands;
+use crate::infer::{infer_as, WORK};
 use crate::job::Job;
 use crate::judge::is_right;
 use crate::reader::{Verdict, ACCEPTED, NO_ROOM};
@@ -62,44 +64,51 @@ fn print(out: &mut impl Write, [n, a, b, c]: Verdict) -> io::Result<()> {
 }
 
 /// Prints the verdict on each job of standard input.
-pub fn print_jobs(verdict: fn(&[u8]) -> Verdict) -> io::Result<()> {
+pub fn print_jobs(verdict: fn(&[u8], Closing) -> Verdict) -> io::Result<()> {
+    let closing = Closing::from_arguments();
     let mut records = Records::from_stdin()?;
     let mut out = BufWriter::new(io::stdout().lock());
     while let Some(job) = records.slice() {
-        print(&mut out, verdict(job))?;
+        print(&mut out, verdict(job, closing))?;
     }
     out.flush()
 }
 
 /// Prints the verdict on each vocabulary and page of standard input.
-pub fn print_pages(verdict: fn(&[u8], &[u8]) -> Verdict) -> io::Result<()> {
+pub fn print_pages(verdict: fn(&[u8], &[u8], Closing) -> Verdict) -> io::Result<()> {
+    let closing = Closing::from_arguments();
     let mut records = Records::from_stdin()?;
     let mut out = BufWriter::new(io::stdout().lock());
     while let Some((vocabulary, page)) = records.two_slices() {
-        print(&mut out, verdict(vocabulary, page))?;
+        print(&mut out, verdict(vocabulary, page, closing))?;
     }
     out.flush()
 }
 
 /// What a call of `infer` needs besides the job. The buffer grows as answers need.
 pub struct Lent {
+    closing: Closing,
     work: Vec<u64>,
     buffer: Vec<u8>,
 }
 
 impl Default for Lent {
     fn default() -> Lent {
-        Lent { work: vec![0; WORK], buffer: Vec::new() }
+        Lent::of(Closing::Absence)
     }
 }
 
 impl Lent {
+    pub fn of(closing: Closing) -> Lent {
+        Lent { closing, work: vec![0; WORK], buffer: Vec::new() }
+    }
+
     /// The proposal, or the refusal.
     pub fn infer(&mut self, job: &[u8]) -> Result<&[u8], Verdict> {
-        let mut answer = infer(job, &mut self.work, &mut self.buffer, 0);
+        let mut answer = infer_as(job, self.closing, &mut self.work, &mut self.buffer, 0);
         if answer.verdict[0] == NO_ROOM {
             self.buffer.resize(answer.verdict[1] as usize, 0);
-            answer = infer(job, &mut self.work, &mut self.buffer, 0);
+            answer = infer_as(job, self.closing, &mut self.work, &mut self.buffer, 0);
         }
         match answer.verdict {
             ACCEPTED => Ok(&self.buffer[..answer.written]),
@@ -125,7 +134,7 @@ impl Lent {
 pub fn print_inferred() -> io::Result<()> {
     let mut records = Records::from_stdin()?;
     let mut out = BufWriter::new(io::stdout().lock());
-    let mut lent = Lent::default();
+    let mut lent = Lent::of(Closing::from_arguments());
     while let Some(job) = records.slice() {
         out.write_all(lent.line(job).as_bytes())?;
     }
@@ -149,29 +158,38 @@ pub fn refused_at(commands: &[u8], records: &mut Records, slices: usize, lines: 
 
 /// Prints a line on each job and list of choices of standard input.
 pub fn print_runs() -> io::Result<()> {
+    let closing = Closing::from_arguments();
     let mut records = Records::from_stdin()?;
     let mut out = BufWriter::new(io::stdout().lock());
     while let Some((job, choices)) = records.two_slices() {
-        out.write_all(run_line(job, choices).as_bytes())?;
+        out.write_all(run_line(job, choices, closing).as_bytes())?;
     }
     out.flush()
 }
 
-/// Values that double at each step would fill the memory. The papers have no such limit: the supplied lines tell `big`
-/// of a value of 532,404 bytes, and not of one of 327,689.
-const BIG: usize = 1 << 19;
+/// Most items of a value. Values that double at each step would fill the memory. The papers have no such limit: the
+/// supplied lines tell `big` of a value of 286,673 items, and not of one of 152,924.
+const BIG: usize = 200_000;
+
+fn is_big(value: &[u8]) -> bool {
+    // An item has a byte at least.
+    value.len() > BIG && {
+        let items = commands(value).iter().filter(|command| matches!(command[0], 0x21..=0x23 | 0x29)).count();
+        items > BIG
+    }
+}
 
 /// `shown COUNT` and for each page `R` if it is right, `W` if it is wrong; `big` where a value outgrows that; `N A B C`
 /// for a job that doesn't read. A choice is two bytes: the next point, and the string.
-fn run_line(bytes: &[u8], choices: &[u8]) -> String {
-    let job = match Job::read(bytes) {
+fn run_line(bytes: &[u8], choices: &[u8], closing: Closing) -> String {
+    let job = match Job::read_as(bytes, closing) {
         Ok(job) => job,
         Err(fault) => return line(fault.verdict(0)),
     };
     let mut run = Run::new(&job, bytes);
     for choice in choices.chunks_exact(2) {
         run.step(Choice { second: choice[0] == 1, string: choice[1] });
-        if run.values.iter().any(|value| value.len() > BIG) {
+        if run.values.iter().any(|value| is_big(value)) {
             return "big\n".to_string();
         }
     }

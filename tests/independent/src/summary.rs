@@ -6,6 +6,9 @@ pub type StringSet = u128;
 
 pub const ANY_STRING: StringSet = (1 << 65) - 1;
 
+/// Stands beside the strings where an attribute can be absent, in closed graphs alone.
+pub const ABSENT: StringSet = 1 << 65;
+
 pub type Edges = [u32; 8];
 pub type Strings = [StringSet; 8];
 

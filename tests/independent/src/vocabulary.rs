@@ -1,5 +1,6 @@
 //! Reading a vocabulary: one rule for an element, clauses as formulas in prefix order.
 
+use crate::closing::Closing;
 use crate::reader::*;
 
 pub const ATTRIBUTES: u8 = 32;
@@ -49,14 +50,14 @@ impl Vocabulary {
     }
 
     /// A vocabulary that stands alone.
-    pub fn read_whole(bytes: &[u8]) -> Result<Vocabulary, Fault> {
+    pub fn read_whole(bytes: &[u8], closing: Closing) -> Result<Vocabulary, Fault> {
         let mut reader = Reader::new(bytes)?;
-        let vocabulary = Vocabulary::read(&mut reader)?;
+        let vocabulary = Vocabulary::read(&mut reader, closing)?;
         reader.end()?;
         Ok(vocabulary)
     }
 
-    pub fn read(reader: &mut Reader) -> Result<Vocabulary, Fault> {
+    pub fn read(reader: &mut Reader, closing: Closing) -> Result<Vocabulary, Fault> {
         let mut vocabulary = Vocabulary { rules: [NO_RULE; 64], given: 0, root: 0, nodes: Vec::with_capacity(32) };
         let mut stage = Stage::NoRule;
         let mut element = 0;
@@ -91,7 +92,7 @@ impl Vocabulary {
                     stage = Stage::Contents;
                 }
                 0x04 if stage != Stage::NoRule => {
-                    vocabulary.clause(reader, element)?;
+                    vocabulary.clause(reader, element, closing)?;
                     stage = Stage::Clauses;
                 }
                 0x05 => {
@@ -124,13 +125,13 @@ impl Vocabulary {
         Ok(element as usize)
     }
 
-    fn clause(&mut self, reader: &mut Reader, element: usize) -> Result<(), Fault> {
+    fn clause(&mut self, reader: &mut Reader, element: usize, closing: Closing) -> Result<(), Fault> {
         let at = reader.at;
         reader.operands::<0>()?;
         self.nodes.push(Node::Clause);
         let mut facts = Facts::new();
         self.formula(reader, 0, &mut facts)?;
-        if facts.count() > FACTS {
+        if facts.count(closing) > FACTS {
             return Err(Fault::new(TOO_MANY_FACTS, at));
         }
         let rule = &mut self.rules[element];
@@ -154,6 +155,7 @@ impl Vocabulary {
                 if attribute >= ATTRIBUTES {
                     return Err(Fault::new(OUT_OF_RANGE, at));
                 }
+                facts.attributes |= 1 << attribute;
                 Node::Attribute(attribute)
             }
             0x15 => {
@@ -209,6 +211,8 @@ enum Stage {
 
 /// The distinct facts of a clause. Of pairs and of sets no more than nine are kept, one too many already.
 struct Facts {
+    /// Those that `14` asks for.
+    attributes: u32,
     contents: u64,
     order: [(u8, u8); 9],
     orders: usize,
@@ -218,7 +222,7 @@ struct Facts {
 
 impl Facts {
     fn new() -> Facts {
-        Facts { contents: 0, order: [(0, 0); 9], orders: 0, value: [(0, 0); 9], values: 0 }
+        Facts { attributes: 0, contents: 0, order: [(0, 0); 9], orders: 0, value: [(0, 0); 9], values: 0 }
     }
 
     fn content(&mut self, content: u8) {
@@ -241,7 +245,11 @@ impl Facts {
         }
     }
 
-    fn count(&self) -> u32 {
-        self.contents.count_ones() + self.orders as u32 + self.values as u32
+    fn count(&self, closing: Closing) -> u32 {
+        let attributes = match closing {
+            Closing::StringZero => 0,
+            Closing::Absence => self.attributes.count_ones(),
+        };
+        attributes + self.contents.count_ones() + self.orders as u32 + self.values as u32
     }
 }

@@ -2,6 +2,7 @@
 
 use independent::apart;
 use independent::check::shows;
+use independent::closing::Closing;
 use independent::damage::commands;
 use independent::job::Job;
 use independent::least::with_least;
@@ -127,12 +128,13 @@ fn gaps_of_the_value_are_closed() {
         assert_eq!(verdict(clause, &["23 01 22 00 26", value], FRAMED), [0, 0, 0, 0], "{value}");
     }
     assert_eq!(verdict(clause, &["23 01 22 00 26", "22 00"], FRAMED), [12, 1, 1, 24]);
-    // String 0 in attribute gaps of the frame and of the value.
-    let [zero, one] = ["01", "02"].map(|set| format!("17 00 00 00 00 00 00 00 00 {set}"));
+    // Attributes of the frame and of the value go where their gaps are open.
     let templates = ["23 01 25 00 00 22 00 26", "23 01 25 00 03 26"];
-    assert_eq!(verdict(&zero, &templates, FRAMED), [0, 0, 0, 0]);
-    assert_eq!(verdict(&one, &templates, FRAMED), [12, 1, 1, 28]);
-    assert_eq!(verdict(&one, &["23 01 22 00 26", templates[1]], FRAMED), [12, 1, 2, 35]);
+    for clause in ["17 00 00 00 00 00 00 00 00 01", "17 00 00 00 00 00 00 00 00 02", "12 14 00"] {
+        assert_eq!(verdict(clause, &templates, FRAMED), [0, 0, 0, 0]);
+    }
+    assert_eq!(verdict("14 00", &templates, FRAMED), [12, 1, 1, 20]);
+    assert_eq!(verdict("14 00", &["23 01 24 00 01 22 00 26", templates[1]], FRAMED), [12, 1, 2, 30]);
 }
 
 #[test]
@@ -184,9 +186,9 @@ fn a_frame_that_lacks_the_gap() {
     assert_eq!(verdict(clause, &["23 01 21 26", "23 02 26"], FRAMED), [12, 1, 1, 21]);
     // Its other gaps are open, as are those that the value brings.
     let origins = "40 01 00 46 00 01";
-    let page = start("17 00 00 00 00 00 00 00 00 02", &["23 01 25 00 00 26", ""], FRAMED);
-    assert_eq!(holding("40 01 00 43 01 00 01", &page), [12, 1, 1, 28]);
-    assert_eq!(holding(origins, &page), [12, 1, 1, 28]);
+    let page = start("14 00", &["23 01 25 00 00 26", ""], FRAMED);
+    assert_eq!(holding("40 01 00 43 01 00 01", &page), [12, 1, 1, 20]);
+    assert_eq!(holding(origins, &page), [12, 1, 1, 20]);
 }
 
 #[test]
@@ -231,7 +233,7 @@ fn runs() {
     shown("29", "21", "29 27");
     // Gaps of the value stay open, the same one too, and then get nothing.
     shown("22 00 21 22 01", "23 01 22 00 22 02 26", "23 01 26 21 27");
-    shown("23 01 25 00 00 22 00 26", "23 01 25 00 07 26", "23 01 24 00 00 23 01 24 00 00 26 26 27");
+    shown("23 01 25 00 00 22 00 26", "23 01 25 00 07 26", "23 01 23 01 26 26 27");
     // The empty template, and a value without items.
     assert_eq!(pages("13", &["21"], "31 00 01 01 01 39 00 00 00 02 02 38"), [bytes("27")]);
     assert_eq!(pages("13", &["23 01 22 00 26"], "39 03 01 00 01 01 38"), [bytes("23 01 26 27")]);
@@ -239,16 +241,17 @@ fn runs() {
     let program = "31 00 02 01 01 39 00 01 00 02 02 37 00 03 03 39 00 01 00 04 04 38";
     let expected = ["23 01 21 26 27", "21 27", "23 01 21 26 27"].map(bytes);
     assert_eq!(pages("13", &["23 01 22 00 26", "21"], program), expected);
-    // A string outside 0-63 in the value, string 0 in the frame.
+    // A string outside 0-63 in the value, no attribute in the frame.
     let program = "31 00 02 01 01 34 00 02 02 36 00 00 00 00 03 03 39 00 01 00 04 04 38";
     let templates = ["23 01 25 00 00 22 00 26", "23 01 25 00 00 26"];
-    assert_eq!(pages("13", &templates, program), [bytes("23 01 24 00 00 23 01 28 00 26 26 27")]);
+    assert_eq!(pages("13", &templates, program), [bytes("23 01 23 01 28 00 26 26 27")]);
 }
 
 #[test]
 fn limits_are_alike_taken_apart() {
     let mut random = Random::new(31);
-    let apart: usize = job_limits::all().iter().map(|job| apart::assert_alike(&mut random, job)).sum();
+    let apart: usize =
+        job_limits::all().iter().map(|job| apart::assert_alike(&mut random, job, Closing::Absence)).sum();
     println!("{apart} framed shows taken apart");
     assert!(apart > 100);
 }
@@ -344,7 +347,7 @@ fn made_jobs_have_frames_of_every_kind() {
     for _ in 0..4000 {
         let bytes = random_jobs::job(&mut random, Much::Frames);
         let verdict = check(&bytes);
-        apart += apart::assert_alike(&mut random, &bytes);
+        apart += apart::assert_alike(&mut random, &bytes, Closing::Absence);
         let reads = read_job(&bytes) == [0; 4];
         let framed = reads && commands(&bytes).iter().any(|command| command[0] == 0x39);
         numbers[verdict[0] as usize] += (framed || at_a_frame(&bytes, verdict)) as usize;

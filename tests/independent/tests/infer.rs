@@ -1,5 +1,6 @@
 //! Request F-1: the smallest covering proposal, where it is written, and what else changes.
 
+use independent::closing::Closing;
 use independent::damage::commands;
 use independent::infer::WORK;
 use independent::least::with_least;
@@ -186,8 +187,9 @@ fn proposals_of_any_length() {
 #[test]
 fn the_same_as_by_rounds() {
     let mut random = Random::new(11);
-    let mut lent = Lent::default();
-    let much = |index| if index % 2 == 0 { Much::Nothing } else { Much::Frames };
+    // Some clauses have too many facts by now.
+    let mut lent = Lent::of(Closing::StringZero);
+    let much = |index: usize| [Much::Nothing, Much::Frames, Much::Absent][index % 3];
     let scripts = (0..6000).map(|index| whole(&mut random, much(index)).concat()).chain(large_scripts::all());
     for script in scripts {
         let by_rounds = with_least(&script, &[]).unwrap();

@@ -32,6 +32,11 @@ fn with_many_framed_shows_too() {
     judged_as_their_pages(9, Much::Frames);
 }
 
+#[test]
+fn with_absent_attributes_too() {
+    judged_as_their_pages(10, Much::Absent);
+}
+
 fn judged_as_their_pages(seed: u64, much: Much) {
     let mut random = Random::new(seed);
     let (mut accepted, mut refused, mut unseen) = (0, 0, 0);

@@ -17,10 +17,8 @@ use Rattle.clauses.proofs.Truths.and.Reads as and-reads
 use Rattle.clauses.proofs.Truths.or.Reads as or-reads
 use Rattle.clauses.proofs.Truths.not.Reads as not-reads
 use Rattle.clauses.proofs.all_if.Reads as all-if-reads
-use Rattle.sets.proofs.is_member.Reads as is-member-reads
 use Rattle.clauses.proofs.flagged_by.Reads as flagged-by-reads
-use Rattle.clauses.proofs.ordered.Reads as ordered-reads
-use Rattle.clauses.proofs.absent_or_valued.Reads as absent-or-valued-reads
+use Rattle.clauses.proofs.unbroken_by.Reads as unbroken-by-reads
 use Rattle.clauses.proofs.+true_patterns.{statement}
 use Rattle.clauses.proofs.+true_patterns.Tie.{close}
 
@@ -31,7 +29,7 @@ abbrev given : ℕ → In 1 kinds.ps
 given t = and 1 kinds.ps (is 1 kinds.ps μ t) reads.Pre
 
 abbrev claims : ℕ → lts.Claims
-claims t = (formula-here-reads.Asked, formula-here-reads.Learnt, and 1 kinds.ps (falls 1 kinds.ps _<_ μ t) reads.Pre, reads.Post, and-reads.Asked, and-reads.Learnt, or-reads.Asked, or-reads.Learnt, not-reads.Asked, not-reads.Learnt, all-if-reads.Asked, all-if-reads.Learnt, is-member-reads.Asked, is-member-reads.Learnt, flagged-by-reads.Asked, flagged-by-reads.Learnt, ordered-reads.Asked, ordered-reads.Learnt, absent-or-valued-reads.Asked, absent-or-valued-reads.Learnt)
+claims t = (formula-here-reads.Asked, formula-here-reads.Learnt, and 1 kinds.ps (falls 1 kinds.ps _<_ μ t) reads.Pre, reads.Post, and-reads.Asked, and-reads.Learnt, or-reads.Asked, or-reads.Learnt, not-reads.Asked, not-reads.Learnt, all-if-reads.Asked, all-if-reads.Learnt, flagged-by-reads.Asked, flagged-by-reads.Learnt, unbroken-by-reads.Asked, unbroken-by-reads.Learnt)
 
 module _ (t : ℕ) where
   formula-here-requires : lts.Need-formula-here-requires (claims t) (given t) reads.Post
@@ -79,75 +77,72 @@ module _ (t : ℕ) where
   enum-known-formula-5 : lts.Need-enum-known-formula-5 (claims t) (given t) reads.Post
   enum-known-formula-5 c = search needs
 
-  is-member-requires : lts.Need-is-member-requires (claims t) (given t) reads.Post
-  is-member-requires c κs = search needs
-
-  all-if-requires-2 : lts.Need-all-if-requires-2 (claims t) (given t) reads.Post
-  all-if-requires-2 c κs = search needs
+  flagged-by-requires : lts.Need-flagged-by-requires (claims t) (given t) reads.Post
+  flagged-by-requires c κs = search needs
 
   enum-known-formula-6 : lts.Need-enum-known-formula-6 (claims t) (given t) reads.Post
   enum-known-formula-6 c = search needs
 
-  flagged-by-requires : lts.Need-flagged-by-requires (claims t) (given t) reads.Post
-  flagged-by-requires c κs = search needs
+  flagged-by-requires-2 : lts.Need-flagged-by-requires-2 (claims t) (given t) reads.Post
+  flagged-by-requires-2 c κs = search needs
 
   enum-known-formula-7 : lts.Need-enum-known-formula-7 (claims t) (given t) reads.Post
   enum-known-formula-7 c = search needs
 
-  ordered-requires : lts.Need-ordered-requires (claims t) (given t) reads.Post
-  ordered-requires c κs = search needs
+  unbroken-by-requires : lts.Need-unbroken-by-requires (claims t) (given t) reads.Post
+  unbroken-by-requires c κs = search needs
 
   enum-known-formula-8 : lts.Need-enum-known-formula-8 (claims t) (given t) reads.Post
   enum-known-formula-8 c = search needs
 
-  absent-or-valued-requires : lts.Need-absent-or-valued-requires (claims t) (given t) reads.Post
-  absent-or-valued-requires c κs = search needs
+  unbroken-by-requires-2 : lts.Need-unbroken-by-requires-2 (claims t) (given t) reads.Post
+  unbroken-by-requires-2 c κs = search needs
 
   enum-told : lts.Need-enum-told (claims t) (given t) reads.Post
   enum-told c = search needs
 
-  all-if-requires-3 : lts.Need-all-if-requires-3 (claims t) (given t) reads.Post
-  all-if-requires-3 c κs = search needs
+  all-if-requires-2 : lts.Need-all-if-requires-2 (claims t) (given t) reads.Post
+  all-if-requires-2 c κs = search needs
 
   returns : lts.Need-returns (claims t) (given t) reads.Post
   returns c = let B = told _ _ (c .before .before .before .before .before .before .formula-here .ensures) (c .before .before .before .before .formula .given .1) in
       let one = c .before .before .true-patterns in
       let two = c .before .true-patterns2 in
-      (omega (arith, onward B .1, one .ensures .0, two .ensures .0, ap (λ (p : Position). p .at) (c .and .ensures .0)), true-conj _ _ (one .result) (two .result) _ B (one .ensures .1) (two .ensures .1) (c .and .ensures .0) (c .and .ensures .1))
+      (omega (arith, onward B .1, one .ensures .0, two .ensures .0, ap (λ (p : Position). p .at) (c .and .ensures .0)), true-conj _ (one .result) (two .result) _ B (one .ensures .1) (two .ensures .1) (c .and .ensures .0) (c .and .ensures .1))
 
   returns-2 : lts.Need-returns-2 (claims t) (given t) reads.Post
   returns-2 c = let B = told _ _ (c .before .before .before .before .before .before .formula-here .ensures) (c .before .before .before .before .formula2 .given .1) in
       let one = c .before .before .true-patterns3 in
       let two = c .before .true-patterns4 in
-      (omega (arith, onward B .1, one .ensures .0, two .ensures .0, ap (λ (p : Position). p .at) (c .or .ensures .0)), true-disj _ _ (one .result) (two .result) _ B (one .ensures .1) (two .ensures .1) (c .or .ensures .0) (c .or .ensures .1))
+      (omega (arith, onward B .1, one .ensures .0, two .ensures .0, ap (λ (p : Position). p .at) (c .or .ensures .0)), true-disj _ (one .result) (two .result) _ B (one .ensures .1) (two .ensures .1) (c .or .ensures .0) (c .or .ensures .1))
 
   returns-3 : lts.Need-returns-3 (claims t) (given t) reads.Post
   returns-3 c = let B = told _ _ (c .before .before .before .before .before .formula-here .ensures) (c .before .before .before .formula3 .given .1) in
       let one = c .before .true-patterns5 in
-      (omega (arith, onward B .1, one .ensures .0, ap (λ (p : Position). p .at) (c .not .ensures .0)), true-neg _ _ (one .result) _ B (one .ensures .1) (c .not .ensures .0) (c .not .ensures .1))
+      (omega (arith, onward B .1, one .ensures .0, ap (λ (p : Position). p .at) (c .not .ensures .0)), true-neg _ (one .result) _ B (one .ensures .1) (c .not .ensures .0) (c .not .ensures .1))
 
   returns-4 : lts.Need-returns-4 (claims t) (given t) reads.Post
   returns-4 c = let B = told _ _ (c .before .before .before .before .formula-here .ensures) (c .before .before .formula4 .given .1) in
-      (omega (arith, onward B .1), true-truth _ _ _ B (c .all-if .ensures))
+      (omega (arith, onward B .1), true-truth _ _ B (c .all-if .ensures))
 
   returns-5 : lts.Need-returns-5 (claims t) (given t) reads.Post
-  returns-5 c = let B = told _ _ (c .before .before .before .before .before .formula-here .ensures) (c .before .before .before .formula5 .given .1) in
-      (omega (arith, onward B .1), true-attr _ _ _ B _ (c .before .is-member .ensures) (c .all-if2 .ensures))
+  returns-5 c = let B = told _ _ (c .before .before .before .before .formula-here .ensures) (c .before .before .formula5 .given .1) in
+      (omega (arith, onward B .1), true-attr _ _ B (c .flagged-by .ensures))
 
   returns-6 : lts.Need-returns-6 (claims t) (given t) reads.Post
   returns-6 c = let B = told _ _ (c .before .before .before .before .formula-here .ensures) (c .before .before .formula6 .given .1) in
-      (omega (arith, onward B .1), true-content _ _ _ B (c .flagged-by .ensures))
+      (omega (arith, onward B .1), true-content _ _ B (c .flagged-by2 .ensures))
 
   returns-7 : lts.Need-returns-7 (claims t) (given t) reads.Post
   returns-7 c = let B = told _ _ (c .before .before .before .before .formula-here .ensures) (c .before .before .formula7 .given .1) in
-      (omega (arith, onward B .1), true-order _ _ _ B (c .ordered .ensures))
+      (omega (arith, onward B .1), true-order _ _ B (c .unbroken-by .ensures))
 
   returns-8 : lts.Need-returns-8 (claims t) (given t) reads.Post
   returns-8 c = let B = told _ _ (c .before .before .before .before .formula-here .ensures) (c .before .before .formula8 .given .1) in
-      (omega (arith, onward B .1), true-value _ _ _ B (c .absent-or-valued .ensures))
+      (omega (arith, onward B .1), true-value _ _ B (c .unbroken-by2 .ensures))
 
   returns-9 : lts.Need-returns-9 (claims t) (given t) reads.Post
-  returns-9 c = (omega arith, true-none _ _ _ _ (told _ _ (c .before .before .before .formula-here .ensures) (c .before .enum-told .given .1)) _)
+  returns-9 c = (omega arith, true-none _ _ _ (told _ _ (c .before .before .before .formula-here .ensures) (c .before .enum-told .given .1)) _)
 
 pub +true-patterns-spec : {M : Type 1} → statement M
 +true-patterns-spec = close μ λ t. lts.spec (claims t) (given t) reads.Post
@@ -166,16 +161,15 @@ pub +true-patterns-spec : {M : Type 1} → statement M
     (enum-known-formula-4 t)
     (all-if-requires t)
     (enum-known-formula-5 t)
-    (is-member-requires t)
-    (all-if-requires-2 t)
-    (enum-known-formula-6 t)
     (flagged-by-requires t)
+    (enum-known-formula-6 t)
+    (flagged-by-requires-2 t)
     (enum-known-formula-7 t)
-    (ordered-requires t)
+    (unbroken-by-requires t)
     (enum-known-formula-8 t)
-    (absent-or-valued-requires t)
+    (unbroken-by-requires-2 t)
     (enum-told t)
-    (all-if-requires-3 t)
+    (all-if-requires-2 t)
     (returns t)
     (returns-2 t)
     (returns-3 t)

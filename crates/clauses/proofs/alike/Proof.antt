@@ -4,7 +4,7 @@ use mathlib.Core.Path.{refl}
 use mathlib.Core.Logic.{inl, inr}
 use native.Mathlib.Omega.{arith}
 use borrow.Author.Needs.{needs}
-use Rattle.clauses.proofs.AttributeFlags.{tells-at}
+use Rattle.clauses.proofs.AttributeFlags.{apart-at}
 use Rattle.clauses.proofs.StringSets.{AlikeTo, alike-none, alike-more, alike-all}
 use Rattle.clauses.proofs.alike.Statement.{statement}
 use Rattle.clauses.proofs.alike.Tie as tie
@@ -30,8 +30,8 @@ mul-kept c = search needs
 element-copy-out-kept : tie.Need-element-copy-out-kept Inv-loop μ-loop
 element-copy-out-kept c = search needs
 
-flagged-strings-requires : tie.Need-flagged-strings-requires Inv-loop μ-loop
-flagged-strings-requires c κs = search needs
+told-apart-requires : tie.Need-told-apart-requires Inv-loop μ-loop
+told-apart-requires c κs = search needs
 
 with-same-flag-requires : tie.Need-with-same-flag-requires Inv-loop μ-loop
 with-same-flag-requires c κs = search needs
@@ -46,9 +46,9 @@ loop-again : tie.Need-loop-again Inv-loop μ-loop
 loop-again c =
     let l = c .before .before .before .before .before .loop in
     let args = c .before .before .before .before .before .before .before .args in
-    let told = c .before .flagged-strings in (
+    let told = c .before .told-apart in (
       omega arith,
-      alike-more _ _ _ (l .i) _ (told .result) _ (omega arith) (omega arith) (tells-at (args .t1) (l .i) (args .a) _ _ refl (told .ensures))
+      alike-more _ _ _ (l .i) _ (told .result) _ (omega arith) (omega arith) (apart-at (args .t1) (l .i) (args .a) _ _ refl (told .ensures))
           (c .with-same-flag .ensures) (l .inv .1),
     )
 
@@ -66,7 +66,7 @@ alike-spec =
     returns
     mul-kept
     element-copy-out-kept
-    flagged-strings-requires
+    told-apart-requires
     with-same-flag-requires
     add-i
     loop-less

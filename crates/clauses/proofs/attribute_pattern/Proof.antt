@@ -4,7 +4,7 @@ use mathlib.Core.Bool.{true, false}
 use mathlib.Core.Path.{refl, sym, _∙_}
 use native.Mathlib.Omega.{arith}
 use borrow.Author.Needs.{needs}
-use Rattle.clauses.proofs.AttributeFlags.{odd, even, tells-at, Numbering, numbering-none, too-many, numbering-all, numbering-room, numbering-more}
+use Rattle.clauses.proofs.AttributeFlags.{odd, even, flag-at, Numbering, numbering-none, too-many, numbering-all, numbering-room, numbering-more}
 use Rattle.clauses.proofs.attribute_pattern.Statement.{statement}
 use Rattle.clauses.proofs.attribute_pattern.Tie as tie
 
@@ -29,42 +29,37 @@ mul-kept c = search needs
 element-copy-out-kept : tie.Need-element-copy-out-kept Inv-loop μ-loop
 element-copy-out-kept c = omega (arith, c .before .loop .inv .within, c .before .loop .inv .few)
 
-flagged-strings-requires : tie.Need-flagged-strings-requires Inv-loop μ-loop
-flagged-strings-requires c κs = search needs
-
-has-requires : tie.Need-has-requires Inv-loop μ-loop
-has-requires c κs = search needs
+is-flagged-requires : tie.Need-is-flagged-requires Inv-loop μ-loop
+is-flagged-requires c κs = search needs
 
 mul-pattern : tie.Need-mul-pattern Inv-loop μ-loop
-mul-pattern c = omega (arith, numbering-room _ _ _ _ _ (c .before .before .before .before .before .loop .inv) (c .before .before .before .before .loop-test .taken))
+mul-pattern c = omega (arith, numbering-room _ _ _ _ _ (c .before .before .before .before .loop .inv) (c .before .before .before .loop-test .taken))
 
 add-pattern : tie.Need-add-pattern Inv-loop μ-loop
-add-pattern c = omega (arith, numbering-room _ _ _ _ _ (c .before .before .before .before .before .loop .inv) (c .before .before .before .before .loop-test .taken))
+add-pattern c = omega (arith, numbering-room _ _ _ _ _ (c .before .before .before .before .loop .inv) (c .before .before .before .loop-test .taken))
 
 loop-less : tie.Need-loop-less Inv-loop μ-loop
 loop-less c = search needs
 
 loop-again : tie.Need-loop-again Inv-loop μ-loop
 loop-again c =
-    let l = c .before .before .before .before .before .loop in
-    let args = c .before .before .before .before .before .before .before .args in
-    let told = c .before .before .flagged-strings in
-    rw (odd (l .pattern)) (numbering-more _ _ _ (l .i) (l .pattern) (l .inv) (c .before .before .before .before .loop-test .taken) true (told .result)
-    (tells-at (args .t1) (l .i - 1) (args .a) _ _ refl (told .ensures)) (sym (c .if2 .taken) ∙ c .before .has .ensures))
+    let l = c .before .before .before .before .loop in
+    let args = c .before .before .before .before .before .before .args in
+    rw (odd (l .pattern)) (numbering-more _ _ _ (l .i) (l .pattern) (l .inv) (c .before .before .before .loop-test .taken) true
+    (flag-at (args .t1) (l .i - 1) (args .a) (args .s) _ true refl (sym (c .if2 .taken) ∙ c .before .is-flagged .ensures)))
 
 mul-pattern-2 : tie.Need-mul-pattern-2 Inv-loop μ-loop
-mul-pattern-2 c = omega (arith, numbering-room _ _ _ _ _ (c .before .before .before .before .before .loop .inv) (c .before .before .before .before .loop-test .taken))
+mul-pattern-2 c = omega (arith, numbering-room _ _ _ _ _ (c .before .before .before .before .loop .inv) (c .before .before .before .loop-test .taken))
 
 loop-less-2 : tie.Need-loop-less-2 Inv-loop μ-loop
 loop-less-2 c = search needs
 
 loop-again-2 : tie.Need-loop-again-2 Inv-loop μ-loop
 loop-again-2 c =
-    let l = c .before .before .before .before .before .loop in
-    let args = c .before .before .before .before .before .before .before .args in
-    let told = c .before .before .flagged-strings in
-    rw (even (l .pattern)) (numbering-more _ _ _ (l .i) (l .pattern) (l .inv) (c .before .before .before .before .loop-test .taken) false (told .result)
-    (tells-at (args .t1) (l .i - 1) (args .a) _ _ refl (told .ensures)) (sym (c .if2 .left) ∙ c .before .has .ensures))
+    let l = c .before .before .before .before .loop in
+    let args = c .before .before .before .before .before .before .args in
+    rw (even (l .pattern)) (numbering-more _ _ _ (l .i) (l .pattern) (l .inv) (c .before .before .before .loop-test .taken) false
+    (flag-at (args .t1) (l .i - 1) (args .a) (args .s) _ false refl (sym (c .if2 .left) ∙ c .before .is-flagged .ensures)))
 
 returns-2 : tie.Need-returns-2 Inv-loop μ-loop
 returns-2 c = numbering-all _ _ _ (c .before .loop .i) (c .before .loop .pattern) (c .loop-test .left) (c .before .loop .inv)
@@ -80,8 +75,7 @@ attribute-pattern-spec =
     sub-i
     mul-kept
     element-copy-out-kept
-    flagged-strings-requires
-    has-requires
+    is-flagged-requires
     mul-pattern
     add-pattern
     loop-less

@@ -21,7 +21,7 @@ returns c =
     let truths = c .before .before .before .before .before .true-patterns in
     let args = c .before .before .before .before .before .before .before .args in (
       truths .ensures .0,
-      tells-failure (args .facts) (args .names) (args .s .now) (args .here .at) (truths .result) (args .patterns) (c .before .before .complement .result)
+      tells-failure (args .facts) (args .s .now) (args .here .at) (truths .result) (args .patterns) (c .before .before .complement .result)
           (c .before .intersection .result) (c .is-empty .result) (truths .ensures .1) (c .before .before .complement .ensures) (c .before .intersection .ensures) (c .is-empty .ensures),
     )
 

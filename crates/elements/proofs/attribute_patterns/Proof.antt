@@ -10,13 +10,13 @@ use Rattle.elements.proofs.attribute_patterns.Statement.{statement}
 use Rattle.elements.proofs.attribute_patterns.Tie as tie
 
 abbrev Inv-loop : tie.InvT-loop
-Inv-loop s facts scheme graph n valued here₀ names₀ set₀ takes₀ here names set takes = Going s facts scheme graph n (here₀ .at) set₀ (here .at) names set takes
+Inv-loop s facts scheme graph n about here₀ set₀ takes₀ here set takes = Going s facts scheme graph n (here₀ .at) set₀ (here .at) set takes
 
 abbrev μ-loop : tie.MeasureT-loop
-μ-loop s facts scheme graph n valued here₀ names₀ set₀ takes₀ here names set takes = length s - here .at
+μ-loop s facts scheme graph n about here₀ set₀ takes₀ here set takes = length s - here .at
 
-valued-names-requires : tie.Need-valued-names-requires Inv-loop μ-loop
-valued-names-requires c κs = search needs
+attributes-of-requires : tie.Need-attributes-of-requires Inv-loop μ-loop
+attributes-of-requires c κs = search needs
 
 only-requires : tie.Need-only-requires Inv-loop μ-loop
 only-requires c κs = search needs
@@ -30,14 +30,9 @@ attribute-here-requires c κs = search needs
 enum-known-name : tie.Need-enum-known-name Inv-loop μ-loop
 enum-known-name c = search needs
 
-with-requires : tie.Need-with-requires Inv-loop μ-loop
-with-requires c κs =
-    let m = fixed-moves _ _ _ (c .before .before .before .attribute-here .ensures .1) _ _ _ (c .before .name .given .1) in
-    omega (arith, m .1)
-
 has-requires : tie.Need-has-requires Inv-loop μ-loop
 has-requires c κs =
-    let m = fixed-moves _ _ _ (c .before .before .before .before .attribute-here .ensures .1) _ _ _ (c .before .before .name .given .1) in
+    let m = fixed-moves _ _ _ (c .before .before .before .attribute-here .ensures .1) _ _ _ (c .before .name .given .1) in
     omega (arith, m .1)
 
 attribute-pattern-requires : tie.Need-attribute-pattern-requires Inv-loop μ-loop
@@ -52,48 +47,43 @@ product-requires c κs = search needs
 loop-less : tie.Need-loop-less Inv-loop μ-loop
 loop-less c =
     let w = c .before .before .before .before .before in
-    let m = fixed-moves _ _ _ (w .before .before .before .before .attribute-here .ensures .1) _ _ _ (w .before .before .name .given .1) .0 in
+    let m = fixed-moves _ _ _ (w .before .before .before .attribute-here .ensures .1) _ _ _ (w .before .name .given .1) .0 in
     omega (arith, m .inside, m .forward)
 
 loop-again : tie.Need-loop-again Inv-loop μ-loop
 loop-again c =
     let w = c .before .before .before .before .before in
-    let l = w .before .before .before .before .before .loop in
-    let h = w .before .before .before .before .attribute-here in
-    let stands = w .before .before .name .given .1 in
-    going-string _ _ _ _ _ _ _ _ _ _ _ (l .inv) (h .result) (h .ensures) _ _ _ stands _ (w .with .ensures) _ _ _ (c .before .before .attribute-pattern .ensures) (c .before .only2 .ensures) (c .product .ensures)
+    let l = w .before .before .before .before .loop in
+    let h = w .before .before .before .attribute-here in
+    let stands = w .before .name .given .1 in
+    going-string _ _ _ _ _ _ _ _ _ _ (l .inv) (h .result) (h .ensures) _ _ _ stands _ _ _ (c .before .before .attribute-pattern .ensures) (c .before .only2 .ensures) (c .product .ensures)
 
 loop-less-2 : tie.Need-loop-less-2 Inv-loop μ-loop
 loop-less-2 c =
     let w = c .before .before in
-    let m = fixed-moves _ _ _ (w .before .before .before .before .attribute-here .ensures .1) _ _ _ (w .before .before .name .given .1) .0 in
+    let m = fixed-moves _ _ _ (w .before .before .before .attribute-here .ensures .1) _ _ _ (w .before .name .given .1) .0 in
     omega (arith, m .inside, m .forward)
 
 loop-again-2 : tie.Need-loop-again-2 Inv-loop μ-loop
 loop-again-2 c =
     let w = c .before .before in
-    let l = w .before .before .before .before .before .loop in
-    let h = w .before .before .before .before .attribute-here in
-    let stands = w .before .before .name .given .1 in
-    going-other-string _ _ _ _ _ _ _ _ _ _ _ (l .inv) (h .result) (h .ensures) _ _ _ stands _ (w .with .ensures)
-    _ (w .before .before .before .before .before .before .before .valued-names .ensures) (sym (c .before .has .ensures) ∙ c .if1 .left)
+    let l = w .before .before .before .before .loop in
+    let h = w .before .before .before .attribute-here in
+    let stands = w .before .name .given .1 in
+    going-other-string _ _ _ _ _ _ _ _ _ _ (l .inv) (h .result) (h .ensures) _ _ _ stands
+    _ (w .before .before .before .before .before .before .attributes-of .ensures) (sym (c .before .has .ensures) ∙ c .if1 .left)
 
 enum-known-name-2 : tie.Need-enum-known-name-2 Inv-loop μ-loop
 enum-known-name-2 c = search needs
 
-with-requires-2 : tie.Need-with-requires-2 Inv-loop μ-loop
-with-requires-2 c κs =
-    let m = open-moves _ _ _ (c .before .before .before .attribute-here .ensures .1) _ _ _ (c .before .name2 .given .1) in
-    omega (arith, m .1)
+cast-attribute-values : tie.Need-cast-attribute-values Inv-loop μ-loop
+cast-attribute-values c = search needs
 
-cast-strings-at : tie.Need-cast-strings-at Inv-loop μ-loop
-cast-strings-at c = search needs
+attribute-values-requires : tie.Need-attribute-values-requires Inv-loop μ-loop
+attribute-values-requires c κs = search needs
 
-strings-at-requires : tie.Need-strings-at-requires Inv-loop μ-loop
-strings-at-requires c κs = search needs
-
-is-empty-requires : tie.Need-is-empty-requires Inv-loop μ-loop
-is-empty-requires c κs = search needs
+takes-nothing-requires : tie.Need-takes-nothing-requires Inv-loop μ-loop
+takes-nothing-requires c κs = search needs
 
 empty-requires : tie.Need-empty-requires Inv-loop μ-loop
 empty-requires c κs = search needs
@@ -101,22 +91,22 @@ empty-requires c κs = search needs
 loop-less-3 : tie.Need-loop-less-3 Inv-loop μ-loop
 loop-less-3 c =
     let w = c .before .before .before .before in
-    let m = open-moves _ _ _ (w .before .before .before .before .attribute-here .ensures .1) _ _ _ (w .before .before .name2 .given .1) .0 in
+    let m = open-moves _ _ _ (w .before .before .before .attribute-here .ensures .1) _ _ _ (w .before .name2 .given .1) .0 in
     omega (arith, m .inside, m .forward)
 
 loop-again-3 : tie.Need-loop-again-3 Inv-loop μ-loop
 loop-again-3 c =
     let w = c .before .before .before .before in
-    let l = w .before .before .before .before .before .loop in
-    let h = w .before .before .before .before .attribute-here in
-    let stands = w .before .before .name2 .given .1 in
-    going-empty _ _ _ _ _ _ _ _ _ _ _ (l .inv) (h .result) (h .ensures) _ _ _ stands _ (w .with2 .ensures)
-    (w .before .before .before .before .before .before .before .before .before .pre) _ (c .before .before .before .strings-at .ensures) _ (c .before .before .is-empty .ensures) (c .before .if2 .taken) _ (c .empty .ensures)
+    let l = w .before .before .before .before .loop in
+    let h = w .before .before .before .attribute-here in
+    let stands = w .before .name2 .given .1 in
+    going-empty _ _ _ _ _ _ _ _ _ _ (l .inv) (h .result) (h .ensures) _ _ _ stands
+    (w .before .before .before .before .before .before .before .before .pre) _ (c .before .before .before .attribute-values .ensures) _ (c .before .before .takes-nothing .ensures) (c .before .if2 .taken) _ (c .empty .ensures)
 
 has-requires-2 : tie.Need-has-requires-2 Inv-loop μ-loop
 has-requires-2 c κs =
     let w = c .before .before .before in
-    let m = open-moves _ _ _ (w .before .before .before .before .attribute-here .ensures .1) _ _ _ (w .before .before .name2 .given .1) in
+    let m = open-moves _ _ _ (w .before .before .before .attribute-here .ensures .1) _ _ _ (w .before .name2 .given .1) in
     omega (arith, m .1)
 
 value-patterns-requires : tie.Need-value-patterns-requires Inv-loop μ-loop
@@ -128,33 +118,33 @@ product-requires-2 c κs = search needs
 loop-less-4 : tie.Need-loop-less-4 Inv-loop μ-loop
 loop-less-4 c =
     let w = c .before .before .before .before .before .before .before in
-    let m = open-moves _ _ _ (w .before .before .before .before .attribute-here .ensures .1) _ _ _ (w .before .before .name2 .given .1) .0 in
+    let m = open-moves _ _ _ (w .before .before .before .attribute-here .ensures .1) _ _ _ (w .before .name2 .given .1) .0 in
     omega (arith, m .inside, m .forward)
 
 loop-again-4 : tie.Need-loop-again-4 Inv-loop μ-loop
 loop-again-4 c =
     let w = c .before .before .before .before .before .before .before in
-    let l = w .before .before .before .before .before .loop in
-    let h = w .before .before .before .before .attribute-here in
-    let stands = w .before .before .name2 .given .1 in
-    going-values _ _ _ _ _ _ _ _ _ _ _ (l .inv) (h .result) (h .ensures) _ _ _ stands _ (w .with2 .ensures)
-    (w .before .before .before .before .before .before .before .before .before .pre) _ (c .before .before .before .before .before .before .strings-at .ensures) _ (c .before .before .before .before .before .is-empty .ensures) (c .before .before .before .before .if2 .left) _ _ (c .before .value-patterns .ensures) (c .product2 .ensures)
+    let l = w .before .before .before .before .loop in
+    let h = w .before .before .before .attribute-here in
+    let stands = w .before .name2 .given .1 in
+    going-values _ _ _ _ _ _ _ _ _ _ (l .inv) (h .result) (h .ensures) _ _ _ stands
+    (w .before .before .before .before .before .before .before .before .pre) _ (c .before .before .before .before .before .before .attribute-values .ensures) _ (c .before .before .before .before .before .takes-nothing .ensures) (c .before .before .before .before .if2 .left) _ _ (c .before .value-patterns .ensures) (c .product2 .ensures)
 
 loop-less-5 : tie.Need-loop-less-5 Inv-loop μ-loop
 loop-less-5 c =
     let w = c .before .before .before .before .before in
-    let m = open-moves _ _ _ (w .before .before .before .before .attribute-here .ensures .1) _ _ _ (w .before .before .name2 .given .1) .0 in
+    let m = open-moves _ _ _ (w .before .before .before .attribute-here .ensures .1) _ _ _ (w .before .name2 .given .1) .0 in
     omega (arith, m .inside, m .forward)
 
 loop-again-5 : tie.Need-loop-again-5 Inv-loop μ-loop
 loop-again-5 c =
     let w = c .before .before .before .before .before in
-    let l = w .before .before .before .before .before .loop in
-    let h = w .before .before .before .before .attribute-here in
-    let stands = w .before .before .name2 .given .1 in
-    going-other-values _ _ _ _ _ _ _ _ _ _ _ (l .inv) (h .result) (h .ensures) _ _ _ stands _ (w .with2 .ensures)
-    (w .before .before .before .before .before .before .before .before .before .pre) _ (c .before .before .before .before .strings-at .ensures) _ (c .before .before .before .is-empty .ensures) (c .before .before .if2 .left)
-    _ (w .before .before .before .before .before .before .before .valued-names .ensures) (sym (c .before .has2 .ensures) ∙ c .if3 .left)
+    let l = w .before .before .before .before .loop in
+    let h = w .before .before .before .attribute-here in
+    let stands = w .before .name2 .given .1 in
+    going-other-values _ _ _ _ _ _ _ _ _ _ (l .inv) (h .result) (h .ensures) _ _ _ stands
+    (w .before .before .before .before .before .before .before .before .pre) _ (c .before .before .before .before .attribute-values .ensures) _ (c .before .before .before .takes-nothing .ensures) (c .before .before .if2 .left)
+    _ (w .before .before .before .before .before .before .attributes-of .ensures) (sym (c .before .has2 .ensures) ∙ c .if3 .left)
 
 enum-told : tie.Need-enum-told Inv-loop μ-loop
 enum-told c = search needs
@@ -163,7 +153,7 @@ returns : tie.Need-returns Inv-loop μ-loop
 returns c =
     let l = c .before .before .before .loop in
     let h = c .before .before .attribute-here in
-    (l .inv .named-to .forward, going-ends _ _ _ _ _ _ _ _ _ _ _ (l .inv) (h .result) (h .ensures) (c .enum-told .given .1) (c .before .before .before .before .only .ensures))
+    (l .inv .taking-to .forward, going-ends _ _ _ _ _ _ _ _ _ _ (l .inv) (h .result) (h .ensures) (c .enum-told .given .1) (c .before .before .before .before .only .ensures))
 
 pub attribute-patterns-spec : {M : Type 1} → statement M
 attribute-patterns-spec =
@@ -171,12 +161,11 @@ attribute-patterns-spec =
     (tie.spec
     Inv-loop
     μ-loop
-    valued-names-requires
+    attributes-of-requires
     only-requires
     loop-holds
     attribute-here-requires
     enum-known-name
-    with-requires
     has-requires
     attribute-pattern-requires
     only-requires-2
@@ -186,10 +175,9 @@ attribute-patterns-spec =
     loop-less-2
     loop-again-2
     enum-known-name-2
-    with-requires-2
-    cast-strings-at
-    strings-at-requires
-    is-empty-requires
+    cast-attribute-values
+    attribute-values-requires
+    takes-nothing-requires
     empty-requires
     loop-less-3
     loop-again-3

@@ -14,7 +14,7 @@ returns : tie.Need-returns
 returns c =
     let args = c .before .before .before .before .before .before .args in
     let joined = c .before .before .before .product in
-    clause-tested (args .s .now) (args .clause) (args .names) (args .outer) (args .inner) (joined .result) (c .clause-fails .result) (joined .ensures) (c .clause-fails .ensures .1)
+    clause-tested (args .s .now) (args .clause) (args .outer) (args .inner) (joined .result) (c .clause-fails .result) (joined .ensures) (c .clause-fails .ensures .1)
 
 pub can-fail-spec : {M : Type 1} → statement M
 can-fail-spec =

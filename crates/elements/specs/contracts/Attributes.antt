@@ -3,9 +3,8 @@
 use Prim.Native.Nat.{ℕ}
 use mathlib.Core.Path.{_≡_}
 use mathlib.Core.List.{List, []}
-use Rattle.sets.specs.Sets.{member}
 use Rattle.commands.specs.Reading.{whole}
-use Rattle.vocabularies.specs.Vocabulary.{Formula, isIn}
+use Rattle.vocabularies.specs.Vocabulary.{Formula}
 use Rattle.vocabularies.specs.VocabularyReading.{formula}
 use Rattle.vocabularies.specs.Facts.{factsOf}
 use Rattle.vocabularies.specs.declared.Facts.{Facts}
@@ -14,7 +13,6 @@ use Rattle.pages.specs.declared.Kind.the-variants.{Template}
 use Rattle.pages.specs.declared.AttributeHere.the-variants.{Done}
 use Rattle.pages.specs.Items.{Attribute}
 use Rattle.pages.specs.ItemReading.{attributes}
-use Rattle.pages.specs.RightPages.{names}
 use Rattle.pages.specs.contracts.Steps.{attributeHere}
 use Rattle.summaries.specs.Summaries.{Summary}
 use Rattle.patterns.specs.contracts.Morphisms.{Morphism, factMorphism}
@@ -39,9 +37,8 @@ pub record ClauseAt (s : List ℕ) (ψ : Formula) (c : Clause) : Type 0 where
   pub end : ℕ
   pub stands : formula fuel s depth (c .formula .at) ≡ whole ψ end
 
--- The attributes of template n: their names, their patterns, whether all have something to take, and their end.
+-- The attributes of template n: their patterns, whether all have something to take, and their end.
 pub record AttributesAre (ψ : Formula) (G : Summary) (n : ℕ) (δ : List Attribute) (end : ℕ) (r : Attributes) : Type 0 where
-  pub named : (a : ℕ) → member (r .names) a ≡ isIn a (names δ)
   pub patterned : Is (patternsBy ψ) (r .set) (attributePatterns G (factsOf ψ) n δ)
   pub takes : r .takes ≡ attributesTake G n δ
   pub ends : r .next .at ≡ end

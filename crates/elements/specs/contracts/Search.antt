@@ -5,16 +5,14 @@ use mathlib.Core.List.{List}
 use mathlib.Core.Bool.{Bool, true, false, _&&_}
 use mathlib.Core.Logic.{_⊎_}
 use lib.Dec.{eqb}
-use Rattle.sets.specs.Sets.{member}
 use Rattle.commands.specs.declared.Position.{Position}
 use Rattle.commands.specs.Reading.{whole}
-use Rattle.vocabularies.specs.Vocabulary.{Formula, isIn}
+use Rattle.vocabularies.specs.Vocabulary.{Formula}
 use Rattle.vocabularies.specs.Facts.{factsOf}
 use Rattle.pages.specs.declared.Kind.the-variants.{Template}
 use Rattle.pages.specs.declared.ItemHere.the-variants.{Element}
 use Rattle.pages.specs.Items.{Attribute, Item, Items}
 use Rattle.pages.specs.ItemReading.{item, items}
-use Rattle.pages.specs.RightPages.{names}
 use Rattle.pages.specs.contracts.Steps.{itemHere}
 use Rattle.summaries.specs.Summaries.{Summary}
 use Rattle.patterns.specs.contracts.Given.{Bounded}
@@ -35,10 +33,10 @@ use Rattle.elements.specs.contracts.Attributes.{ClauseAt, patternsBy}
 abbrev pub failsAt : List Items → Summary → Formula → Sets → ℕ → ℕ → ℕ → ℕ → List Attribute → Items → Bool
 failsAt φs G ψ X n e e′ mark δ φ = eqb e′ e && clauseFails φs G ψ X n δ φ
 
--- Whether the clause can fail for an element whose attributes have these names, and whose attributes and contents have these patterns.
-abbrev pub CanFail : List ℕ → Clause → ℕ → List ℕ → List ℕ → Bool → Type 0
-CanFail s c named outer inner r = (φs : List Items) (G : Summary) (ψ : Formula) (X : Sets) → ClauseAt s ψ c → (n : ℕ) (δ : List Attribute) (φ : Items)
-    → ((a : ℕ) → member named a ≡ isIn a (names δ)) → Is (patternsBy ψ) outer (attributePatterns G (factsOf ψ) n δ)
+-- Whether the clause can fail for an element whose attributes and contents have these patterns.
+abbrev pub CanFail : List ℕ → Clause → List ℕ → List ℕ → Bool → Type 0
+CanFail s c outer inner r = (φs : List Items) (G : Summary) (ψ : Formula) (X : Sets) → ClauseAt s ψ c → (n : ℕ) (δ : List Attribute) (φ : Items)
+    → Is (patternsBy ψ) outer (attributePatterns G (factsOf ψ) n δ)
     → Is (patternsBy ψ) inner (patterns φs G (patternsBy ψ) X n φ) → r ≡ clauseFails φs G ψ X n δ φ
 
 -- By the answer: all attributes have something to take, and the list inside has a pattern; or not.

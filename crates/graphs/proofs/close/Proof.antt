@@ -23,15 +23,6 @@ origins-requires c κs = search needs
 add-edges-requires : tie.Need-add-edges-requires Inv-loop μ-loop
 add-edges-requires c κs = search needs
 
-attribute-origins-requires : tie.Need-attribute-origins-requires Inv-loop μ-loop
-attribute-origins-requires c κs = search needs
-
-one-value-requires : tie.Need-one-value-requires Inv-loop μ-loop
-one-value-requires c κs = search needs
-
-add-strings-requires : tie.Need-add-strings-requires Inv-loop μ-loop
-add-strings-requires c κs = search needs
-
 add-g : tie.Need-add-g Inv-loop μ-loop
 add-g c = search needs
 
@@ -39,9 +30,7 @@ loop-less : tie.Need-loop-less Inv-loop μ-loop
 loop-less c = search needs
 
 loop-again : tie.Need-loop-again Inv-loop μ-loop
-loop-again c = λ R k.
-    let at-gap = c .before .before .before .before .before .before .before .before .before in
-    below-goes R _ _ _ _ _ (member-single 0) (c .before .one-value .ensures) (at-gap .loop-test .taken) _ _ _ (at-gap .before .loop .inv R k) (c .before .before .before .before .before .before .before .origins .ensures) (c .before .before .before .before .before .add-edges .ensures) (c .before .before .before .attribute-origins .ensures) (c .add-strings .ensures)
+loop-again c = λ R k. below-goes R _ _ _ (member-single 0) (c .before .before .before .before .loop-test .taken) _ _ (c .before .before .before .before .before .loop .inv R k) (c .before .before .origins .ensures) (c .add-edges .ensures)
 
 returns : tie.Need-returns Inv-loop μ-loop
 returns c = λ R k. below-ends R _ _ (c .loop-test .left) (c .before .loop .inv R k)
@@ -55,9 +44,6 @@ close-spec =
     loop-holds
     origins-requires
     add-edges-requires
-    attribute-origins-requires
-    one-value-requires
-    add-strings-requires
     add-g
     loop-less
     loop-again

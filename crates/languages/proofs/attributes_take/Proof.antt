@@ -40,8 +40,8 @@ loop-again c =
 enum-known-attribute-2 : tie.Need-enum-known-attribute-2 Inv-loop μ-loop
 enum-known-attribute-2 c = search needs
 
-takes-string-requires : tie.Need-takes-string-requires Inv-loop μ-loop
-takes-string-requires c κs = search needs
+takes-something-requires : tie.Need-takes-something-requires Inv-loop μ-loop
+takes-something-requires c κs = search needs
 
 loop-less-2 : tie.Need-loop-less-2 Inv-loop μ-loop
 loop-less-2 c =
@@ -53,7 +53,7 @@ loop-again-2 c =
     let a = c .before .before .before .before .before .attribute-here in
     let q = c .before .before .before .attribute2 .given .1 in
     let l = c .before .before .before .before .before .before .loop in
-    let u = c .before .takes-string in
+    let u = c .before .takes-something in
     taking-open _ _ _ _ (l .takes) _ (l .inv) _ (a .ensures .0) _ _ _ q (open-moves _ _ _ (a .ensures .1) _ _ _ q .0 .forward) (u .result) (u .ensures) _ (sym (ap (λ (t : Bool). l .takes && t) (not-true _ (c .if1 .taken)) ∙ and-false (l .takes)))
 
 loop-less-3 : tie.Need-loop-less-3 Inv-loop μ-loop
@@ -66,7 +66,7 @@ loop-again-3 c =
     let a = c .before .before .before .before .before .attribute-here in
     let q = c .before .before .before .attribute2 .given .1 in
     let l = c .before .before .before .before .before .before .loop in
-    let u = c .before .takes-string in
+    let u = c .before .takes-something in
     taking-open _ _ _ _ (l .takes) _ (l .inv) _ (a .ensures .0) _ _ _ q (open-moves _ _ _ (a .ensures .1) _ _ _ q .0 .forward) (u .result) (u .ensures) _ (sym (ap (λ (t : Bool). l .takes && t) (not-false _ (c .if1 .left)) ∙ and-true (l .takes)))
 
 enum-told : tie.Need-enum-told Inv-loop μ-loop
@@ -90,7 +90,7 @@ attributes-take-spec =
     loop-less
     loop-again
     enum-known-attribute-2
-    takes-string-requires
+    takes-something-requires
     loop-less-2
     loop-again-2
     loop-less-3

@@ -6,20 +6,16 @@ use mathlib.Core.List.{List}
 use mathlib.Core.Bool.{Bool, cond}
 use lib.ListN.{length}
 use lib.Dec.{ltb, eqb}
-use Rattle.sets.specs.Sets.{member}
 use Rattle.commands.specs.declared.Position.{Position}
 use Rattle.commands.specs.Commands.{byte, strings}
 use Rattle.commands.specs.Reading.{whole}
-use Rattle.vocabularies.specs.Vocabulary.{isIn}
 use Rattle.pages.specs.declared.Kind.{Kind}
 use Rattle.pages.specs.declared.ItemHere.{ItemHere}
 use Rattle.pages.specs.declared.ItemHere.the-variants.{Text, Gap, Element, Blank, End}
 use Rattle.pages.specs.declared.AttributeHere.{AttributeHere}
 use Rattle.pages.specs.declared.AttributeHere.the-variants.{Fixed, Open, Done}
-use Rattle.pages.specs.declared.Named.{Named}
 use Rattle.pages.specs.Items.{Attribute, Item, Items}
 use Rattle.pages.specs.ItemReading.{attributes, items, item}
-use Rattle.pages.specs.RightPages.{names}
 
 -- `21`, `22 g`, `23 e`, `29`; anything else ends a list of items.
 abbrev pub itemOf : List ℕ → ℕ → ℕ → ItemHere
@@ -64,8 +60,3 @@ AttributeMoves s at Done = Unit {0}
 -- The position after attributes.
 abbrev pub AfterAttributes : List ℕ → ℕ → Position → Type 0
 AfterAttributes s at r = (k : Kind) (before : List ℕ) (f end : ℕ) (δ : List Attribute) → attributes f k s before at ≡ whole δ end → attributeHere s end ≡ Done → r .at ≡ end
-
--- The names of attributes as a set, and their end.
-abbrev pub NamesAt : List ℕ → ℕ → Named → Type 0
-NamesAt s at r = (k : Kind) (before : List ℕ) (f end : ℕ) (δ : List Attribute) → attributes f k s before at ≡ whole δ end → attributeHere s end ≡ Done
-    → (r .next .at ≡ end) × ((a : ℕ) → member (r .names) a ≡ isIn a (names δ))

@@ -1,37 +1,56 @@
--- An element that is wrong in some page (document 01, verdict 12): it has an attribute that is not allowed, or can get a content that is not
--- allowed, or some clause fails for a choice of its attributes' strings and a pattern of its contents. Each attribute gap takes a
--- string by itself. All of this is said of items of a template of which pages come.
+-- An element that is wrong in some page (document 01, verdict 12; document 02, F-5): it can carry an attribute that is not allowed, or can get
+-- a content that is not allowed, or some clause fails for a choice of its attributes' strings, or of absence, and a pattern of its
+-- contents. Each attribute gap takes a string or absence by itself. All of this is said of items of a template of which pages come.
 use Prim.Native.Nat.{ℕ, _^_}
 use mathlib.Core.List.{List, [], _∷_}
-use mathlib.Core.Bool.{Bool, true, false, not, _&&_, _||_}
+use mathlib.Core.Bool.{Bool, true, false, cond, not, _&&_, _||_}
 use mathlib.Core.Option.{Option, some, none}
 use lib.ListN.{length}
 use Rattle.vocabularies.specs.Vocabulary.{Formula, Rule, Vocabulary, ruleOf, isIn}
 use Rattle.vocabularies.specs.Facts.{Fact, factsOf}
 use Rattle.pages.specs.Items.{Value, string, open-gap, Attribute, Items}
-use Rattle.pages.specs.RightPages.{names}
 use Rattle.judging.specs.contracts.Judgement.{truthOf, allIn}
-use Rattle.summaries.specs.Proposal as Proposal
 use Rattle.summaries.specs.Summaries.{Summary}
+use Rattle.summaries.specs.Languages.{takes}
 use Rattle.patterns.specs.contracts.Patterns.{patternOf, atomsBy}
 use Rattle.patterns.specs.contracts.Morphisms.{factMorphism}
 use Rattle.patterns.specs.contracts.Given.{contents}
-use Rattle.patterns.specs.contracts.Rounds.{Set, Sets, only, anyBelow, anyNamed, product, patterns}
+use Rattle.patterns.specs.contracts.Rounds.{Set, Sets, only, anyBelow, anyNamed, stringReaches, product, patterns}
 use Rattle.patterns.specs.contracts.Reached.{contentsOf}
 
 -- The pattern of attribute a with string s alone.
 abbrev pub attributePattern : List Fact → ℕ → ℕ → ℕ
 attributePattern fs a s = patternOf fs (record { name = a; value = string s } ∷ []) []
 
+-- The pattern of no attribute, and so of one that is absent.
+abbrev pub absencePattern : List Fact → ℕ
+absencePattern fs = patternOf fs [] []
+
+-- The patterns of attribute a over what it can take: that of absence, those of strings, and both.
+abbrev pub absencePatterns : List Fact → (Option ℕ → Bool) → Set
+absencePatterns fs can x = can none && only (absencePattern fs) x
+
+abbrev pub stringPatterns : List Fact → ℕ → (Option ℕ → Bool) → Set
+stringPatterns fs a can x = anyNamed (λ s. can (some s) && only (attributePattern fs a s) x)
+
+abbrev pub takenPatterns : List Fact → ℕ → (Option ℕ → Bool) → Set
+takenPatterns fs a can x = absencePatterns fs can x || stringPatterns fs a can x
+
 abbrev pub valuePatterns : Summary → List Fact → ℕ → ℕ → Value → Set
 valuePatterns G fs n a (string s) = only (attributePattern fs a s)
-valuePatterns G fs n a (open-gap h) = λ x. anyNamed (λ s. G (Proposal.string n h s) && only (attributePattern fs a s) x)
+valuePatterns G fs n a (open-gap h) = takenPatterns fs a (takes G n h)
 
 -- The patterns that attributes of template n can have.
 unfoldable pub attributePatterns : Summary → List Fact → ℕ → List Attribute → Set
 unfolding anyBelow patternOf
-attributePatterns G fs n [] = only (patternOf fs [] [])
+attributePatterns G fs n [] = only (absencePattern fs)
 attributePatterns G fs n (a ∷ δ) = product (factMorphism fs) (valuePatterns G fs n (a .name) (a .value)) (attributePatterns G fs n δ)
+
+-- The names of the attributes of template n that can be carried: those that some string reaches.
+unfoldable pub carriableNames : Summary → ℕ → List Attribute → List ℕ
+unfolding anyBelow
+carriableNames G n [] = []
+carriableNames G n (a ∷ δ) = cond (stringReaches G n (a .value)) (a .name ∷ carriableNames G n δ) (carriableNames G n δ)
 
 module _ (φs : List Items) (G : Summary) where
   -- The patterns that an element of template n can have, from the clause's pattern sets.
@@ -41,7 +60,7 @@ module _ (φs : List Items) (G : Summary) where
   unfoldable pub clauseFails : Formula → Sets → ℕ → List Attribute → Items → Bool
   unfolding anyBelow attributePatterns patterns truthOf atomsBy
   clauseFails ψ X n δ φ = anyBelow (2 ^ length (factsOf ψ))
-      (λ x. elementPatterns (factsOf ψ) X n δ φ x && not (truthOf (atomsBy (factsOf ψ) (names δ) x) ψ))
+      (λ x. elementPatterns (factsOf ψ) X n δ φ x && not (truthOf (atomsBy (factsOf ψ) x) ψ))
 
   -- X has the pattern sets of each clause.
   unfoldable pub someClauseFails : (Formula → Sets) → List Formula → ℕ → List Attribute → Items → Bool
@@ -55,9 +74,9 @@ module _ (φs : List Items) (G : Summary) where
   contentOutside C allowed n φ = anyBelow contents (λ c. contentsOf φs G C n φ c && not (isIn c allowed))
 
   unfoldable pub wrongUnder : (Formula → Sets) → Sets → Rule → ℕ → List Attribute → Items → Bool
-  unfolding allIn contentOutside someClauseFails
+  unfolding allIn carriableNames contentOutside someClauseFails
   wrongUnder X C r n δ φ =
-      not (allIn (names δ) (r .attributes)) || contentOutside C (r .contents) n φ || someClauseFails X (r .clauses) n δ φ
+      not (allIn (carriableNames G n δ) (r .attributes)) || contentOutside C (r .contents) n φ || someClauseFails X (r .clauses) n δ φ
 
   abbrev pub wrongBy : (Formula → Sets) → Sets → Option Rule → ℕ → List Attribute → Items → Bool
   wrongBy X C none n δ φ = true

@@ -1,5 +1,6 @@
 -- What the theorems ask of the graph, the templates and the vocabulary of a show. Every job of bytes that reads has it: reading refuses
--- templates that are not there, names and strings out of range; a set of strings has eight bytes; and "any string" holds every string.
+-- templates that are not there, names and strings out of range, an attribute twice in one element; a set of strings has eight bytes; and
+-- "any string" holds every string.
 use Prim.Native.Nat.{ℕ, _≤_, _<_}
 use mathlib.Core.Path.{_≡_}
 use mathlib.Core.List.{List}
@@ -8,9 +9,9 @@ use mathlib.Core.Option.{some}
 use lib.ListN.{length}
 use Rattle.sets.specs.Sets.{member}
 use Rattle.commands.specs.Commands.{strings}
-use Rattle.vocabularies.specs.Vocabulary.{Formula, conj, disj, neg, truth, attr, content, order, value, Rule, Vocabulary, ruleOf}
-use Rattle.pages.specs.Items.{Items}
-use Rattle.pages.specs.RightPages.{_∈_, SomeElement}
+use Rattle.vocabularies.specs.Vocabulary.{Formula, conj, disj, neg, truth, attr, content, order, value, Rule, Vocabulary, ruleOf, Distinct}
+use Rattle.pages.specs.Items.{Attribute, Items}
+use Rattle.pages.specs.RightPages.{_∈_, names, SomeElement}
 use Rattle.programs.specs.Program.{templateAt}
 use Rattle.summaries.specs.Proposal.{root, edge, string}
 use Rattle.summaries.specs.Summaries.{Summary}
@@ -28,6 +29,11 @@ contents = 64
 -- Every element of a template is among them.
 abbrev pub NamesInRange : List Items → Type 0
 NamesInRange φs = (n c : ℕ) → SomeElement (λ e mark δ φ. e ≡ c) (templateAt φs n) → c < contents
+
+-- Elements are in range, and none has an attribute twice.
+pub record SoundTemplates (φs : List Items) : Type 0 where
+  pub in-range : NamesInRange φs
+  pub once : (n : ℕ) (δ : List Attribute) → SomeElement (λ e mark ε φ. ε ≡ δ) (templateAt φs n) → Distinct (names δ)
 
 -- The sets of a clause hold named strings alone.
 abbrev pub NamedOnly : Formula → Type 0

@@ -21,7 +21,7 @@ module _ (φs : List Items) (G : Summary) where
     from-root : {r : ℕ} → G (root r) ≡ true → Yields r → Reached r
     through-gap : {n g m : ℕ} → Reached n → gapIn (templateAt φs n) g ≡ true → G (edge n g m) ≡ true → Yields m → Reached m
 
-  -- An element of template n, with its gaps filled in some way, has attributes and contents as Q says.
+  -- An element of template n, with its gaps filled or closed in some way, has attributes and contents as Q says.
   abbrev pub CanBe : ℕ → List Attribute → Items → (List Attribute → Items → Type 0) → Type 0
   CanBe n δ φ Q = (δ′ : List Attribute) × (φ′ : Items) × AttributesDerive φs G n δ δ′ × Derives φs G n φ φ′ × Q δ′ φ′
 

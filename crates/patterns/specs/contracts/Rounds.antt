@@ -4,6 +4,8 @@
 use Prim.Native.Nat.{ℕ, zero, suc, _≤_, _<_}
 use mathlib.Core.Path.{_≡_}
 use mathlib.Core.List.{List, [], _∷_}
+use mathlib.Core.Option.{some}
+use mathlib.Core.Option as Option
 use mathlib.Core.Bool.{Bool, true, false, _&&_, _||_}
 use lib.ListN.{length}
 use lib.Dec.{eqb}
@@ -11,8 +13,8 @@ use Rattle.commands.specs.Commands.{strings}
 use Rattle.pages.specs.Items.{Value, string, open-gap, Attribute, Item, text, blank, gap, element, Items, none, more}
 use Rattle.programs.specs.Program.{templateAt}
 use Rattle.summaries.specs.Proposal.{edge}
-use Rattle.summaries.specs.Proposal as Proposal
 use Rattle.summaries.specs.Summaries.{Summary}
+use Rattle.summaries.specs.Languages.{takes}
 use Rattle.patterns.specs.contracts.Morphisms.{Morphism}
 
 -- A set of patterns, and one for each template.
@@ -41,10 +43,15 @@ anyTemplate φs p = anyBelow (suc (length φs)) p
 abbrev pub anyNamed : (ℕ → Bool) → Bool
 anyNamed p = anyBelow (suc strings) p
 
--- An attribute of template n holds a string, or its gap has some string to take.
+-- Some string reaches an attribute of template n: it holds one, or its gap has one to take.
+abbrev pub stringReaches : Summary → ℕ → Value → Bool
+stringReaches G n (string s) = true
+stringReaches G n (open-gap h) = anyNamed (λ s. takes G n h (some s))
+
+-- An attribute of template n holds a string, or its gap has something to take: a string, or absence (document 02, F-5).
 abbrev pub valueTakes : Summary → ℕ → Value → Bool
 valueTakes G n (string s) = true
-valueTakes G n (open-gap h) = anyNamed (λ s. G (Proposal.string n h s))
+valueTakes G n (open-gap h) = takes G n h Option.none || stringReaches G n (open-gap h)
 
 unfoldable pub attributesTake : Summary → ℕ → List Attribute → Bool
 unfolding anyBelow

@@ -16,50 +16,50 @@ use Rattle.reach.proofs.walk_items.Kinds as walk-items-kinds
 use Rattle.reach.proofs.+walk_element+walk_items.Lts-walk_items as walk-items-lts
 use Rattle.pages.proofs.item_here.Reads as item-here-reads
 use Rattle.patterns.proofs.lower.Reads as lower-reads
-use Rattle.pages.proofs.names_at.Reads as names-at-reads
+use Rattle.reach.proofs.carriable_names.Reads as carriable-names-reads
 use Rattle.reach.proofs.outside_at.Reads as outside-at-reads
 use Rattle.reach.proofs.union_of.Reads as union-of-reads
 use Rattle.sets.proofs.with.Reads as with-reads
 use Rattle.reach.proofs.+walk_element+walk_items.{statement}
 use Rattle.reach.proofs.+walk_element+walk_items.Tie.{close}
 
-abbrev μ-walk-element : Measures 4 walk-element-kinds.ps ℕ
-μ-walk-element κs a = (length (a .0 .now) - a .1 .1 .1 .1 .1 .1 .1 .0 .at) + (length (a .0 .now) - a .1 .1 .1 .1 .1 .1 .1 .0 .at) + 2
+abbrev μ-walk-element : Measures 5 walk-element-kinds.ps ℕ
+μ-walk-element κs a = (length (a .0 .now) - a .1 .1 .1 .1 .1 .1 .1 .1 .0 .at) + (length (a .0 .now) - a .1 .1 .1 .1 .1 .1 .1 .1 .0 .at) + 2
 
-abbrev μ-walk-items : Measures 4 walk-items-kinds.ps ℕ
-μ-walk-items κs a = (length (a .0 .now) - a .1 .1 .1 .1 .1 .0 .at) + (length (a .0 .now) - a .1 .1 .1 .1 .1 .0 .at) + 1
+abbrev μ-walk-items : Measures 5 walk-items-kinds.ps ℕ
+μ-walk-items κs a = (length (a .0 .now) - a .1 .1 .1 .1 .1 .1 .0 .at) + (length (a .0 .now) - a .1 .1 .1 .1 .1 .1 .0 .at) + 1
 
-abbrev walk-element-at : ℕ → In 4 walk-element-kinds.ps
+abbrev walk-element-at : ℕ → In 5 walk-element-kinds.ps
 walk-element-at t =
-    and 4 walk-element-kinds.ps (is 4 walk-element-kinds.ps μ-walk-element t) walk-element.Pre
+    and 5 walk-element-kinds.ps (is 5 walk-element-kinds.ps μ-walk-element t) walk-element.Pre
 
-abbrev walk-element-below : ℕ → In 4 walk-element-kinds.ps
+abbrev walk-element-below : ℕ → In 5 walk-element-kinds.ps
 walk-element-below t =
     and
-    4
+    5
     walk-element-kinds.ps
-    (falls 4 walk-element-kinds.ps _<_ μ-walk-element t)
+    (falls 5 walk-element-kinds.ps _<_ μ-walk-element t)
     walk-element.Pre
 
-abbrev walk-items-at : ℕ → In 4 walk-items-kinds.ps
+abbrev walk-items-at : ℕ → In 5 walk-items-kinds.ps
 walk-items-at t =
-    and 4 walk-items-kinds.ps (is 4 walk-items-kinds.ps μ-walk-items t) walk-items.Pre
+    and 5 walk-items-kinds.ps (is 5 walk-items-kinds.ps μ-walk-items t) walk-items.Pre
 
-abbrev walk-items-below : ℕ → In 4 walk-items-kinds.ps
+abbrev walk-items-below : ℕ → In 5 walk-items-kinds.ps
 walk-items-below t =
-    and 4 walk-items-kinds.ps (falls 4 walk-items-kinds.ps _<_ μ-walk-items t) walk-items.Pre
+    and 5 walk-items-kinds.ps (falls 5 walk-items-kinds.ps _<_ μ-walk-items t) walk-items.Pre
 
 abbrev element-told : ℕ → walk-element-lts.Claims
-element-told t = (names-at-reads.Asked, names-at-reads.Learnt, walk-items-below t, walk-items.Post, union-of-reads.Asked, union-of-reads.Learnt, outside-at-reads.Asked, outside-at-reads.Learnt, lower-reads.Asked, lower-reads.Learnt)
+element-told t = (carriable-names-reads.Asked, carriable-names-reads.Learnt, walk-items-below t, walk-items.Post, union-of-reads.Asked, union-of-reads.Learnt, outside-at-reads.Asked, outside-at-reads.Learnt, lower-reads.Asked, lower-reads.Learnt)
 
 abbrev items-told : ℕ → walk-items-lts.Claims
 items-told t = (item-here-reads.Asked, item-here-reads.Learnt, with-reads.Asked, with-reads.Learnt, walk-element-below t, walk-element.Post, lower-reads.Asked, lower-reads.Learnt)
 
-walk-element-names-at-requires : (t : ℕ) → walk-element-lts.Need-names-at-requires (element-told t) (walk-element-at t) walk-element.Post
-walk-element-names-at-requires t c κs = tt
+walk-element-carriable-names-requires : (t : ℕ) → walk-element-lts.Need-carriable-names-requires (element-told t) (walk-element-at t) walk-element.Post
+walk-element-carriable-names-requires t c κs = search needs
 
 walk-element-walk-items-requires : (t : ℕ) → walk-element-lts.Need-walk-items-requires (element-told t) (walk-element-at t) walk-element.Post
-walk-element-walk-items-requires t c κs = (omega (arith, c .before .names-at .ensures .0), tt)
+walk-element-walk-items-requires t c κs = (omega (arith, c .before .carriable-names .ensures .0), search needs)
 
 walk-element-union-of-requires : (t : ℕ) → walk-element-lts.Need-union-of-requires (element-told t) (walk-element-at t) walk-element.Post
 walk-element-union-of-requires t c κs = search needs
@@ -85,21 +85,21 @@ walk-element-lower-requires t c κs = tt
 walk-element-returns : (t : ℕ) → walk-element-lts.Need-returns (element-told t) (walk-element-at t) walk-element.Post
 walk-element-returns t c =
     let a = c .before .before .before .before .before .before .before .before .before .before .before .args in
-    let n = c .before .before .before .before .before .before .before .before .before .names-at in
+    let n = c .before .before .before .before .before .before .before .before .before .carriable-names in
     let l = c .before .before .before .before .before .before .before .walk-items in
     let u = c .before .before .before .before .before .union-of in
     let o = c .before .before .outside-at in (
       omega (arith, l .ensures .0, n .ensures .0),
-      element-walked (a .s .now) (a .attributes .now) (a .contents .now) (a .brings .now) (a .n) (a .here .at) (a .e) (a .start) (n .result) (n .ensures .1)
+      element-walked (a .s .now) (a .attributes .now) (a .contents .now) (a .graph .now) (a .brings .now) (a .n) (a .here .at) (a .e) (a .start) (n .result) (n .ensures .1)
           (l .result) (l .ensures .1) (u .result) (omega (arith, c .before .before .before .before .before .before .union-of-arg .given)) (u .ensures)
           (o .result) (o .ensures) (c .lower .result) (c .lower .ensures),
     )
 
 abbrev walk-items-Inv-loop : walk-items-lts.InvT-loop
-walk-items-Inv-loop s attributes contents brings n here₀ inside₀ gaps₀ wrong₀ here inside gaps wrong = Going s attributes contents brings n (here₀ .at) (here .at) inside gaps wrong
+walk-items-Inv-loop s attributes contents graph brings n here₀ inside₀ gaps₀ wrong₀ here inside gaps wrong = Going s attributes contents graph brings n (here₀ .at) (here .at) inside gaps wrong
 
 abbrev walk-items-μ-loop : walk-items-lts.MeasureT-loop
-walk-items-μ-loop s attributes contents brings n here₀ inside₀ gaps₀ wrong₀ here inside gaps wrong = length s - here .at
+walk-items-μ-loop s attributes contents graph brings n here₀ inside₀ gaps₀ wrong₀ here inside gaps wrong = length s - here .at
 
 walk-items-loop-holds : (t : ℕ) → walk-items-lts.Need-loop-holds (items-told t) (walk-items-at t) walk-items.Post walk-items-Inv-loop walk-items-μ-loop
 walk-items-loop-holds t c = record { forward = omega arith; goes = λ r A. A }
@@ -126,7 +126,7 @@ walk-items-loop-again t c =
     let m = text-moves _ _ _ (h .ensures .1) _ is-text in
     record {
       forward = omega (arith, l .inv .forward, m .forward);
-      goes = λ r A. l .inv .goes r (list-text _ _ _ _ _ _ _ _ _ (h .result) (h .ensures .0) _ is-text _ (c .with .ensures) r A);
+      goes = λ r A. l .inv .goes r (list-text _ _ _ _ _ _ _ _ _ _ (h .result) (h .ensures .0) _ is-text _ (c .with .ensures) r A);
     }
 
 walk-items-enum-known-g : (t : ℕ) → walk-items-lts.Need-enum-known-g (items-told t) (walk-items-at t) walk-items.Post walk-items-Inv-loop walk-items-μ-loop
@@ -148,7 +148,7 @@ walk-items-loop-again-2 t c =
     let m = gap-moves _ _ _ (h .ensures .1) _ _ is-gap in
     record {
       forward = omega (arith, l .inv .forward, m .0 .forward);
-      goes = λ r A. l .inv .goes r (list-gap _ _ _ _ _ _ _ _ _ (h .result) (h .ensures .0) _ (m .1) _ is-gap _ (c .with2 .ensures) r A);
+      goes = λ r A. l .inv .goes r (list-gap _ _ _ _ _ _ _ _ _ _ (h .result) (h .ensures .0) _ (m .1) _ is-gap _ (c .with2 .ensures) r A);
     }
 
 walk-items-enum-known-e : (t : ℕ) → walk-items-lts.Need-enum-known-e (items-told t) (walk-items-at t) walk-items.Post walk-items-Inv-loop walk-items-μ-loop
@@ -160,7 +160,7 @@ walk-items-with-requires-3 t c κs = element-moves _ _ _ (c .before .before .bef
 walk-items-walk-element-requires : (t : ℕ) → walk-items-lts.Need-walk-element-requires (items-told t) (walk-items-at t) walk-items.Post walk-items-Inv-loop walk-items-μ-loop
 walk-items-walk-element-requires t c κs =
     let m = element-moves _ _ _ (c .before .before .before .before .item-here .ensures .1) _ _ (c .before .before .e .given .1) in
-    (omega (arith, m .0 .inside, m .0 .forward, c .before .before .before .before .before .loop .inv .forward), m .1)
+    (omega (arith, m .0 .inside, m .0 .forward, c .before .before .before .before .before .loop .inv .forward), (m .1, search needs))
 
 walk-items-lower-requires : (t : ℕ) → walk-items-lts.Need-lower-requires (items-told t) (walk-items-at t) walk-items.Post walk-items-Inv-loop walk-items-μ-loop
 walk-items-lower-requires t c κs = tt
@@ -179,7 +179,7 @@ walk-items-loop-again-3 t c =
     let own = c .before .before .walk-element in
     record {
       forward = omega (arith, l .inv .forward, m .0 .forward, own .ensures .0);
-      goes = λ r A. l .inv .goes r (list-element _ _ _ _ _ _ _ _ _ (h .result) (h .ensures .0) _ _ is-element _ (c .before .before .before .with3 .ensures)
+      goes = λ r A. l .inv .goes r (list-element _ _ _ _ _ _ _ _ _ _ (h .result) (h .ensures .0) _ _ is-element _ (c .before .before .before .with3 .ensures)
           (own .result) (own .ensures .1) (c .before .lower .result) (c .before .lower .ensures) r A);
     }
 
@@ -199,7 +199,7 @@ walk-items-loop-again-4 t c =
     let m = blank-moves _ _ _ (h .ensures .1) _ is-blank in
     record {
       forward = omega (arith, l .inv .forward, m .forward);
-      goes = λ r A. l .inv .goes r (list-blank _ _ _ _ _ _ _ _ _ (h .result) (h .ensures .0) _ is-blank r A);
+      goes = λ r A. l .inv .goes r (list-blank _ _ _ _ _ _ _ _ _ _ (h .result) (h .ensures .0) _ is-blank r A);
     }
 
 walk-items-enum-known-next-3 : (t : ℕ) → walk-items-lts.Need-enum-known-next-3 (items-told t) (walk-items-at t) walk-items.Post walk-items-Inv-loop walk-items-μ-loop
@@ -210,13 +210,13 @@ walk-items-returns t c =
     let l = c .before .before .before .before .loop in
     let h = c .before .before .before .item-here in
     let is-end = c .before .next3 .given .1 in
-    (omega (arith, l .inv .forward, end-moves _ _ _ (h .ensures .1) _ is-end), adds-all _ _ _ _ _ _ _ (l .inv .goes _ (list-ends _ _ _ _ _ _ _ _ _ (h .result) (h .ensures .0) _ is-end)))
+    (omega (arith, l .inv .forward, end-moves _ _ _ (h .ensures .1) _ is-end), adds-all _ _ _ _ _ _ _ _ (l .inv .goes _ (list-ends _ _ _ _ _ _ _ _ _ _ (h .result) (h .ensures .0) _ is-end)))
 
 pub +walk-element+walk-items-spec : {M : Type 1} → statement M
 +walk-element+walk-items-spec = close μ-walk-element μ-walk-items (λ t. walk-element-lts.spec (element-told t)
     (walk-element-at t)
     walk-element.Post
-    (walk-element-names-at-requires t)
+    (walk-element-carriable-names-requires t)
     (walk-element-walk-items-requires t)
     (walk-element-union-of-requires t)
     (walk-element-mul-outside-at t)

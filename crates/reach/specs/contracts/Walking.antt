@@ -12,19 +12,22 @@ use Rattle.commands.specs.Reading.{whole}
 use Rattle.vocabularies.specs.Vocabulary.{Rule, Vocabulary, ruleOf, declared, isIn}
 use Rattle.pages.specs.declared.Kind.the-variants.{Template}
 use Rattle.pages.specs.declared.ItemHere.the-variants.{Element}
+use Rattle.pages.specs.declared.AttributeHere.the-variants.{Done}
 use Rattle.pages.specs.Items.{Attribute, Item, Items, one}
-use Rattle.pages.specs.ItemReading.{item, items}
-use Rattle.pages.specs.RightPages.{names}
+use Rattle.pages.specs.ItemReading.{attributes, item, items}
 use Rattle.pages.specs.contracts.Promises.{Located}
-use Rattle.pages.specs.contracts.Steps.{itemHere}
+use Rattle.pages.specs.contracts.Steps.{itemHere, attributeHere}
 use Rattle.summaries.specs.Proposal.{edge}
 use Rattle.summaries.specs.Summaries.{Summary}
 use Rattle.patterns.specs.contracts.Given.{contents}
 use Rattle.patterns.specs.contracts.Rounds.{Sets, anyTemplate}
 use Rattle.patterns.specs.contracts.Reached.{contentsOf}
+use Rattle.patterns.specs.contracts.Elements.{carriableNames}
 use Rattle.patterns.specs.declared.Wrong.{Wrong}
 use Rattle.patterns.specs.contracts.Shows.{onlyIf, lowestMark}
 use Rattle.patterns.specs.contracts.LowestWrong.{wrongIn, LowestWrong, Passing}
+use Rattle.graphs.specs.contracts.Graphs.{Keeps}
+use Rattle.reach.specs.declared.Carriable.{Carriable}
 use Rattle.reach.specs.declared.WalkedElement.{WalkedElement}
 use Rattle.reach.specs.declared.WalkedItems.{WalkedItems}
 use Rattle.reach.specs.contracts.Outlines.{Outline}
@@ -36,14 +39,24 @@ pub record RulesKept (D : Vocabulary) (allowed held : List ℕ) : Type 0 where
   pub allows : (e : ℕ) (r : Rule) → ruleOf (D .rules) e ≡ some r → (a : ℕ) → member (getD allowed e 0) a ≡ isIn a (r .attributes)
   pub holds : (e : ℕ) (r : Rule) → ruleOf (D .rules) e ≡ some r → (c : ℕ) → member (getD held e 0) c ≡ isIn c (r .contents)
 
+-- The names of the attributes at an offset, of an element of template n, that can be carried; and their end.
+abbrev pub TellsCarriable : List ℕ → ℕ → List ℕ → ℕ → Carriable → Type 0
+TellsCarriable s at graph n r = (before : List ℕ) (f end : ℕ) (δ : List Attribute) → attributes f Template s before at ≡ whole δ end → attributeHere s end ≡ Done
+    → (r .next .at ≡ end) × ((G : Summary) → Keeps graph G → (a : ℕ) → member (r .names) a ≡ isIn a (carriableNames G n δ))
+
 module _ (φs : List Items) (G : Summary) (C : Sets) (n : ℕ) where
   -- The contents that each gap of template n can bring.
   abbrev pub Brings : List ℕ → Type 0
   Brings brings = (g c : ℕ) → g < 8 → c < contents → member (getD brings g 0) c ≡ anyTemplate φs (λ m. G (edge n g m) && C m c)
 
-  -- An element's attributes and contents, and those that its rule allows, as sets.
+  -- The words keep the graph, and what its gaps bring.
+  pub record GraphTold (graph brings : List ℕ) : Type 0 where
+    pub keeps : Keeps graph G
+    pub brought : Brings brings
+
+  -- The attributes that an element can carry, its contents, and those that its rule allows, as sets.
   pub record Compared (R : Rule) (δ : List Attribute) (φ : Items) (named allowed inside held : ℕ) : Type 0 where
-    pub has-names : (a : ℕ) → member named a ≡ isIn a (names δ)
+    pub has-names : (a : ℕ) → member named a ≡ isIn a (carriableNames G n δ)
     pub allows : (a : ℕ) → member allowed a ≡ isIn a (R .attributes)
     pub has-contents : (c : ℕ) → c < contents → member inside c ≡ contentsOf φs G C n φ c
     pub holds : (c : ℕ) → member held c ≡ isIn c (R .contents)
@@ -54,28 +67,28 @@ TellsOutside n at named allowed inside held r = (φs : List Items) (G : Summary)
     → Compared φs G C n R δ φ named allowed inside held → r ≡ wrongIn n (onlyIf (plainlyUnder φs G C R n δ φ) at)
 
 -- The lowest element of some items of template n that is plainly wrong, where elements that have a rule are read alone.
-abbrev pub FindsWrong : (ℕ → Bool) → List ℕ → List ℕ → List ℕ → ℕ → Items → Wrong → Type 0
-FindsWrong ruled allowed held brings n φ wrong = (φs : List Items) (G : Summary) (C : Sets) (D : Vocabulary) → RulesKept D allowed held
-    → Brings φs G C n brings → ((e : ℕ) → ruled e ≡ true → declared (D .rules) e ≡ true)
+abbrev pub FindsWrong : (ℕ → Bool) → List ℕ → List ℕ → List ℕ → List ℕ → ℕ → Items → Wrong → Type 0
+FindsWrong ruled allowed held graph brings n φ wrong = (φs : List Items) (G : Summary) (C : Sets) (D : Vocabulary) → RulesKept D allowed held
+    → GraphTold φs G C n graph brings → ((e : ℕ) → ruled e ≡ true → declared (D .rules) e ≡ true)
     → wrong ≡ wrongIn n (lowestMark (λ e mark δ χ. plainlyWrong φs G C D n e δ χ) φ)
 
 -- What is told of an element, and of a list of items.
-pub record ElementWalked (ruled : ℕ → Bool) (allowed held brings : List ℕ) (n : ℕ) (i : Item) (end : ℕ) (r : WalkedElement) : Type 0 where
+pub record ElementWalked (ruled : ℕ → Bool) (allowed held graph brings : List ℕ) (n : ℕ) (i : Item) (end : ℕ) (r : WalkedElement) : Type 0 where
   pub ends : r .next .at ≡ end
-  pub finds : FindsWrong ruled allowed held brings n (one i) (r .wrong)
+  pub finds : FindsWrong ruled allowed held graph brings n (one i) (r .wrong)
 
-pub record ItemsWalked (ruled : ℕ → Bool) (allowed held brings : List ℕ) (n : ℕ) (φ : Items) (end : ℕ) (r : WalkedItems) : Type 0 where
+pub record ItemsWalked (ruled : ℕ → Bool) (allowed held graph brings : List ℕ) (n : ℕ) (φ : Items) (end : ℕ) (r : WalkedItems) : Type 0 where
   pub ends : r .next .at ≡ end
   pub outline : Outline φ (r .inside) (r .gaps)
-  pub finds : FindsWrong ruled allowed held brings n φ (r .wrong)
+  pub finds : FindsWrong ruled allowed held graph brings n φ (r .wrong)
 
-abbrev pub WalksElement : List ℕ → List ℕ → List ℕ → List ℕ → ℕ → ℕ → ℕ → Position → WalkedElement → Type 0
-WalksElement s allowed held brings n at e start r = (ruled : ℕ → Bool) (f depth end : ℕ) (i : Item) → item f Template ruled s depth at ≡ whole i end
-    → Element e start ≡ itemHere s at → ElementWalked ruled allowed held brings n i end r
+abbrev pub WalksElement : List ℕ → List ℕ → List ℕ → List ℕ → List ℕ → ℕ → ℕ → ℕ → Position → WalkedElement → Type 0
+WalksElement s allowed held graph brings n at e start r = (ruled : ℕ → Bool) (f depth end : ℕ) (i : Item) → item f Template ruled s depth at ≡ whole i end
+    → Element e start ≡ itemHere s at → ElementWalked ruled allowed held graph brings n i end r
 
-abbrev pub WalksItems : List ℕ → List ℕ → List ℕ → List ℕ → ℕ → ℕ → WalkedItems → Type 0
-WalksItems s allowed held brings n at r = (ruled : ℕ → Bool) (f depth end : ℕ) (φ : Items) → items f Template ruled s depth at ≡ whole φ end
-    → ItemsWalked ruled allowed held brings n φ end r
+abbrev pub WalksItems : List ℕ → List ℕ → List ℕ → List ℕ → List ℕ → ℕ → ℕ → WalkedItems → Type 0
+WalksItems s allowed held graph brings n at r = (ruled : ℕ → Bool) (f depth end : ℕ) (φ : Items) → items f Template ruled s depth at ≡ whole φ end
+    → ItemsWalked ruled allowed held graph brings n φ end r
 
 -- The words have the contents that can stand in the pages of each template.
 abbrev pub ContentsKept : List Items → Sets → List ℕ → Type 0

@@ -4,7 +4,7 @@ use mathlib.Core.Path.{_≡_}
 use mathlib.Core.List.{List, [], _∷_}
 use mathlib.Core.Bool.{Bool, true, false, cond}
 use lib.ListN.{length, getD}
-use Rattle.vocabularies.specs.Facts.{Fact, present, ordered, valued, sameFact}
+use Rattle.vocabularies.specs.Facts.{Fact, carried, present, ordered, valued, sameFact}
 use Rattle.vocabularies.specs.VocabularyReading.{mostFacts}
 use Rattle.patterns.specs.contracts.Morphisms as Morphisms
 use Rattle.patterns.specs.contracts.Morphisms.{factMorphism, rootMorphism}
@@ -26,6 +26,7 @@ abbrev pub noContent : ℕ
 noContent = 64
 
 abbrev pub contentOf : Fact → ℕ
+contentOf (carried a) = noContent
 contentOf (present c) = c
 contentOf (ordered c d) = noContent
 contentOf (valued a m) = noContent
@@ -33,6 +34,7 @@ contentOf (valued a m) = noContent
 -- A pair is broken across two words if its second content stands in the first word and its first one in the second: the place of
 -- the one or of the other. Other facts have none; there 8 stands, at which no pattern has a flag.
 abbrev pub pairPlace : Bool → List Fact → Fact → ℕ
+pairPlace inFirst fs (carried a) = mostFacts
 pairPlace inFirst fs (present c) = mostFacts
 pairPlace inFirst fs (ordered c d) = placeOf (present (cond inFirst d c)) fs
 pairPlace inFirst fs (valued a m) = mostFacts

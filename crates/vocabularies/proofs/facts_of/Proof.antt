@@ -63,23 +63,26 @@ loop-again-4 c = gathering-on _ _ _ _ _ (c .before .before .before .before .if1 
 enum-known-formula-5 : tie.Need-enum-known-formula-5 Inv-loop μ-loop
 enum-known-formula-5 c = search needs
 
+with-fact-requires : tie.Need-with-fact-requires Inv-loop μ-loop
+with-fact-requires c κs = search needs
+
 loop-less-5 : tie.Need-loop-less-5 Inv-loop μ-loop
-loop-less-5 c = let o = onward (told _ _ (c .before .before .before .formula-here .ensures) (c .before .formula5 .given .1)) in omega (arith, o .0, o .1)
+loop-less-5 c = let o = onward (told _ _ (c .before .before .before .before .formula-here .ensures) (c .before .before .formula5 .given .1)) in omega (arith, o .0, o .1)
 
 loop-again-5 : tie.Need-loop-again-5 Inv-loop μ-loop
-loop-again-5 c = gathering-on _ _ _ _ _ (c .before .before .before .before .if1 .taken) (c .before .before .before .before .before .before .before .loop .inv) (told _ _ (c .before .before .before .formula-here .ensures) (c .before .formula5 .given .1)) _ (attr-adds _ _)
+loop-again-5 c = gathering-on _ _ _ _ _ (c .before .before .before .before .before .if1 .taken) (c .before .before .before .before .before .before .before .before .loop .inv) (told _ _ (c .before .before .before .before .formula-here .ensures) (c .before .before .formula5 .given .1)) _ (attr-adds _ _ _ (c .with-fact .ensures))
 
 enum-known-formula-6 : tie.Need-enum-known-formula-6 Inv-loop μ-loop
 enum-known-formula-6 c = search needs
 
-with-fact-requires : tie.Need-with-fact-requires Inv-loop μ-loop
-with-fact-requires c κs = search needs
+with-fact-requires-2 : tie.Need-with-fact-requires-2 Inv-loop μ-loop
+with-fact-requires-2 c κs = search needs
 
 loop-less-6 : tie.Need-loop-less-6 Inv-loop μ-loop
 loop-less-6 c = let o = onward (told _ _ (c .before .before .before .before .formula-here .ensures) (c .before .before .formula6 .given .1)) in omega (arith, o .0, o .1)
 
 loop-again-6 : tie.Need-loop-again-6 Inv-loop μ-loop
-loop-again-6 c = gathering-on _ _ _ _ _ (c .before .before .before .before .before .if1 .taken) (c .before .before .before .before .before .before .before .before .loop .inv) (told _ _ (c .before .before .before .before .formula-here .ensures) (c .before .before .formula6 .given .1)) _ (content-adds _ _ _ (c .with-fact .ensures))
+loop-again-6 c = gathering-on _ _ _ _ _ (c .before .before .before .before .before .if1 .taken) (c .before .before .before .before .before .before .before .before .loop .inv) (told _ _ (c .before .before .before .before .formula-here .ensures) (c .before .before .formula6 .given .1)) _ (content-adds _ _ _ (c .with-fact2 .ensures))
 
 enum-known-formula-7 : tie.Need-enum-known-formula-7 Inv-loop μ-loop
 enum-known-formula-7 c = search needs
@@ -96,14 +99,14 @@ loop-again-7 c = gathering-on _ _ _ _ _ (c .before .before .before .before .befo
 enum-known-formula-8 : tie.Need-enum-known-formula-8 Inv-loop μ-loop
 enum-known-formula-8 c = search needs
 
-with-fact-requires-2 : tie.Need-with-fact-requires-2 Inv-loop μ-loop
-with-fact-requires-2 c κs = search needs
+with-fact-requires-3 : tie.Need-with-fact-requires-3 Inv-loop μ-loop
+with-fact-requires-3 c κs = search needs
 
 loop-less-8 : tie.Need-loop-less-8 Inv-loop μ-loop
 loop-less-8 c = let o = onward (told _ _ (c .before .before .before .before .formula-here .ensures) (c .before .before .formula8 .given .1)) in omega (arith, o .0, o .1)
 
 loop-again-8 : tie.Need-loop-again-8 Inv-loop μ-loop
-loop-again-8 c = gathering-on _ _ _ _ _ (c .before .before .before .before .before .if1 .taken) (c .before .before .before .before .before .before .before .before .loop .inv) (told _ _ (c .before .before .before .before .formula-here .ensures) (c .before .before .formula8 .given .1)) _ (value-adds _ _ _ _ (c .with-fact2 .ensures))
+loop-again-8 c = gathering-on _ _ _ _ _ (c .before .before .before .before .before .if1 .taken) (c .before .before .before .before .before .before .before .before .loop .inv) (told _ _ (c .before .before .before .before .formula-here .ensures) (c .before .before .formula8 .given .1)) _ (value-adds _ _ _ _ (c .with-fact3 .ensures))
 
 enum-told : tie.Need-enum-told Inv-loop μ-loop
 enum-told c = search needs
@@ -136,10 +139,11 @@ facts-of-spec =
     loop-less-4
     loop-again-4
     enum-known-formula-5
+    with-fact-requires
     loop-less-5
     loop-again-5
     enum-known-formula-6
-    with-fact-requires
+    with-fact-requires-2
     loop-less-6
     loop-again-6
     enum-known-formula-7
@@ -147,7 +151,7 @@ facts-of-spec =
     loop-less-7
     loop-again-7
     enum-known-formula-8
-    with-fact-requires-2
+    with-fact-requires-3
     loop-less-8
     loop-again-8
     enum-told

@@ -19,23 +19,24 @@ use Rattle.vocabularies.specs.declared.VocabularyRead.{VocabularyRead}
 use Rattle.vocabularies.specs.declared.FormulaHere.{FormulaHere}
 use Rattle.vocabularies.specs.declared.FormulaHere.the-variants.{Conj, Disj, Neg, Truth, Attr, Content, Order, Value, Nothing}
 use Rattle.vocabularies.specs.declared.Fact as Kept
-use Rattle.vocabularies.specs.declared.Fact.the-variants.{Present, Ordered, Valued}
+use Rattle.vocabularies.specs.declared.Fact.the-variants.{Carried, Present, Ordered, Valued}
 use Rattle.vocabularies.specs.declared.Facts.{Facts}
 use Rattle.vocabularies.specs.declared.Names.{Names}
 use Rattle.vocabularies.specs.declared.RuleRead.{RuleRead}
-use Rattle.vocabularies.specs.Facts.{Fact, present, ordered, valued, isAmong, add, withFacts, factsOf}
+use Rattle.vocabularies.specs.Facts.{Fact, carried, present, ordered, valued, isAmong, add, withFacts, factsOf}
 use Rattle.vocabularies.specs.Vocabulary.{Formula, conj, disj, neg, truth, attr, content, order, value, Rule, Vocabulary, ruleOf, declared, isIn}
 use Rattle.vocabularies.specs.VocabularyReading.{Shape, binary, unary, leaf, shapeAt, mostFacts, formula, rising, clauses, ruleBody, vocabulary}
 
 -- The fact of the definitions that a fact of the code stands for.
 abbrev pub meaningOf : Kept.Fact → Fact
+meaningOf (Carried a) = carried a
 meaningOf (Present c) = present c
 meaningOf (Ordered c d) = ordered c d
 meaningOf (Valued a set) = valued a (setNumber set)
 
 -- The fact that is kept at a place.
 abbrev pub keptAt : Facts → ℕ → Kept.Fact
-keptAt t i = getD (t .kept) i (record { fact = Present 0 }) .fact
+keptAt t i = getD (t .kept) i (record { fact = Carried 0 }) .fact
 
 abbrev pub Stored : Facts → ℕ → Fact → Type 0
 Stored t i x = meaningOf (keptAt t i) ≡ x

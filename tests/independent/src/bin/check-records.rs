@@ -1,5 +1,7 @@
+//! check-records [before-F-5]
+//!
 //! Job records from standard input, a verdict a line.
 
 fn main() -> std::io::Result<()> {
-    independent::records::print_jobs(independent::check)
+    independent::records::print_jobs(independent::check::check_as)
 }

@@ -1,3 +1,5 @@
+//! infer-records [before-F-5]
+//!
 //! Job records, each up to its `3F`, from standard input; the smallest covering proposal or the refusal a line.
 
 fn main() -> std::io::Result<()> {

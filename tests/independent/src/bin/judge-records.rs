@@ -1,5 +1,7 @@
+//! judge-records [before-F-5]
+//!
 //! Page records from standard input, a verdict a line.
 
 fn main() -> std::io::Result<()> {
-    independent::records::print_pages(independent::judge)
+    independent::records::print_pages(independent::judge::judge_as)
 }

@@ -1,4 +1,4 @@
-//! make-pages SEED COUNT OUT.bin OUT.verdicts [blank]
+//! make-pages SEED COUNT OUT.bin OUT.verdicts [blank|absent]
 //!
 //! Each page that reads is judged without its blank text besides.
 
@@ -8,8 +8,10 @@ use independent::making::{Making, Much};
 use independent::random_pages::{record, too_long};
 use independent::records::line;
 
+const USAGE: &str = "make-pages SEED COUNT OUT.bin OUT.verdicts [blank|absent]";
+
 fn main() -> std::io::Result<()> {
-    let mut making = Making::from_arguments("make-pages SEED COUNT OUT.bin OUT.verdicts [blank]", &[Much::Blank]);
+    let mut making = Making::from_arguments(USAGE, &[Much::Blank, Much::Absent]);
     for index in 0..making.count {
         // One vocabulary and one page that are too long; more of them would fill the file.
         let record = match index {

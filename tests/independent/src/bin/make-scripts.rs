@@ -1,10 +1,11 @@
-//! make-scripts SEED COUNT OUT.bin OUT.lines [blank|frames]
+//! make-scripts SEED COUNT OUT.bin OUT.lines [blank|frames|absent]
 //!
 //! The proposal of each script that reads is worked out without its blank text besides, and with each of its framed
 //! shows taken apart.
 
 use independent::apart::Apart;
 use independent::blank::without;
+use independent::closing::Closing;
 use independent::job::Job;
 use independent::making::{Making, Much};
 use independent::random::Random;
@@ -12,11 +13,12 @@ use independent::random_scripts::{of_length, script};
 use independent::reader::LONGEST;
 use independent::records::Lent;
 
-const USAGE: &str = "make-scripts SEED COUNT OUT.bin OUT.lines [blank|frames]";
+const USAGE: &str = "make-scripts SEED COUNT OUT.bin OUT.lines [blank|frames|absent]";
 
 fn main() -> std::io::Result<()> {
-    let mut making = Making::from_arguments(USAGE, &[Much::Blank, Much::Frames]);
+    let mut making = Making::from_arguments(USAGE, &[Much::Blank, Much::Frames, Much::Absent]);
     let mut lent = Lent::default();
+    let mut older = Lent::of(Closing::StringZero);
     let mut apart = 0;
     for index in 0..making.count {
         // One as long as can be and one too long; more of them would fill the file.
@@ -27,7 +29,11 @@ fn main() -> std::io::Result<()> {
         let line = lent.line(&script);
         if line.starts_with("ok") {
             assert_eq!(lent.line(&without(&script)), line, "{script:02X?}");
-            apart += take_apart(&mut making.random, &mut lent, &script);
+            apart += take_apart(&mut making.trials, &mut lent, Closing::Absence, &script);
+        }
+        // The choices that follow hang on it.
+        if making.much.closing() == Closing::StringZero && older.infer(&script).is_ok() {
+            take_apart(&mut making.random, &mut older, Closing::StringZero, &script);
         }
         making.add(&[&script], &line);
     }
@@ -36,10 +42,10 @@ fn main() -> std::io::Result<()> {
 }
 
 /// Panics where the proposal, a show or a page differs once a framed show is taken apart. Tells how many there were.
-fn take_apart(random: &mut Random, lent: &mut Lent, script: &[u8]) -> usize {
+fn take_apart(random: &mut Random, lent: &mut Lent, closing: Closing, script: &[u8]) -> usize {
     let bytes = [script, lent.infer(script).unwrap()].concat();
     // Together they may be too long.
-    let Ok(job) = Job::read(&bytes) else { return 0 };
+    let Ok(job) = Job::read_as(&bytes, closing) else { return 0 };
     let mut count = 0;
     for point in 0..job.program.points.len() {
         let Some(apart) = Apart::new(&bytes, &job, point) else { continue };

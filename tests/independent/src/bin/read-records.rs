@@ -1,5 +1,7 @@
+//! read-records [before-F-5]
+//!
 //! Job records from standard input, the verdict on reading a line.
 
 fn main() -> std::io::Result<()> {
-    independent::records::print_jobs(independent::read_job)
+    independent::records::print_jobs(independent::job::read_job_as)
 }

@@ -1,3 +1,5 @@
+//! run-records [before-F-5]
+//!
 //! Records of a job and a list of choices from standard input, the pages that the run shows a line.
 
 fn main() -> std::io::Result<()> {

@@ -5,8 +5,8 @@ use mathlib.Core.Logic.{inl, inr}
 use native.Mathlib.Omega.{arith}
 use Rattle.clauses.proofs.AttributeFlags.{NamedTo, named-more, named-all}
 use borrow.Author.Needs.{needs}
-use Rattle.clauses.proofs.valued_names.Statement.{statement}
-use Rattle.clauses.proofs.valued_names.Tie as tie
+use Rattle.clauses.proofs.attributes_of.Statement.{statement}
+use Rattle.clauses.proofs.attributes_of.Tie as tie
 
 abbrev Inv-loop : tie.InvT-loop
 Inv-loop facts count names₀ i₀ names i = (i ≤ 8) × NamedTo facts i names
@@ -26,8 +26,8 @@ mul-kept c = search needs
 element-copy-out-kept : tie.Need-element-copy-out-kept Inv-loop μ-loop
 element-copy-out-kept c = search needs
 
-with-valued-requires : tie.Need-with-valued-requires Inv-loop μ-loop
-with-valued-requires c κs = search needs
+with-attribute-requires : tie.Need-with-attribute-requires Inv-loop μ-loop
+with-attribute-requires c κs = search needs
 
 add-i : tie.Need-add-i Inv-loop μ-loop
 add-i c = search needs
@@ -38,13 +38,13 @@ loop-less c = search needs
 loop-again : tie.Need-loop-again Inv-loop μ-loop
 loop-again c =
     let l = c .before .before .before .before .loop in
-    (omega arith, named-more _ (l .i) _ _ _ (omega arith) (omega arith) refl (c .with-valued .ensures) (l .inv .1))
+    (omega arith, named-more _ (l .i) _ _ _ (omega arith) (omega arith) refl (c .with-attribute .ensures) (l .inv .1))
 
 returns-2 : tie.Need-returns-2 Inv-loop μ-loop
 returns-2 c = named-all _ _ _ (inr (c .loop-test .left)) (c .before .loop .inv .1)
 
-pub valued-names-spec : {M : Type 1} → statement M
-valued-names-spec =
+pub attributes-of-spec : {M : Type 1} → statement M
+attributes-of-spec =
     tie.close
     (tie.spec
     Inv-loop
@@ -53,7 +53,7 @@ valued-names-spec =
     returns
     mul-kept
     element-copy-out-kept
-    with-valued-requires
+    with-attribute-requires
     add-i
     loop-less
     loop-again
