@@ -178,19 +178,15 @@ fn facts(quarters: usize) -> Vec<u8> {
     chain(31, 8 * quarters)
 }
 
-/// The strings at each attribute gap, eight apart.
-const STRINGS: u8 = 4;
-
-/// A clause of eight facts about two attributes and two contents: where a content is not there, its attribute is of one set, or
-/// it is there and of the other. The strings lie in one set, the other or both, and absence counts as in both, so that every page
-/// meets the clause; but it is not true of all patterns.
+/// A clause of eight facts about two attributes and two contents: unless the content is there, the attribute is of one set, or it is
+/// there and of the other. Each string below 32 is of one of these sets or of both, and absence is of both; so every page meets the
+/// clause, though not every pattern does.
 fn of_two_sets(i: usize) -> Vec<u8> {
-    let first = (i % 8) as u8;
-    let second = ((i + 1 + i / 8) % 8) as u8;
-    let [one, other] = [0x00FF_FFFFu32, 0xFFFF_0000].map(|set| (set.rotate_left(8 * (i % 4) as u32) as u64).to_be_bytes());
+    let turn = 8 * (i % 4) as u32;
+    let [one, other] = [0x00FF_FFFF, 0xFFFF_0000u32].map(|set| (set.rotate_left(turn) as u64).to_be_bytes());
     let mut clause = vec![0x10];
-    for (a, c) in [(first, i % 4), (second, (i + 1) % 4)] {
-        clause.extend([0x11, 0x15, 2 + c as u8, 0x11, 0x17, a]);
+    for (a, c) in [(i, i), (i + 1 + i / 8, i + 1)].map(|(a, c)| ((a % 8) as u8, 2 + (c % 4) as u8)) {
+        clause.extend([0x11, 0x15, c, 0x11, 0x17, a]);
         clause.extend(one);
         clause.extend([0x10, 0x14, a, 0x17, a]);
         clause.extend(other);
@@ -198,14 +194,14 @@ fn of_two_sets(i: usize) -> Vec<u8> {
     clause
 }
 
-/// Elements in one another's place: each has eight attributes by attribute gaps that stay open or take a string, and two gaps that
-/// stay open or take one of four elements. No two that stand side by side have the same gap for an attribute.
+/// A template of many elements under 32 clauses. Each has eight attributes, absent or with one of four strings, and up to two
+/// contents. No two that stand side by side have an attribute by the same gap.
 fn attribute_gaps(quarters: usize) -> Vec<u8> {
     let mut template = vec![0x23, 1];
     for i in 0..450 * quarters {
         template.extend([0x23, 1]);
         for a in 0..8 {
-            template.extend([0x25, a, (a + i as u8) % 8]);
+            template.extend([0x25, a, (a + (i % 8) as u8) % 8]);
         }
         template.extend([0x22, 0, 0x22, 1, 0x26]);
     }
@@ -216,12 +212,12 @@ fn attribute_gaps(quarters: usize) -> Vec<u8> {
         templates.push(vec![0x23, e, 0x26]);
         edges.extend([[1, 0, e], [1, 1, e]]);
     }
-    let strings: Vec<[u8; 3]> = (0..8 * STRINGS).map(|s| [1, s % 8, s]).collect();
+    let strings: Vec<[u8; 3]> = (0..32).map(|s| [1, s % 8, s]).collect();
     let clauses: Vec<Vec<u8>> = (0..32).map(of_two_sets).collect();
-    let mut rules = vocabulary(5, &clauses);
-    // Element 1 may have all these attributes.
-    rules.splice(2..2, (0..8).flat_map(|a| [0x02, a]));
-    job_with_strings(rules, templates, &[SHOW.to_vec()], &edges, &strings)
+    let mut vocabulary = vocabulary(5, &clauses);
+    // The root's rule allows the attributes, before its contents.
+    vocabulary.splice(2..2, (0..8).flat_map(|a| [0x02, a]));
+    job_with_strings(vocabulary, templates, &[SHOW.to_vec()], &edges, &strings)
 }
 
 fn clauses(quarters: usize) -> Vec<u8> {
