@@ -1,7 +1,7 @@
 #!/bin/sh
 # vectors.sh VECTORS: makes anew what the programs of the gate read and have to print. VECTORS is the folder of supplied vectors; the
 # random records and those at the limits come from tests/independent, always the same for these seeds. The records called blank have
-# much blank text, those called frames many shows in a frame, those called absent attributes that can be absent.
+# much blank text, those called frames many shows in a frame, those called absent many attributes that can be absent.
 set -eu
 vectors=$(cd "$1" && pwd)
 # What the calls answer since the newest request; it takes the place of the folders of earlier ones.
@@ -30,7 +30,7 @@ make="$CARGO_TARGET_DIR/release"
 # moved PROGRAM RECORDS LINES: the lines of supplied records, of which F-5 has moved some. Without it the independent program prints the
 # supplied ones.
 moved() {
-    "$make/$1" before-F-5 < "$2" | cmp - "$3"
+    "$make/$1" before-F-5 < "$2" | cmp - "$3" >&2
     "$make/$1" < "$2"
 }
 
@@ -51,9 +51,28 @@ too_long() {
 { tail -c +5 "$made/job-limits.bin" | head -c 65535; printf '\000'; } > crates/page_check/stdin
 echo '1 0 0 0' > crates/page_check/stdout
 
-# At the end a job that is too long, J1, and a byte of a length: no line is for that one.
+# repeated N BYTES: bytes, in octal, N times.
+repeated() {
+    for _ in $(seq "$1"); do printf "$2"; done
+}
+
+# A job that takes the most stack: its template is 16 elements in one another, each with an attribute that can be absent, and the clause
+# of their rule has 16 connectives above `13`.
+{
+    printf '\001\001\002\000\003\001\004'
+    repeated 16 '\022'
+    printf '\023\005\001\040'
+    repeated 16 '\043\001\045\000\000'
+    repeated 16 '\046'
+    printf '\047\057\061\000\001\001\001\067\000\002\002\070\077\100\000\000\101\000'
+    printf '\100\001\000\101\001\106\000\001\100\002\000\101\001\106\000\001\117'
+} > "$made/deep"
+
+# At the end this job, one that is too long, J1, and a byte of a length: no line is for that one.
 {
     cat "$vectors"/jobs-*.bin "$newest/job.bin" "$made/jobs.bin" "$made/blank-jobs.bin" "$made/framed-jobs.bin" "$made/absent-jobs.bin" "$made/job-limits.bin"
+    length "$(wc -c < "$made/deep")"
+    cat "$made/deep"
     too_long examples/J1
     length 121
     cat examples/J1
@@ -64,6 +83,7 @@ echo '1 0 0 0' > crates/page_check/stdout
         moved check-records "$supplied" "${supplied%.bin}.verdicts"
     done
     cat "$newest/job.lines" "$made/jobs.verdicts" "$made/blank-jobs.verdicts" "$made/framed-jobs.verdicts" "$made/absent-jobs.verdicts" "$made/job-limits.verdicts"
+    echo '0 0 0 0'
     echo '1 0 0 0'
     echo '0 0 0 0'
 } > crates/check_records/stdout

@@ -19,9 +19,7 @@ use Rattle.vocabularies.specs.Facts.{Fact, present}
 use Rattle.vocabularies.specs.contracts.Promises.{Stored, Represents}
 use Rattle.patterns.specs.contracts.Patterns.{flagged, numbered, patternOf}
 use Rattle.patterns.specs.contracts.Morphisms.{factMorphism}
-use Rattle.patterns.specs.contracts.Rounds.{only, anyNamed}
 use Rattle.patterns.specs.contracts.Elements.{attributePattern, absencePattern, takenPatterns}
-use Rattle.patterns.proofs.Tests.{any-below, below-any}
 use Rattle.sets.proofs.Booleans.{or-left, or-right, or-cases, and-both, and-left, and-right, alike, refuted}
 use Rattle.patterns.proofs.Clauses.{pattern-below}
 use Rattle.patterns.proofs.Bits.{pattern-of-nothing}

@@ -70,7 +70,7 @@ pub fn attribute_pattern(facts: Facts, a: u8, s: u8) -> u8
     pattern
 }
 
-// Names with one more.
+// Names with one more. No attribute has a number of 64 or more.
 fn with_name(names: u64, a: u8) -> u64
     ensures { λ r. ⌜ WithName names a r ⌝ }
 {

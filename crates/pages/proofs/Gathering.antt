@@ -18,7 +18,7 @@ use Rattle.pages.specs.declared.ItemHere.the-variants.{Text, Gap, Elemen
 use Rattle.pages.specs.declared.AttributeHere.{AttributeHere}
 use Rattle.pages.specs.declared.AttributeHere.the-variants.{Fixed, Open, Done}
 use Rattle.pages.specs.declared.GapsFound.{GapsFound}
-use Rattle.pages.specs.Items.{Attribute, Item, Items, none, templateAt, gapIn, gapInItem, openIn, attributeGapIn, attributeGapInItem}
+use Rattle.pages.specs.Items.{Item, Items, none, templateAt, gapIn, gapInItem, openIn, attributeGapIn, attributeGapInItem}
 use Rattle.pages.specs.ItemReading.{attributes, items}
 use Rattle.pages.specs.contracts.Steps.{itemHere, ItemMoves, attributeHere, AttributeMoves}
 use Rattle.pages.specs.contracts.Gaps.{hasGap, hasAttributeGap, GapsAre, ItemsStand, StartsAt, GapsAdded, AttributeGaps, ElementGaps, ItemsGaps}

@@ -1,6 +1,6 @@
 -- The patterns of an element are exact: each is that of some choice of strings and absence for its attributes and of some contents, and a
 -- clause can fail exactly if it fails for one of them. All strings outside the named ones give an attribute the same pattern.
-use Prim.Native.Nat.{ℕ, suc, _≤_, _^_}
+use Prim.Native.Nat.{ℕ, _≤_, _^_}
 use native.Mathlib.Omega.{arith}
 use mathlib.Core.Path.{_≡_, refl, sym, ap, ap₂, subst, _∙_}
 use mathlib.Core.List.{List, [], _∷_}

@@ -1,8 +1,8 @@
 -- The attributes of an element, one after the other: those that some string reaches can be carried.
-use Prim.Native.Nat.{ℕ, _≤_, _<_}
+use Prim.Native.Nat.{ℕ, _<_}
 use native.Mathlib.Omega.{arith}
 use mathlib.Core.Path.{_≡_, refl, sym, _∙_}
-use mathlib.Core.List.{List, [], _∷_}
+use mathlib.Core.List.{List, _∷_}
 use mathlib.Core.Bool.{Bool, true, false, cond, _&&_, _||_, or-false, and-true, and-false}
 use lib.Dec.{eqb}
 use Rattle.sets.specs.Sets.{member}
@@ -16,6 +16,7 @@ use Rattle.pages.specs.declared.AttributeHere.the-variants.{Fixed, Open, Done}
 use Rattle.pages.specs.Items.{open-gap, Attribute}
 use Rattle.pages.specs.ItemReading.{attributes}
 use Rattle.pages.specs.contracts.Steps.{attributeHere}
+use Rattle.pages.proofs.Gathering.{Onto}
 use Rattle.pages.proofs.Steps.{fixed-first, open-first, none-first}
 use Rattle.summaries.specs.Summaries.{Summary}
 use Rattle.patterns.specs.contracts.Rounds.{stringReaches}
@@ -38,24 +39,12 @@ name-if false named ns a b = rw (and-false (eqb b a))
 module _ (s graph : List ℕ) (n : ℕ) where
   -- What the attributes from an offset on add to the names so far.
   abbrev pub CarryFrom : ℕ → ℕ → Carriable → Type 0
-  CarryFrom named at r = (before : List ℕ) (f end : ℕ) (δ : List Attribute) → attributes f Template s before at ≡ whole δ end → attributeHere s end ≡ Done
+  CarryFrom at named r = (before : List ℕ) (f end : ℕ) (δ : List Attribute) → attributes f Template s before at ≡ whole δ end → attributeHere s end ≡ Done
       → (r .next .at ≡ end) × ((G : Summary) → Keeps graph G → (a : ℕ) → member (r .names) a ≡ (member named a || isIn a (carriableNames G n δ)))
 
-  pub record CarryingTo (start named at : ℕ) : Type 0 where
-    pub forward : start ≤ at
-    pub goes : (r : Carriable) → CarryFrom named at r → TellsCarriable s start graph n r
-
-  pub carrying-begins : (at : ℕ) → CarryingTo at 0 at
-  carrying-begins at = record {
-    forward = omega arith;
-    goes = λ r go before f end δ reads done.
-        let (after, told) = go before f end δ reads done in
-        (after, λ G keeps a. told G keeps a ∙ rw (member-zero a));
-  }
-
-  module _ (start named at : ℕ) (so-far : CarryingTo start named at) (h : AttributeHere) (is : h ≡ attributeHere s at) where
+  module _ (start named at : ℕ) (so-far : Onto CarryFrom start 0 at named) (h : AttributeHere) (is : h ≡ attributeHere s at) where
     pub carrying-fixed : (a v : ℕ) (next : Position) → h ≡ Fixed a v next → at < next .at → (more : ℕ) → ((k : ℕ) → member more k ≡ (eqb k a || member named k))
-        → CarryingTo start more (next .at)
+        → Onto CarryFrom start 0 (next .at) more
     unfolding carriableNames
     carrying-fixed a v next e on more is-more = record {
       forward = omega (arith, so-far .forward);
@@ -66,7 +55,7 @@ module _ (s graph : List ℕ) (n : ℕ) where
     }
 
     pub carrying-open : (a g : ℕ) (next : Position) → h ≡ Open a g next → at < next .at → (u : Bool) → ((G : Summary) → Keeps graph G → g < 8 → u ≡ stringReaches G n (open-gap g))
-        → (more : ℕ) → ((k : ℕ) → member more k ≡ ((eqb k a && u) || member named k)) → CarryingTo start more (next .at)
+        → (more : ℕ) → ((k : ℕ) → member more k ≡ ((eqb k a && u) || member named k)) → Onto CarryFrom start 0 (next .at) more
     unfolding carriableNames
     carrying-open a g next e on u is-u more is-more = record {
       forward = omega (arith, so-far .forward);
@@ -78,6 +67,8 @@ module _ (s graph : List ℕ) (n : ℕ) where
 
     pub carrying-done : (r : Carriable) → h ≡ Done → r ≡ record { names = named; next = record { at = at } } → TellsCarriable s start graph n r
     unfolding carriableNames isIn
-    carrying-done r e r-is = so-far .goes r (λ before f end δ reads done.
+    carrying-done r e r-is before f end δ reads done =
+        let (after, told) = so-far .goes r (λ before f end δ reads done.
         let q = none-first f Template s before at δ end reads done h is e in
-        rw (r-is, q .no-more) (q .here, λ G keeps a. sym (or-false (member named a))))
+        rw (r-is, q .no-more) (q .here, λ G keeps a. sym (or-false (member named a)))) before f end δ reads done in
+        (after, λ G keeps a. told G keeps a ∙ rw (member-zero a))

@@ -8,7 +8,7 @@ use Rattle.verdicts.specs.declared.Form.{Form}
 use Rattle.verdicts.specs.declared.Form.the-variants.{TooManyFacts}
 use Rattle.commands.specs.Commands.{command}
 use Rattle.commands.specs.Reading.{Read, whole, refused, unfinished}
-use Rattle.vocabularies.specs.Vocabulary.{Formula, conj, disj, neg, attr, order, value, Vocabulary, ruleOf}
+use Rattle.vocabularies.specs.Vocabulary.{conj, disj, neg, attr, order, value, Vocabulary, ruleOf}
 use Rattle.vocabularies.specs.Facts.{carried, present, ordered, valued, withFacts, factsOf}
 use Rattle.vocabularies.specs.VocabularyReading.{vocabularySlice}
 

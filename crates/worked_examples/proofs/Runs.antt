@@ -1,4 +1,4 @@
--- Runs by computation (document 01, "A run"): each example is a sentence of it where a run is easily written otherwise.
+-- Runs by computation (document 01, "A run"; document 02, F-5): each example is a sentence of them where a run is easily written otherwise.
 use Prim.Native.Nat.{ℕ}
 use mathlib.Core.Path.{_≡_, refl}
 use mathlib.Core.List.{List, [], _∷_}

@@ -1,5 +1,5 @@
--- Jobs whose attribute gaps can still be open at a show (document 02, F-5), in a table like that of the marked cases. The one template is
--- element 1, with attributes and nothing in it.
+-- Jobs about attributes that can be absent (document 02, F-5), in a table like that of the marked cases. The one template is element 1, with
+-- nothing in it.
 use Prim.Native.Nat.{ℕ}
 use mathlib.Core.List.{List, [], _∷_, _++_}
 use Rattle.verdicts.specs.Printed.{prints}
@@ -46,7 +46,7 @@ absentTable =
     ∷ record { bytes = shown [] gapped (openOr 5); numbers = prints 12 1 1 5 }
     -- Allowed by `02 00`, with string 5 and without.
     ∷ record { bytes = shown (0x02 ∷ 0x00 ∷ []) gapped (openOr 5); numbers = prints 0 0 0 0 }
-    -- Absence makes `17` true; string 0, which closed the gap before, would not be of the set.
+    -- Absence makes `17` true; string 0 would not be of the set.
     ∷ record { bytes = shown (0x02 ∷ 0x00 ∷ 0x04 ∷ oneString) gapped opened; numbers = prints 0 0 0 0 }
     -- String 0 counts where the summary holds it.
     ∷ record { bytes = shown (0x02 ∷ 0x00 ∷ 0x04 ∷ oneString) gapped (openOr 0); numbers = prints 12 1 1 18 }

@@ -1,8 +1,8 @@
 -- What the code over clauses promises, for the facts that a table keeps.
-use Prim.Native.Nat.{ℕ, _^_, _≤_, _<_}
+use Prim.Native.Nat.{ℕ, _^_, _<_}
 use mathlib.Core.Path.{_≡_}
 use mathlib.Core.List.{List, [], _∷_}
-use mathlib.Core.Bool.{Bool, true, false, not, _&&_, _||_}
+use mathlib.Core.Bool.{Bool, true, false, not, _&&_}
 use mathlib.Core.Option.{Option}
 use mathlib.Core.Logic.{_⊎_}
 use lib.ListN.{length}
@@ -42,7 +42,7 @@ TellsApart f a set = (s k : ℕ) → hasString set k ≡ hasString set s → fla
 abbrev pub IsPattern : Facts → ℕ → ℕ → ℕ → Type 0
 IsPattern t a s p = OfFacts t (λ fs. p ≡ attributePattern fs a s)
 
--- Names with one more.
+-- At least these names, and a, if it is below 64.
 pub record WithName (names a r : ℕ) : Type 0 where
   pub keeps : (k : ℕ) → member r k ≡ false → member names k ≡ false
   pub others : (k : ℕ) → k < wordSize → member r k ≡ false → eqb k a ≡ false

@@ -3,20 +3,21 @@ use Prim.Native.Nat.{_-_}
 use mathlib.Core.Path.{refl}
 use native.Mathlib.Omega.{arith}
 use lib.ListN.{length}
+use Rattle.pages.proofs.Gathering.{Onto}
 use Rattle.pages.proofs.Steps.{fixed-moves, open-moves}
-use Rattle.reach.proofs.Carrying.{CarryingTo, carrying-begins, carrying-fixed, carrying-open, carrying-done}
+use Rattle.reach.proofs.Carrying.{CarryFrom, carrying-fixed, carrying-open, carrying-done}
 use borrow.Author.Needs.{needs}
 use Rattle.reach.proofs.carriable_names.Statement.{statement}
 use Rattle.reach.proofs.carriable_names.Tie as tie
 
 abbrev Inv-loop : tie.InvT-loop
-Inv-loop s graph n here₀ names₀ here names = CarryingTo s graph n (here₀ .at) names (here .at)
+Inv-loop s graph n here₀ names₀ here names = Onto (CarryFrom s graph n) (here₀ .at) 0 (here .at) names
 
 abbrev μ-loop : tie.MeasureT-loop
 μ-loop s graph n here₀ names₀ here names = length s - here .at
 
 loop-holds : tie.Need-loop-holds Inv-loop μ-loop
-loop-holds c = carrying-begins _ _ _ _
+loop-holds c = record { forward = omega arith; goes = λ r told. told }
 
 attribute-here-requires : tie.Need-attribute-here-requires Inv-loop μ-loop
 attribute-here-requires c κs = search needs
