@@ -1,5 +1,7 @@
 /* The page check, for x86-64. Each call answers a verdict as four numbers: its kind N and its places A, B, C, unused ones 0 (README.md
-   has the table); a call that writes tells a fifth, the number of bytes written.
+   has the table); a call that writes tells a fifth, the number of bytes written. A wrong element has 12, 14 or 15, by its attributes, its
+   contents or a clause of its rule: A is the point, C the offset of its `23`, and B its template, or for 15 the clause's place in the
+   rule, from 0; for a page that is judged alone A is 0, and B too, but for 15.
 
    Memory is lent as a pointer and a length. Any values may stand in it, and it may have any length; NULL with length 0 is allowed. What is
    lent as `const` is read and never written to. `verdict` and `answer` are not NULL; they are written to. No two pieces lent to one call

@@ -1,11 +1,12 @@
 #!/bin/sh
 # vectors.sh VECTORS: makes anew what the programs of the gate read and have to print. VECTORS is the folder of supplied vectors; the
 # random records and those at the limits come from tests/independent, always the same for these seeds. The records called blank have
-# much blank text, those called frames many shows in a frame, those called absent many attributes that can be absent.
+# much blank text, those called frames many shows in a frame, those called absent many attributes that can be absent, those called
+# kinds elements that are wrong in several ways.
 set -eu
 vectors=$(cd "$1" && pwd)
 # What the calls answer since the newest request; it takes the place of the folders of earlier ones.
-newest="$vectors/F-5"
+newest="$vectors/F-6"
 cd "$(dirname "$0")/.."
 : "${CARGO_TARGET_DIR:=$PWD/target/independent}"
 export CARGO_TARGET_DIR
@@ -26,9 +27,11 @@ make="$CARGO_TARGET_DIR/release"
 "$make/make-pages" 4 1000 "$made/absent-pages.bin" "$made/absent-pages.verdicts" absent
 "$make/make-jobs" 4 1000 "$made/absent-jobs.bin" "$made/absent-jobs.verdicts" absent
 "$make/make-scripts" 4 500 "$made/absent-scripts.bin" "$made/absent-scripts.lines" absent
+"$make/make-pages" 5 1000 "$made/kinds-pages.bin" "$made/kinds-pages.verdicts" kinds
+"$make/make-jobs" 5 1000 "$made/kinds-jobs.bin" "$made/kinds-jobs.verdicts" kinds
 
-# moved PROGRAM RECORDS LINES: the lines of supplied records, of which F-5 has moved some. Without it the independent program prints the
-# supplied ones.
+# moved PROGRAM RECORDS LINES: the lines of supplied records, of which F-5 and F-6 have moved some. Without them the independent program
+# prints the supplied ones.
 moved() {
     "$make/$1" before-F-5 < "$2" | cmp - "$3" >&2
     "$make/$1" < "$2"
@@ -70,7 +73,7 @@ repeated() {
 
 # At the end this job, one that is too long, J1, and a byte of a length: no line is for that one.
 {
-    cat "$vectors"/jobs-*.bin "$newest/job.bin" "$made/jobs.bin" "$made/blank-jobs.bin" "$made/framed-jobs.bin" "$made/absent-jobs.bin" "$made/job-limits.bin"
+    cat "$vectors"/jobs-*.bin "$newest/job.bin" "$made/jobs.bin" "$made/blank-jobs.bin" "$made/framed-jobs.bin" "$made/absent-jobs.bin" "$made/kinds-jobs.bin" "$made/job-limits.bin"
     length "$(wc -c < "$made/deep")"
     cat "$made/deep"
     too_long examples/J1
@@ -82,7 +85,7 @@ repeated() {
     for supplied in "$vectors"/jobs-*.bin; do
         moved check-records "$supplied" "${supplied%.bin}.verdicts"
     done
-    cat "$newest/job.lines" "$made/jobs.verdicts" "$made/blank-jobs.verdicts" "$made/framed-jobs.verdicts" "$made/absent-jobs.verdicts" "$made/job-limits.verdicts"
+    cat "$newest/job.lines" "$made/jobs.verdicts" "$made/blank-jobs.verdicts" "$made/framed-jobs.verdicts" "$made/absent-jobs.verdicts" "$made/kinds-jobs.verdicts" "$made/job-limits.verdicts"
     echo '0 0 0 0'
     echo '1 0 0 0'
     echo '0 0 0 0'
@@ -92,7 +95,7 @@ repeated() {
 head -c 23 examples/page.records | tail -c 19 > "$made/vocabulary"
 tail -c 8 examples/page.records > "$made/page"
 {
-    cat "$vectors/pages.bin" "$newest/judge.bin" "$made/pages.bin" "$made/blank-pages.bin" "$made/absent-pages.bin" "$made/limits.bin"
+    cat "$vectors/pages.bin" "$newest/judge.bin" "$made/pages.bin" "$made/blank-pages.bin" "$made/absent-pages.bin" "$made/kinds-pages.bin" "$made/limits.bin"
     too_long "$made/vocabulary"
     length 8
     cat "$made/page"
@@ -107,7 +110,7 @@ tail -c 8 examples/page.records > "$made/page"
 } > crates/judge_records/stdin
 {
     moved judge-records "$vectors/pages.bin" "$vectors/pages.verdicts"
-    cat "$newest/judge.lines" "$made/pages.verdicts" "$made/blank-pages.verdicts" "$made/absent-pages.verdicts" "$made/limits.verdicts"
+    cat "$newest/judge.lines" "$made/pages.verdicts" "$made/blank-pages.verdicts" "$made/absent-pages.verdicts" "$made/kinds-pages.verdicts" "$made/limits.verdicts"
     echo '1 0 0 0'
     echo '1 0 1 0'
     echo '0 0 0 0'

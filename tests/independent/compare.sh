@@ -17,7 +17,7 @@ differing() {
         n="$(wc -l < "$1")" "$1" "$2"
 }
 
-# answer PROGRAM RECORDS LINES [before-F-5]: leaves the numbers of the records with another line in $work/differing.
+# answer PROGRAM RECORDS LINES [before-F-n]: leaves the numbers of the records with another line in $work/differing.
 answer() {
     "$programs/$1" ${4:-} < "$2" > "$work/found"
     name="$1 $(basename "$(dirname "$2")")/$(basename "$2")"
@@ -37,46 +37,47 @@ compare() {
     fi
 }
 
-# compare_older COMMANDS PROGRAM RECORDS LINES SLICES: the lines are older than F-5, and the answers from before it are
-# compared. If they are older than the commands too, one of these that the reading came to was refused with 3 there; only
-# such answers may have moved. COMMANDS is "none" where there are no such commands.
+# compare_older REQUEST COMMANDS PROGRAM RECORDS LINES SLICES: the lines are older than the request, and the answers from
+# before it are compared. If they are older than the commands too, one of these that the reading came to was refused with 3
+# there; only such answers may have moved. COMMANDS is "none" where there are no such commands.
 compare_older() {
-    answer "$2" "$3" "$4" before-F-5
+    answer "$3" "$4" "$5" "before-$1"
     : > "$work/refused"
-    if [ "$1" != none ]; then
-        "$programs/refused-at" "$1" "$5" "$4" < "$3" > "$work/refused"
+    if [ "$2" != none ]; then
+        "$programs/refused-at" "$2" "$6" "$5" < "$4" > "$work/refused"
     fi
-    "$programs/$2" < "$3" > "$work/now"
-    moved="$(differing "$work/found" "$work/now" | wc -l) moved by F-5"
+    "$programs/$3" < "$4" > "$work/now"
+    moved="$(differing "$work/found" "$work/now" | wc -l) moved from $1 on"
     if grep -vxF -f "$work/refused" "$work/differing" > "$work/unexplained"; then
-        echo "$name: $(wc -l < "$work/unexplained") of $lines differ, and not by F-5 or a 3 at later commands"
+        echo "$name: $(wc -l < "$work/unexplained") of $lines differ from before $1, and not by a 3 at later commands"
         status=1
     elif [ "$differ" -eq 0 ]; then
         echo "$name: all $lines agreed, $moved"
     else
-        echo "$name: $((lines - differ)) of $lines agreed, $differ refused with 3 at $1 before, $moved"
+        echo "$name: $((lines - differ)) of $lines agreed, $differ refused with 3 at $2 before, $moved"
     fi
 }
 
 for records in "$vectors"/pages*.bin; do
-    compare_older 29,39 judge-records "$records" "${records%.bin}.verdicts" 2
+    compare_older F-5 29,39 judge-records "$records" "${records%.bin}.verdicts" 2
 done
 for records in "$vectors"/jobs*.bin; do
     # A job refused by 9 to 12 reads.
     awk '{ print ($1 > 8) ? "0 0 0 0" : $0 }' "${records%.bin}.verdicts" > "$work/reading"
-    compare_older 29,39 read-records "$records" "$work/reading" 1
-    compare_older 29,39 check-records "$records" "${records%.bin}.verdicts" 1
+    compare_older F-5 29,39 read-records "$records" "$work/reading" 1
+    compare_older F-5 29,39 check-records "$records" "${records%.bin}.verdicts" 1
 done
 for kind in judge:judge:2 check:job:1 infer:infer:1 run:run:2; do
     program="${kind%%:*}-records"
     slices=${kind##*:}
     kind=${kind#*:}
     kind=${kind%:*}
-    for older in F-1:29,39 F-2:39 F-3:none F-4:none; do
-        request=${older%%:*}
-        compare_older "${older#*:}" "$program" "$vectors/$request/$kind.bin" "$vectors/$request/$kind.lines" "$slices"
+    for older in F-1:F-5:29,39 F-2:F-5:39 F-3:F-5:none F-4:F-5:none F-5:F-6:none; do
+        folder="$vectors/${older%%:*}"
+        older=${older#*:}
+        compare_older "${older%:*}" "${older#*:}" "$program" "$folder/$kind.bin" "$folder/$kind.lines" "$slices"
     done
-    for landed in F-5; do
+    for landed in F-6; do
         compare "$program" "$vectors/$landed/$kind.bin" "$vectors/$landed/$kind.lines"
     done
 done

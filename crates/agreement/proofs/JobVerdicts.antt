@@ -1,5 +1,5 @@
 -- A job has at most one verdict. Its verdict is that of the first place, in document 01's order, at which something fails, and there is
--- one first place. The cases are laid out in that order: reading, the start, the steps, the shows, and 11 before 12 at a show.
+-- one first place. The cases are laid out in that order: reading, the start, the steps, the shows, and 11 before a wrong element at a show.
 use Prim.Native.Nat.{ℕ, _≤_, _<_}
 use native.Mathlib.Omega.{arith}
 use native.Mathlib.Decide.{decLe}
@@ -8,18 +8,23 @@ use mathlib.Core.List.{List}
 use mathlib.Core.Bool.{Bool, true, false}
 use lib.ListN.{length}
 use Rattle.verdicts.specs.declared.Numbers.{Numbers}
-use Rattle.verdicts.specs.Printed.{prints}
-use Rattle.commands.specs.Reading.{whole, refused, enough}
+use Rattle.verdicts.specs.declared.Breach.{Breach}
+use Rattle.verdicts.specs.declared.Fault.the-variants.{NotRoot}
+use Rattle.verdicts.specs.Printed.{prints, faultNumbers, elementFault}
+use Rattle.commands.specs.Reading.{enough}
 use Rattle.vocabularies.specs.Vocabulary.{declared}
 use Rattle.vocabularies.specs.VocabularyReading.{vocabulary}
+use Rattle.pages.specs.RightPages.{FirstBreach}
 use Rattle.programs.specs.Program.{statementAt, templateAt}
 use Rattle.programs.specs.ProgramReading.{program}
 use Rattle.summaries.specs.ProposalReading.{proposal}
 use Rattle.summaries.specs.Summaries.{Environment}
-use Rattle.jobs.specs.Job.{Script, Job, script, job}
+use Rattle.jobs.specs.Job.{Script, script, job}
 use Rattle.jobs.specs.JobVerdict.{StartHolds, StepHolds, StepsBefore, ShowHolds, NotRootAt, WrongIn, nextOf, ScriptVerdict, start-uncovered, step-uncovered, not-root, wrong-element, accepted, JobVerdict, unreadable, readable}
 use Rattle.agreement.proofs.Readings.{Gives, gives, given, gives-any, gives-then, gives-alone}
 use Rattle.agreement.proofs.Marks.{AllRise, Stands, templates-rise, one-template}
+use Rattle.agreement.proofs.Breaches.{first-told}
+use Rattle.agreement.proofs.Breaches as Breaches
 use Rattle.agreement.proofs.Pages.{accepts-right}
 
 -- Two first places at which P fails are one.
@@ -40,9 +45,9 @@ module _ (π : Script) (E : ℕ → Environment) where
 
   -- What is wrong at a show.
   data ShowFails (p : ℕ) : Numbers → Type 0 where
-    no-root : {t : ℕ} → NotRootAt π E p t → ((t′ : ℕ) → NotRootAt π E p t′ → t ≤ t′) → ShowFails p (prints 11 p t 0)
-    wrong : {t at : ℕ} → ((t′ : ℕ) → NotRootAt π E p t′ → ⊥) → WrongIn π E p t at → ((t′ at′ : ℕ) → WrongIn π E p t′ at′ → at ≤ at′)
-        → ShowFails p (prints 12 p t at)
+    no-root : {t : ℕ} → NotRootAt π E p t → ((t′ : ℕ) → NotRootAt π E p t′ → t ≤ t′) → ShowFails p (faultNumbers (NotRoot p t))
+    wrong : {t at : ℕ} {b : Breach} → ((t′ : ℕ) → NotRootAt π E p t′ → ⊥) → FirstBreach (WrongIn π E p t at) b
+        → ((t′ at′ : ℕ) (b′ : Breach) → WrongIn π E p t′ at′ b′ → at ≤ at′) → ShowFails p (faultNumbers (elementFault p t at b))
 
   data OfShows : Numbers → Type 0 where
     show : {p : ℕ} {a : Numbers} → ((p′ : ℕ) → p′ < p → ShowHolds π E p′) → ShowFails p a → OfShows a
@@ -66,7 +71,7 @@ in-order : {π : Script} {E : ℕ → Environment} {a : Numbers} → ScriptVerdi
 in-order (start-uncovered {v = v} h n b) = start v h n b
 in-order (step-uncovered {p = p} {v = v} second starts h n b) = all-starts starts (step p second v (record { small = h; uncovered = n; before = b }))
 in-order (not-root c shows n l) = all-starts (c .start) (all-steps (c .steps) (show shows (no-root n l)))
-in-order (wrong-element c shows n w l) = all-starts (c .start) (all-steps (c .steps) (show shows (wrong n w l)))
+in-order (wrong-element c shows n f l) = all-starts (c .start) (all-steps (c .steps) (show shows (wrong n f l)))
 in-order (accepted c shows) = all-starts (c .start) (all-steps (c .steps) (all-shows shows))
 
 -- A mark stands in one template only,
@@ -83,16 +88,20 @@ marked-apart π m mark t t′ = one-template (π .templates) (m .0) (m .1) mark 
 module _ {π : Script} {E : ℕ → Environment} where
   show-fails : {p : ℕ} {a : Numbers} → ShowFails π E p a → ShowHolds π E p → ⊥
   show-fails (no-root {t = t} n l) h = n .other (h (n .graph) (n .shows) (n .page) (t, n .derived) .alone)
-  show-fails (wrong {at = at} k w l) h = accepts-right (π .vocabulary) (w .page) at (h (w .graph) (w .shows) (w .page) (w .derived) .accepted) (w .wrong)
+  show-fails (wrong {at = at} {b = b} k f l) h =
+      let w = first-told f in
+      accepts-right (π .vocabulary) (w .page) at b (h (w .graph) (w .shows) (w .page) (w .derived) .accepted) (w .wrong)
 
   at-show : {p : ℕ} {a b : Numbers} → Apart π → ShowFails π E p a → ShowFails π E p b → a ≡ b
   at-show m (no-root {t = t} n l) (no-root {t = t′} n′ l′) =
       let e : t ≡ t′ = omega (arith, l t′ n′, l′ t n) in rw e
-  at-show m (no-root {t = t} n l) (wrong k w l′) = absurd (k t n)
-  at-show m (wrong k w l) (no-root {t = t} n l′) = absurd (k t n)
-  at-show m (wrong {t = t} {at = at} k w l) (wrong {t = t′} {at = at′} k′ w′ l′) =
-      let e : at ≡ at′ = omega (arith, l t′ at′ w′, l′ t at w) in
-      let d : t ≡ t′ = m at′ t t′ (rw e at (w .stands)) (w′ .stands) in rw (e, d)
+  at-show m (no-root {t = t} n l) (wrong k f l′) = absurd (k t n)
+  at-show m (wrong k f l) (no-root {t = t} n l′) = absurd (k t n)
+  at-show {p} m (wrong {t = t} {at = at} {b = b} k f l) (wrong {t = t′} {at = at′} {b = b′} k′ f′ l′) =
+      let e : at ≡ at′ = omega (arith, l t′ at′ b′ (first-told f′), l′ t at b (first-told f)) in
+      let d : t ≡ t′ = m at′ t t′ (rw e at (first-told f .stands)) (first-told f′ .stands) in
+      let g : FirstBreach (WrongIn π E p t′ at′) b = rw (d, e) at f in
+      let is : b ≡ b′ = Breaches.first-unique g f′ in rw (e, d, is)
 
   of-shows : {a b : Numbers} → Apart π → OfShows π E a → OfShows π E b → a ≡ b
   of-shows m (show {p = p} h f) (show {p = p′} h′ f′) =

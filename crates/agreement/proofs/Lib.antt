@@ -1,9 +1,12 @@
 pub mod Deciding
 pub mod Tests
+pub mod Breaches
 pub mod Elements
 pub mod Readings
 pub mod Ends
 pub mod Marks
+pub mod SomeElements
+pub mod Ruled
 pub mod Gaps
 pub mod Pages
 pub mod Roots

@@ -183,3 +183,11 @@ pub one-template : (φs : List Items) (low high mark t t′ : ℕ) → AllRise l
     → Stands mark (templateAt φs t′) → t ≡ t′
 one-template φs low high mark t t′ r s s′ =
     omega (arith, templates-in-order φs low high mark mark t t′ r s s′ (omega arith), templates-in-order φs low high mark mark t′ t r s′ s (omega arith))
+
+-- The marks of each template rise.
+pub template-rises : (φs : List Items) (low high t : ℕ) → AllRise low φs high → (from : ℕ) × (to : ℕ) × Rises from (templateAt φs t) to
+unfolding AllRise templateAt Rises
+template-rises [] low high t r = (0, 0, omega arith)
+template-rises (φ ∷ φs) low high zero r = (0, 0, omega arith)
+template-rises (φ ∷ φs) low high (suc zero) r = (low, r .0, r .1)
+template-rises (φ ∷ φs) low high (suc (suc t)) r = template-rises φs (r .0) high (suc t) (r .2)

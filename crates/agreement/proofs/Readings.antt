@@ -43,6 +43,11 @@ module _ {A : Type 0} {U : Type 0} {P : A → ℕ → Type 0} where
   gives-map h refuses = refuses
   gives-map h (runs-out u) = runs-out u
 
+  pub gives-both : {Q : A → ℕ → Type 0} {r : Read A} → Gives U P r → Gives U Q r → Gives U (λ a end. P a end × Q a end) r
+  gives-both (gives p) (gives q) = gives (p, q)
+  gives-both refuses g = refuses
+  gives-both (runs-out u) g = runs-out u
+
   pub gives-when : (b : Bool) {y n : Unit {0} → Read A} → ((u : Unit {0}) → b ≡ true → Gives U P (y u))
       → ((u : Unit {0}) → b ≡ false → Gives U P (n u)) → Gives U P (when b y n)
   gives-when true h k = h tt refl

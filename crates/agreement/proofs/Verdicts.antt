@@ -5,29 +5,32 @@ use native.Mathlib.Omega.{arith}
 use mathlib.Core.Path.{_≡_, refl, sym, _∙_, ap}
 use mathlib.Core.List.{List}
 use mathlib.Core.Bool.{Bool, cond}
-use mathlib.Core.Option.{Option, some, none}
 use mathlib.Core.Logic.{_↔_}
+use Rattle.verdicts.specs.declared.Breach.{Breach}
 use Rattle.verdicts.specs.declared.Fault.the-variants.{NotRoot}
 use Rattle.verdicts.specs.declared.Refusal.the-variants as Refusals
-use Rattle.verdicts.specs.declared.Verdict.{Verdict}
 use Rattle.verdicts.specs.declared.Numbers.{Numbers}
 use Rattle.verdicts.specs.declared.Verdict.the-variants.{Refused}
-use Rattle.verdicts.specs.Printed.{prints, numbersOf}
+use Rattle.verdicts.specs.Printed.{prints, numbersOf, elementFault}
 use Rattle.verdicts.specs.TheVerdict.{TheVerdict}
-use Rattle.verdicts.proofs.Told.{form-refuses}
+use Rattle.verdicts.proofs.Told.{form-refuses, fault-refuses}
 use Rattle.commands.specs.Reading.{Read, whole, refused, unfinished}
 use Rattle.vocabularies.specs.Vocabulary.{Vocabulary}
 use Rattle.vocabularies.specs.VocabularyReading.{vocabularySlice}
 use Rattle.pages.specs.Items.{Items}
 use Rattle.pages.specs.ItemReading.{pageSlice}
-use Rattle.pages.specs.RightPages.{RootAlone, Right, WrongAt}
+use Rattle.pages.specs.RightPages.{RootAlone, Right, WrongAt, FirstBreach}
 use Rattle.pages.specs.PageVerdict.{Readable, PageVerdict, unreadable-vocabulary, unreadable-page, not-root, wrong-element, accepted}
+use Rattle.judging.specs.declared.FirstWrong.{FirstWrong}
+use Rattle.judging.specs.declared.FirstWrong.the-variants.{Nowhere, At}
 use Rattle.judging.specs.contracts.Judgement.{firstWrong, isAlone, wrongVerdict, judged, judgedUnder, pageVerdict}
 use Rattle.agreement.proofs.Deciding.{Decided, holds, fails, true-iff, false-iff}
 use Rattle.agreement.proofs.Ends.{vocabulary-slice-ends, page-slice-ends}
 use Rattle.agreement.proofs.Marks.{page-marks-rise}
 use Rattle.agreement.proofs.Gaps.{page-closed}
-use Rattle.agreement.proofs.Pages.{accepts-iff, accepts-right, first-wrong, lowest}
+use Rattle.agreement.proofs.Ruled.{page-ruled}
+use Rattle.agreement.proofs.Breaches.{first-told, first-unique}
+use Rattle.agreement.proofs.Pages.{accepted-unless, nothing-wrong, accepts-nowhere, first-wrong, lowest}
 use Rattle.agreement.proofs.Roots.{decided-alone}
 
 module _ {v p : List ℕ} where
@@ -35,12 +38,17 @@ module _ {v p : List ℕ} where
   alone-verdict : {D : Vocabulary} {page : Items} → Readable v p D page → RootAlone D page → PageVerdict v p (numbersOf (wrongVerdict (firstWrong D page)))
   alone-verdict {D} {page} R a = go (firstWrong D page) refl
     where
-      go : (o : Option ℕ) → firstWrong D page ≡ o → PageVerdict v p (numbersOf (wrongVerdict o))
-      go none e =
+      go : (w : FirstWrong) → firstWrong D page ≡ w → PageVerdict v p (numbersOf (wrongVerdict w))
+      go Nowhere e =
           let closed = page-closed D p page (R .pageEnd) (R .page-reads) in
-          accepted R (record { alone = a; accepted = accepts-iff D page (closed .gaps) .0 e; gapless = closed })
-      go (some m) e =
-          wrong-element R a (first-wrong D page m e) (lowest D page 0 (R .pageEnd) (page-marks-rise D p page (R .pageEnd) (R .page-reads)) m e)
+          accepted R (record {
+            alone = a;
+            accepted = accepted-unless D page (closed .gaps) (page-ruled D p page (R .pageEnd) (R .page-reads)) (nothing-wrong D page e);
+            gapless = closed;
+          })
+      go (At m b) e =
+          let rise = page-marks-rise D p page (R .pageEnd) (R .page-reads) in
+          wrong-element R a (first-wrong D page 0 (R .pageEnd) rise m b e) (lowest D page 0 (R .pageEnd) rise m b e)
 
   read-verdict : {D : Vocabulary} {page : Items} {b : Bool} → Readable v p D page → Decided (RootAlone D page) b
       → PageVerdict v p (numbersOf (cond b (wrongVerdict (firstWrong D page)) (Refused (Refusals.Page (NotRoot 0 0)))))
@@ -74,17 +82,20 @@ module _ {v p : List ℕ} where
   alone-of : {D : Vocabulary} {page : Items} → Readable v p D page → RootAlone D page → pageVerdict v p ≡ wrongVerdict (firstWrong D page)
   alone-of {D} {page} R a = judged-of R ∙ rw (true-iff (decided-alone D page) .1 a)
 
-  -- Where an element is wrong and none below it is, it is found.
-  found-at : {D : Vocabulary} {page : Items} {at : ℕ} → Readable v p D page → WrongAt D at page → ((at′ : ℕ) → WrongAt D at′ page → at ≤ at′)
-      → firstWrong D page ≡ some at
-  found-at {D} {page} {at} R w l = go (firstWrong D page) refl
+  -- Where an element is wrong and none below it is, it is found, with what is told of it.
+  found-at : {D : Vocabulary} {page : Items} {at : ℕ} {b : Breach} → Readable v p D page → FirstBreach (WrongAt D at page) b
+      → ((at′ : ℕ) (b′ : Breach) → WrongAt D at′ page b′ → at ≤ at′) → firstWrong D page ≡ At at b
+  found-at {D} {page} {at} {b} R f l = go (firstWrong D page) refl
     where
-      go : (o : Option ℕ) → firstWrong D page ≡ o → o ≡ some at
-      go none e = absurd (accepts-right D page at (accepts-iff D page (page-closed D p page (R .pageEnd) (R .page-reads) .gaps) .0 e) w)
-      go (some m) e =
-          let below = lowest D page 0 (R .pageEnd) (page-marks-rise D p page (R .pageEnd) (R .page-reads)) m e at w in
-          let above = l m (first-wrong D page m e) in
-          let same : m ≡ at = omega arith in rw same
+      go : (w : FirstWrong) → firstWrong D page ≡ w → w ≡ At at b
+      go Nowhere e = absurd (nothing-wrong D page e at b (first-told f))
+      go (At m c) e =
+          let rise = page-marks-rise D p page (R .pageEnd) (R .page-reads) in
+          let told = first-wrong D page 0 (R .pageEnd) rise m c e in
+          let below = lowest D page 0 (R .pageEnd) rise m c e at b (first-told f) in
+          let above = l m c (first-told told) in
+          let same : m ≡ at = omega arith in
+          let is : c ≡ b = first-unique (rw same at told) f in rw (same, is)
 
   -- Each verdict that document 01 gives has the numbers of the one that is computed.
   pub computes : {a : Numbers} → PageVerdict v p a → numbersOf (pageVerdict v p) ≡ a
@@ -92,8 +103,8 @@ module _ {v p : List ℕ} where
   computes (unreadable-vocabulary e) = rw e
   computes (unreadable-page e e′) = rw (e, e′)
   computes (not-root {D} {page} R n) = ap numbersOf (judged-of R) ∙ rw (false-iff (decided-alone D page) .1 n)
-  computes (wrong-element R a w l) = ap numbersOf (alone-of R a ∙ ap wrongVerdict (found-at R w l))
-  computes (accepted {D} {page} R r) = ap numbersOf (alone-of R (r .alone) ∙ ap wrongVerdict (accepts-iff D page (r .gapless .gaps) .1 (r .accepted)))
+  computes (wrong-element R a f l) = ap numbersOf (alone-of R a ∙ ap wrongVerdict (found-at R f l))
+  computes (accepted {D} {page} R r) = ap numbersOf (alone-of R (r .alone) ∙ ap wrongVerdict (accepts-nowhere D page (r .accepted)))
 
 -- There is exactly one verdict, and it is the one that is computed.
 pub the-page-verdict : (v p : List ℕ) → TheVerdict (PageVerdict v p) (numbersOf (pageVerdict v p))
@@ -106,6 +117,6 @@ passes v p = (λ h. right _ refl h, λ t. accepted (t .2) (t .3))
     right : (a : Numbers) → a .n ≡ 0 → PageVerdict v p a → (D : Vocabulary) × (page : Items) × Readable v p D page × Right D page
     right _ e (unreadable-vocabulary {f = f} r) = absurd (form-refuses f e)
     right _ e (unreadable-page {f = f} r r′) = absurd (form-refuses f e)
-    right _ e (not-root R n) = absurd (omega (arith, e))
-    right _ e (wrong-element R a w l) = absurd (omega (arith, e))
+    right _ e (not-root R n) = absurd (fault-refuses (NotRoot 0 0) e)
+    right _ e (wrong-element {at = at} {b = b} R a f l) = absurd (fault-refuses (elementFault 0 0 at b) e)
     right _ e (accepted {D} {page} R r) = (D, page, R, r)

@@ -3,12 +3,9 @@
 use Prim.Native.Nat.{ℕ, _+_}
 use mathlib.Core.Path.{_≡_, refl}
 use mathlib.Core.List.{List}
-use mathlib.Core.Logic.{inl, inr}
 use lib.ListN.{length}
 use Rattle.pages.specs.Items.{Attribute, Item, text, blank, gap, element, Items, none, more, _⋈_, withoutBlank, withoutBlankItem}
-use Rattle.pages.specs.RightPages.{SomeElement}
-use Rattle.pages.specs.Written.{written-item, written-attributes, marked, marked-item, remarked, remarked-item}
-use Rattle.agreement.proofs.Marks.{Stands, StandsIn}
+use Rattle.pages.specs.Written.{written-item, written-attributes, marked, marked-item}
 
 mutual
   pub data Alike (M : ℕ → ℕ → Type 0) : Items → Items → Type 0 where
@@ -83,7 +80,7 @@ module _ {M : ℕ → ℕ → Type 0} where
 pub without : (φ : Items) → Alike Same φ (withoutBlank φ)
 without φ = solid (itself (λ _. refl) φ)
 
--- Other marks there: where the elements are written,
+-- Other marks there: where the elements are written.
 mutual
   unfolding marked
 
@@ -97,19 +94,3 @@ mutual
   marked-item-anew both-text at = both-text
   marked-item-anew both-gap at = both-gap
   marked-item-anew (both-element {δ = δ} m a) at = both-element tt (marked-anew a (at + 2 + length (written-attributes δ)))
-
--- or one for all elements, if M relates each mark here to it.
-module _ {M : ℕ → ℕ → Type 0} (k : ℕ) where
-  mutual
-    unfolding remarked SomeElement
-
-    pub numbered : {φ φ′ : Items} → Alike Any φ φ′ → ((mark : ℕ) → Stands mark φ → M mark k) → Alike M φ (remarked (λ _. k) φ′)
-    numbered nothing h = nothing
-    numbered (blank-here a) h = blank-here (numbered a (λ mark s. h mark (inr s)))
-    numbered (blank-there a) h = blank-there (numbered a h)
-    numbered (both i a) h = both (numbered-item i (λ mark s. h mark (inl s))) (numbered a (λ mark s. h mark (inr s)))
-
-    numbered-item : {i i′ : Item} → AlikeItem Any i i′ → ((mark : ℕ) → StandsIn mark i → M mark k) → AlikeItem M i (remarked-item (λ _. k) i′)
-    numbered-item both-text h = both-text
-    numbered-item both-gap h = both-gap
-    numbered-item (both-element {mark = mark} m a) h = both-element (h mark (inl refl)) (numbered a (λ mark s. h mark (inr s)))

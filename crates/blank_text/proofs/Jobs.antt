@@ -17,7 +17,7 @@ use Rattle.round_trip.specs.InRange.{Bytes}
 use Rattle.blank_text.specs.WithoutBlank.{withoutBlankJob, SameButOffset}
 use Rattle.blank_text.proofs.Alike.{Alike, Any, itself}
 use Rattle.blank_text.proofs.Scripts.{withTemplates}
-use Rattle.blank_text.proofs.Numbered.{same-numbers}
+use Rattle.blank_text.proofs.Paired.{same-numbers}
 use Rattle.blank_text.proofs.Ranges.{templates-alike}
 use Rattle.blank_text.proofs.Anew.{base, anew-job, job-anew}
 
@@ -33,6 +33,7 @@ module _ {s : List ℕ} {j : Job} {end : ℕ} (b : Bytes s) (e : job s ≡ whole
       → {v v′ : Numbers} → JobVerdict s v → JobVerdict s′ v′ → SameButOffset v v′
   with-others {s′} {φs} e′ alike h h′ =
       same-numbers (j .script) φs (anew-job j .script .templates) (given (job-marked s) e) (given (job-marked s′) e′)
+      (given (job-marked (written-job (withoutBlankJob j))) (job-anew j s end b e))
       (templates-alike (base (j .script)) (j .script .templates)) alike (entries (j .proposal)) (of-script e h) (of-script e′ h′)
 
   pub same-job-numbers : {v v′ : Numbers} → JobVerdict s v → JobVerdict (written-job (withoutBlankJob j)) v′ → SameButOffset v v′

@@ -6,6 +6,7 @@ use mathlib.Core.Path.{_≡_, sym, subst}
 use mathlib.Core.List.{List, map, Memᴰ·map, Memᴰ·of-map}
 use mathlib.Core.Logic.{_↔_}
 use lib.ListN.{length, length-map}
+use Rattle.verdicts.specs.declared.Breach.{Breach}
 use Rattle.verdicts.specs.declared.Numbers.{Numbers}
 use Rattle.commands.specs.Reading.{whole}
 use Rattle.vocabularies.specs.Vocabulary.{Vocabulary}
@@ -44,10 +45,10 @@ alone D φ = (alone-there D (without φ), alone-there D (turned (without φ)))
 pub accepts : (D : Vocabulary) (φ : Items) → Accepts D φ ↔ Accepts D (withoutBlank φ)
 accepts D φ = (accepted-there D (without φ), accepted-there D (turned (without φ)))
 
-pub wrong-at : (D : Vocabulary) (mark : ℕ) (φ : Items) → WrongAt D mark φ ↔ WrongAt D mark (withoutBlank φ)
-wrong-at D mark φ = (
-  λ w. let r = wrong-there D (without φ) w in rw (sym (r .1)) at (r .2),
-  λ w. let r = wrong-there D (turned (without φ)) w in rw (r .1) at (r .2),
+pub wrong-at : (D : Vocabulary) (mark : ℕ) (φ : Items) (b : Breach) → WrongAt D mark φ b ↔ WrongAt D mark (withoutBlank φ) b
+wrong-at D mark φ b = (
+  λ w. let r = wrong-there D b (without φ) w in rw (sym (r .1)) at (r .2),
+  λ w. let r = wrong-there D b (turned (without φ)) w in rw (r .1) at (r .2),
 )
 
 -- Pages as bytes: a page that reads, and the bytes of it without blank text, which read with each mark where it is written.

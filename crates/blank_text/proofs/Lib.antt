@@ -1,9 +1,10 @@
 pub mod Alike
 pub mod Rightness
 pub mod Languages
+pub mod Offsets
 pub mod Scripts
 pub mod Runs
-pub mod Numbered
+pub mod Paired
 pub mod Ranges
 pub mod Anew
 pub mod Pages

@@ -3,9 +3,10 @@ use Prim.Native.Nat.{ℕ}
 use mathlib.Core.Path.{_≡_, refl, sym, ap, _∙_}
 use mathlib.Core.List.{List, _∷_}
 use mathlib.Core.Logic.{inl, inr}
+use Rattle.verdicts.specs.declared.Breach.{Breach}
 use Rattle.vocabularies.specs.Vocabulary.{Vocabulary}
 use Rattle.pages.specs.Items.{Attribute, Item, Items, _⋈_, withoutBlank, gapIn, gapInItem, attributeGapIn, attributeGapInItem}
-use Rattle.pages.specs.RightPages.{wordItem, word, RootAlone, Accepts, AcceptsItem, Right, SomeElement, SomeElementOf, Way, ElementWrong, unruled, attribute-not-allowed, content-not-allowed, clause-not-met, WrongAt}
+use Rattle.pages.specs.RightPages.{wordItem, word, RootAlone, Accepts, AcceptsItem, Right, SomeElement, SomeElementOf, ElementWrong, attribute-not-allowed, content-not-allowed, clause-not-met, WrongAt}
 use Rattle.pages.proofs.Marks.{meets-there, element-there}
 use Rattle.judging.specs.contracts.Judgement.{isNone, isAlone}
 use Rattle.agreement.proofs.Marks.{Stands}
@@ -97,8 +98,7 @@ module _ {M : ℕ → ℕ → Type 0} where
       gapless = record { gaps = λ g. sym (same-gaps a g) ∙ r .gapless .gaps g; attribute-gaps = λ h. sym (same-attribute-gaps a h) ∙ r .gapless .attribute-gaps h };
     }
 
-    wrong-element-there : {e : ℕ} {δ : List Attribute} {φ φ′ : Items} {way : Way} → Alike M φ φ′ → ElementWrong D e δ φ way → ElementWrong D e δ φ′ way
-    wrong-element-there a (unruled r) = unruled r
+    wrong-element-there : {e : ℕ} {δ : List Attribute} {φ φ′ : Items} {b : Breach} → Alike M φ φ′ → ElementWrong D e δ φ b → ElementWrong D e δ φ′ b
     wrong-element-there a (attribute-not-allowed n r i o) = attribute-not-allowed n r i o
     wrong-element-there a (content-not-allowed c r i o) = content-not-allowed c r (rw (same-word a) at i) o
     wrong-element-there {δ = δ} {φ = φ} {φ′ = φ′} a (clause-not-met i r l o) = clause-not-met i r l (λ h. o (meets-there δ φ φ′ (same-word a) _ .1 h))
@@ -128,7 +128,7 @@ module _ {M : ℕ → ℕ → Type 0} where
   pub stands-there : {φ φ′ : Items} {at : ℕ} → Alike M φ φ′ → Stands at φ → (at′ : ℕ) × M at at′ × Stands at′ φ′
   stands-there = some-there (λ at e mark δ φ. mark ≡ at) (λ at e mark mark′ δ φ φ′ m a s. (mark′, rw s at m, refl))
 
-  pub wrong-there : (D : Vocabulary) {φ φ′ : Items} {at : ℕ} → Alike M φ φ′ → WrongAt D at φ → (at′ : ℕ) × M at at′ × WrongAt D at′ φ′
+  pub wrong-there : (D : Vocabulary) {φ φ′ : Items} {at : ℕ} (b : Breach) → Alike M φ φ′ → WrongAt D at φ b → (at′ : ℕ) × M at at′ × WrongAt D at′ φ′ b
   unfolding WrongAt
-  wrong-there D = some-there (λ at e mark δ φ. (mark ≡ at) × ((way : Way) × ElementWrong D e δ φ way))
-      (λ at e mark mark′ δ φ φ′ m a w. (mark′, rw (w .0) at m, (refl, (w .1 .0, wrong-element-there D a (w .1 .1)))))
+  wrong-there D b = some-there (λ at e mark δ φ. (mark ≡ at) × ElementWrong D e δ φ b)
+      (λ at e mark mark′ δ φ φ′ m a w. (mark′, rw (w .0) at m, (refl, wrong-element-there D a (w .1))))

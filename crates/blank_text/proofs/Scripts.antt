@@ -5,8 +5,9 @@ use mathlib.Core.Path.{_≡_, refl, sym, ap, subst, _∙_, fun-ext}
 use mathlib.Core.List.{List, [], _∷_, map}
 use mathlib.Core.Bool.{Bool, cond}
 use mathlib.Core.Logic.{_↔_, _⊎_, inl, inr}
+use Rattle.verdicts.specs.declared.Breach.{Breach}
 use Rattle.verdicts.specs.declared.Numbers.{Numbers}
-use Rattle.verdicts.specs.Printed.{prints}
+use Rattle.verdicts.specs.Printed.{faultNumbers, elementFault}
 use Rattle.pages.specs.Items.{Items, withoutBlank}
 use Rattle.programs.specs.Program.{Act, copyTemplate, setTemplate, copyString, setString, anyString, plug, plugString, show, showFramed, Statement, step, stop, statementAt, templateAt}
 use Rattle.summaries.specs.Proposal.{Claim, root, edge, string, gapFrom, attributeGapFrom}
@@ -17,10 +18,12 @@ use Rattle.summaries.specs.Languages.{summaryShown, closedIfShown, statementGra
 use Rattle.jobs.specs.Job.{Script}
 use Rattle.jobs.specs.JobVerdict.{StatementHolds, StepHolds, StepsBefore, AllCovered, ShowHolds, NotRootAt, WrongIn, ScriptVerdict, start-uncovered, step-uncovered, not-root, wrong-element, accepted}
 use Rattle.agreement.proofs.Marks.{Stands}
-use Rattle.blank_text.specs.WithoutBlank.{withoutBlankScript}
+use Rattle.agreement.proofs.Breaches.{first-told, first-iff}
+use Rattle.blank_text.specs.WithoutBlank.{withoutBlankScript, SameButOffset}
 use Rattle.blank_text.proofs.Alike.{Alike, Turned, Same, turned, without}
 use Rattle.blank_text.proofs.Rightness.{same-gaps, same-attribute-gaps, alone-there, right-there, stands-there, wrong-there}
 use Rattle.blank_text.proofs.Languages.{derived-there}
+use Rattle.blank_text.proofs.Offsets.{unmoved, all-same, element-moved, element-offset}
 
 abbrev pub withTemplates : Script → List Items → Script
 withTemplates π φs = record { vocabulary = π .vocabulary; templates = φs; program = π .program }
@@ -106,11 +109,11 @@ module _ {M : ℕ → ℕ → Type 0} (π : Script) (φs′ : List Items) (c : C
         other = λ r. n .other (alone-there (π .vocabulary) (turned (l .2)) r);
       }
 
-  wrong-in-there : (p t at : ℕ) → WrongIn π E p t at → (at′ : ℕ) × M at at′ × WrongIn There E p t at′
-  wrong-in-there p t at w =
+  wrong-in-there : (p t at : ℕ) (b : Breach) → WrongIn π E p t at b → (at′ : ℕ) × M at at′ × WrongIn There E p t at′ b
+  wrong-in-there p t at b w =
       let r = w .derived .0 in
       let l = derived-there M (π .templates) φs′ (c .alike) (w .graph) r (w .page) (w .derived .1) in
-      let m = wrong-there (π .vocabulary) (l .2) (w .wrong) in (
+      let m = wrong-there (π .vocabulary) b (l .2) (w .wrong) in (
         m .0,
         m .1,
         record {
@@ -123,9 +126,17 @@ module _ {M : ℕ → ℕ → Type 0} (π : Script) (φs′ : List Items) (c : C
         },
       )
 
--- The verdict there, if M keeps the order of marks.
+-- The verdict there: only the offset of a wrong element may be another, as M says.
+pub record Carried (M : ℕ → ℕ → Type 0) (v v′ : Numbers) : Type 0 where
+  pub same : SameButOffset v v′
+  pub offset : (v .c ≡ v′ .c) ⊎ M (v .c) (v′ .c)
+
+unchanged : {M : ℕ → ℕ → Type 0} (v : Numbers) → Carried M v v
+unchanged v = record { same = unmoved v; offset = inl refl }
+
+-- If M keeps the order of marks, it relates a mark to one mark, and the lowest to the lowest.
 module _ {M : ℕ → ℕ → Type 0} (π : Script) (φs′ : List Items) (c : Corresponds M (π .templates) φs′)
-    (order : (low low′ at at′ : ℕ) → M low low′ → M at at′ → low ≤ at → low′ ≤ at′) (E : ℕ → Environment) where
+    (order : (low low′ at at′ : ℕ) → M low low′ → M at at′ → (low ≤ at) ↔ (low′ ≤ at′)) (E : ℕ → Environment) where
   abbrev π′ : Script
   π′ = withTemplates π φs′
 
@@ -142,32 +153,49 @@ module _ {M : ℕ → ℕ → Type 0} (π : Script) (φs′ : List Items) (c : C
   covered : AllCovered π E → AllCovered π′ E
   covered = all-covered π φs′ (c .alike) E
 
-  pub carried : {v : Numbers} → ScriptVerdict π E v → (at : ℕ) × ScriptVerdict π′ E (prints (v .n) (v .a) (v .b) at)
-      × ((v .c ≡ at) ⊎ ((v .n ≡ 12) × M (v .c) at))
-  carried (start-uncovered {v = v} l h b) = (v, start-uncovered l h b, inl refl)
-  carried (step-uncovered {p = p} {v = v} second starts l h b) =
-      (v, step-uncovered second starts l (λ s. h (step-there π′ (π .templates) (back .alike) E p second v s)) (steps-before p second v b), inl refl)
-  carried (not-root {p = p} {t = t} a shows n l) = (
-    0,
+  -- Of an element here and its like there the same is wrong.
+  wrong-like : (p t at at′ : ℕ) → M at at′ → (b : Breach) → WrongIn π E p t at b → WrongIn π′ E p t at′ b
+  wrong-like p t at at′ m b w =
+      let r = wrong-in-there π φs′ c E p t at b w in
+      let same : r .0 ≡ at′ = omega (arith, order at (r .0) at at′ (r .1) m .0 (omega arith), order at at′ at (r .0) m (r .1) .0 (omega arith)) in
+      rw same at (r .2)
+
+  wrong-back : (p t at at′ : ℕ) → M at at′ → (b : Breach) → WrongIn π′ E p t at′ b → WrongIn π E p t at b
+  wrong-back p t at at′ m b w =
+      let r = wrong-in-there π′ (π .templates) back E p t at′ b w in
+      let same : r .0 ≡ at = omega (arith, order (r .0) at′ at at′ (r .1) m .1 (omega arith), order at at′ (r .0) at′ m (r .1) .1 (omega arith)) in
+      rw same at (r .2)
+
+  lowest-like : (p at at′ : ℕ) → M at at′ → ((t other : ℕ) (b : Breach) → WrongIn π E p t other b → at ≤ other)
+      → (t other : ℕ) (b : Breach) → WrongIn π′ E p t other b → at′ ≤ other
+  lowest-like p at at′ m l t other b w =
+      let r = wrong-in-there π′ (π .templates) back E p t other b w in order at at′ (r .0) other m (r .1) .0 (l t (r .0) b (r .2))
+
+  pub carried : {v : Numbers} → ScriptVerdict π E v → (v′ : Numbers) × ScriptVerdict π′ E v′ × Carried M v v′
+  carried {v} (start-uncovered l h b) = (v, start-uncovered l h b, unchanged v)
+  carried {v} (step-uncovered {p = p} {v = x} second starts l h b) =
+      (v, step-uncovered second starts l (λ s. h (step-there π′ (π .templates) (back .alike) E p second x s)) (steps-before p second x b), unchanged v)
+  carried {v} (not-root {p = p} {t = t} a shows n l) = (
+    v,
     not-root (covered a) (λ q m. show-there π φs′ c E q (shows q m)) (not-root-there π φs′ c E p t n) (λ t′ n′. l t′ (not-root-there π′ (π .templates) back E p t′ n′)),
-    inl refl,
+    unchanged v,
   )
-  carried (wrong-element {p = p} {t = t} {at = at} a shows n w l) =
-      let m = wrong-in-there π φs′ c E p t at w in
-      let lowest : (t′ at′ : ℕ) → WrongIn π′ E p t′ at′ → m .0 ≤ at′ = λ t′ at′ w′.
-      let b = wrong-in-there π′ (π .templates) back E p t′ at′ w′ in order at (m .0) (b .0) at′ (m .1) (b .1) (l t′ (b .0) (b .2)) in (
-        m .0,
-        wrong-element (covered a) (λ q s. show-there π φs′ c E q (shows q s)) (λ t′ n′. n t′ (not-root-there π′ (π .templates) back E p t′ n′)) (m .2) lowest,
-        inr (refl, m .1),
+  carried (wrong-element {p = p} {t = t} {at = at} {b = b} a shows n f l) =
+      let (at′, m, w) = wrong-in-there π φs′ c E p t at b (first-told f) in (
+        faultNumbers (elementFault p t at′ b),
+        wrong-element (covered a) (λ q s. show-there π φs′ c E q (shows q s)) (λ t′ n′. n t′ (not-root-there π′ (π .templates) back E p t′ n′))
+            (first-iff (wrong-like p t at at′ m) (wrong-back p t at at′ m) f) (lowest-like p at at′ m l),
+        record { same = element-moved p t at at′ b; offset = inr (rw (element-offset p t at b, element-offset p t at′ b) m) },
       )
-  carried (accepted a shows) = (0, accepted (covered a) (λ p. show-there π φs′ c E p (shows p)), inl refl)
+  carried {v} (accepted a shows) = (v, accepted (covered a) (λ p. show-there π φs′ c E p (shows p)), unchanged v)
 
 -- Where M relates no other marks than the same, all four numbers are the same.
 kept : {M : ℕ → ℕ → Type 0} (π : Script) (φs′ : List Items) → Corresponds M (π .templates) φs′ → ((at at′ : ℕ) → M at at′ → at ≡ at′)
     → (E : ℕ → Environment) {v : Numbers} → ScriptVerdict π E v → ScriptVerdict (withTemplates π φs′) E v
 kept π φs′ c equal E {v} o =
-    let r = carried π φs′ c (λ low low′ at at′ m n l. omega (arith, equal low low′ m, equal at at′ n)) E o in
-    let same : r .0 ≡ v .c = elim (r .2) [ inl e ↦ sym e | inr m ↦ sym (equal (v .c) (r .0) (m .1)) ] in rw same at (r .1)
+    let r = carried π φs′ c (λ low low′ at at′ m n. let e = equal low low′ m in let d = equal at at′ n in (λ l. omega arith, λ l. omega arith)) E o in
+    let offset : v .c ≡ r .0 .c = elim (r .2 .offset) [ inl e ↦ e | inr m ↦ equal (v .c) (r .0 .c) m ] in
+    subst (ScriptVerdict (withTemplates π φs′) E) (sym (all-same (r .2 .same) offset)) (r .1)
 
 -- Templates without blank text.
 pub without-at : (φs : List Items) (t : ℕ) → templateAt (map withoutBlank φs) t ≡ withoutBlank (templateAt φs t)

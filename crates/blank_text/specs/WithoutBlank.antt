@@ -12,10 +12,10 @@ withoutBlankScript π = record { vocabulary = π .vocabulary; templates = map wi
 abbrev pub withoutBlankJob : Job → Job
 withoutBlankJob j = record { script = withoutBlankScript (j .script); proposal = j .proposal }
 
--- Two verdicts N A B C are the same but for C where N is 12, which is left free: there C is the offset of a wrong element, and offsets
--- move with the bytes.
+-- Two verdicts N A B C are the same but for C where N is 12, 14 or 15, which is left free: there C is the offset of a wrong element, and
+-- offsets move with the bytes.
 pub record SameButOffset (v v′ : Numbers) : Type 0 where
   pub n : v .n ≡ v′ .n
   pub a : v .a ≡ v′ .a
   pub b : v .b ≡ v′ .b
-  pub c : (v .n ≡ 12 → ⊥) → v .c ≡ v′ .c
+  pub c : (v .n ≡ 12 → ⊥) → (v .n ≡ 14 → ⊥) → (v .n ≡ 15 → ⊥) → v .c ≡ v′ .c

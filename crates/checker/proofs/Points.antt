@@ -122,7 +122,7 @@ accepts-right p x v is e = go x (sym (ap accepts is) ∙ e)
     go : (x : Shown) → accepts (faultAt p x) ≡ true → x ≡ Right
     go Right a = refl
     go (NotRoot t) a = absurd (false≢true a)
-    go (Wrong t at) a = absurd (false≢true a)
+    go (Wrong t at b) a = absurd (false≢true a)
 
 -- The points passed by.
 module _ (s heads gaps places : List ℕ) (points : ℕ) (graph : List ℕ) (from : ℕ) where
@@ -175,7 +175,7 @@ module _ (π : Script) (E : ℕ → Environment) where
         go : (x : Shown) → ShowFound π E p x → accepts (faultAt p x) ≡ false → ScriptVerdict π E (numbersOf (faultAt p x))
         go Right f a = absurd (true≢false a)
         go (NotRoot t) f a = not-root covered below (f .at) (f .lowest)
-        go (Wrong t at) f a = wrong-element covered below (f .no-root) (f .wrong) (f .lowest)
+        go (Wrong t at b) f a = wrong-element covered below (f .no-root) (f .told) (f .lowest)
 
     pub shows-end : (points : ℕ) → points ≡ length (π .program) → points ≤ p → AllCovered π E → ScriptVerdict π E (numbersOf Accepted)
     shows-end points e l covered = accepted covered (λ q. go q (ltb q points) refl)

@@ -30,7 +30,7 @@ fn unreadable(form: Form, at: usize) -> Verdict
     Verdict::Refused(Refusal::Form(form, Place { at, slice: 0 }))
 }
 
-// 11 or 12 at a point, by what its show was found to be.
+// 11, 12, 14 or 15 at a point, by what its show was found to be.
 fn fault_at(p: usize, found: Shown) -> Verdict
     ensures { λ r. ⌜ r ≡ faultAt p found ⌝ }
 {
@@ -40,12 +40,12 @@ fn fault_at(p: usize, found: Shown) -> Verdict
             let fault = Fault::NotRoot { point: p, template };
             Verdict::Refused(Refusal::Page(fault))
         }
-        Shown::Wrong { template, at } => {
-            let element = Fault::WrongElement {
-                point: p,
-                template,
-                at,
-            };
+        Shown::Wrong {
+            template,
+            at,
+            breach,
+        } => {
+            let element = verdicts::element_fault(p, template, at, breach);
             Verdict::Refused(Refusal::Page(element))
         }
     }

@@ -5,8 +5,8 @@ use mathlib.Core.Path.{_≡_, refl, sym, ap, ap₂, subst, _∙_}
 use mathlib.Core.List.{List, []}
 use mathlib.Core.Bool.{Bool, true, false, not, _&&_, and-false, false≢true}
 use mathlib.Core.Logic.{inl, inr}
-use mathlib.Core.Option as Option
 use borrow.Author.Tests.{ne-eqb, eq-eqb}
+use Rattle.verdicts.specs.declared.Breach.the-variants as Breaches
 use Rattle.commands.specs.declared.Position.{Position}
 use Rattle.commands.specs.Reading.{whole}
 use Rattle.vocabularies.specs.Vocabulary.{Formula}
@@ -19,6 +19,7 @@ use Rattle.pages.specs.Items as Items
 use Rattle.pages.specs.ItemReading.{item, items}
 use Rattle.pages.specs.contracts.Steps.{itemHere}
 use Rattle.pages.proofs.Steps.{LeafFirst, text-first, blank-first, gap-first, element-first, end-first, element-item, no-attribute}
+use Rattle.judging.specs.contracts.Judgement.{brokenIf}
 use Rattle.summaries.specs.Summaries.{Summary}
 use Rattle.patterns.specs.declared.Wrong.{Wrong}
 use Rattle.patterns.specs.declared.Wrong.the-variants.{Nowhere}
@@ -26,11 +27,10 @@ use Rattle.patterns.specs.contracts.Morphisms.{Morphism}
 use Rattle.patterns.specs.contracts.Given.{Bounded}
 use Rattle.patterns.specs.contracts.Rounds.{Sets, anyBelow, attributesTake, allTake, itemTakes, patterns}
 use Rattle.patterns.specs.contracts.Elements.{attributePatterns, elementPatterns, clauseFails}
-use Rattle.patterns.specs.contracts.Shows.{lower, onlyIf, lowestMark, lowestMarkIn}
-use Rattle.patterns.specs.contracts.LowestWrong.{lowerWrong, wrongIn}
+use Rattle.patterns.specs.contracts.LowestWrong.{lowerWrong, wrongAt, Test, lowestIn, lowestOf}
 use Rattle.patterns.proofs.Tests.{any-below, below-any}
 use Rattle.sets.proofs.Booleans.{and-both, refuted}
-use Rattle.patterns.proofs.LowestOf.{lower-in, lower-nowhere, lower-assoc}
+use Rattle.patterns.proofs.LowestOf.{lower-nowhere, lower-assoc}
 use Rattle.patterns.proofs.Products.{clause-monoid, some-pattern}
 use Rattle.patterns.proofs.Lawful.{clause-lawful}
 use Rattle.pattern_sets.specs.contracts.PatternSets.{IsEmpty}
@@ -49,7 +49,7 @@ use Rattle.elements.specs.declared.Clause.{Clause}
 use Rattle.elements.specs.declared.FoundElement.{FoundElement}
 use Rattle.elements.specs.declared.FoundItems.{FoundItems}
 use Rattle.elements.specs.contracts.Attributes.{patternsBy, AttributePatterns}
-use Rattle.elements.specs.contracts.Search.{failsAt, CanFail, HasPattern, Searching, OfSearch, SearchesItems, SearchesElement}
+use Rattle.elements.specs.contracts.Search.{toldIf, failsAt, CanFail, HasPattern, Searching, OfSearch, SearchesItems, SearchesElement}
 
 -- ---- an element
 
@@ -91,26 +91,26 @@ module _ (s : List ℕ) (at e : ℕ) (start : Position) (c : Clause) (words : Li
   -- An element of another name.
   pub other-element : (e ≡ c .element → ⊥) → (filled : Filled) → AttributesTake s (start .at) words n filled → SearchesItems s (filled .next .at) c words takes n list
       → (y : Bool) → HasPattern (filled .takes) (list .set) y → SearchesElement s at e start c words takes n (record { yields = y; wrong = list .wrong; next = list .next })
-  unfolding lowestMark
+  unfolding lowestIn
   other-element other filled F L y Y φs G ψ X S ruled f depth end i reads here =
       let I = element-item f Template ruled s depth at i end reads (Element e start) here e start refl in
       let done = no-attribute (I .fuel) Template ruled s (depth + 1) (I .inside) (I .contents) end (I .reads-contents) in
       let (fills, after) = F G (S .keeps) [] (I .fuel) (I .inside) (I .named) (I .reads-attributes) done in
       let l = L φs G ψ X S ruled (I .fuel) (depth + 1) end (I .contents)
       (subst (λ (k : ℕ). items (I .fuel) Template ruled s (depth + 1) k ≡ whole (I .contents) end) (sym after) (I .reads-contents)) in
-      let p = failsAt φs G ψ X n (c .element) in
+      let p = failsAt φs G ψ X (c .place) n (c .element) in
       rw (I .is-it) (record {
         ends = l .ends;
         yields = pattern-had φs G (S .bounded) ψ X n e at (I .named) (I .contents) (filled .takes) fills (list .set) (l .is) y Y;
-        finds = l .finds ∙ sym (ap (λ (b : Bool). wrongIn n (lower (onlyIf (b && clauseFails φs G ψ X n (I .named) (I .contents)) at) (lowestMark p (I .contents)))) (ne-eqb e (c .element) other));
+        finds = l .finds ∙ sym (ap (λ (t : Bool). lowerWrong (wrongAt n at (toldIf t (brokenIf (clauseFails φs G ψ X n (I .named) (I .contents)) (Breaches.Clause (c .place))))) (lowestIn n p (I .contents))) (ne-eqb e (c .element) other));
       })
 
   -- One of the clause's name: itself, and those inside it.
   pub own-element : e ≡ c .element → (named : Attributes) → AttributePatterns s (start .at) (c .facts) (c .scheme) words n named
       → SearchesItems s (named .next .at) c words takes n list → (fails : Bool) → CanFail s c (named .set) (list .set) fails
-      → (own : Wrong) → own ≡ wrongIn n (onlyIf fails at) → (y : Bool) → HasPattern (named .takes) (list .set) y
+      → (own : Wrong) → own ≡ wrongAt n at (brokenIf fails (Breaches.Clause (c .place))) → (y : Bool) → HasPattern (named .takes) (list .set) y
       → (wrong : Wrong) → wrong ≡ lowerWrong own (list .wrong) → SearchesElement s at e start c words takes n (record { yields = y; wrong = wrong; next = list .next })
-  unfolding lowestMark
+  unfolding lowestIn
   own-element same named N L fails F own is-own y Y wrong is-wrong φs G ψ X S ruled f depth end i reads here =
       let I = element-item f Template ruled s depth at i end reads (Element e start) here e start refl in
       let δ = I .named in
@@ -120,12 +120,13 @@ module _ (s : List ℕ) (at e : ℕ) (start : Position) (c : Clause) (words : Li
       let m = N ψ G (C .represents) (C .reads) (S .keeps) (I .fuel) (I .inside) δ (I .reads-attributes) done in
       let l = L φs G ψ X S ruled (I .fuel) (depth + 1) end φ (subst (λ (k : ℕ). items (I .fuel) Template ruled s (depth + 1) k ≡ whole φ end) (sym (m .ends)) (I .reads-contents)) in
       let told : fails ≡ clauseFails φs G ψ X n δ φ = F φs G ψ X C n δ φ (m .patterned) (l .is) in
-      let mine : own ≡ wrongIn n (onlyIf (failsAt φs G ψ X n (c .element) e at δ φ) at) =
-      is-own ∙ ap (λ (b : Bool). wrongIn n (onlyIf b at)) (told ∙ sym (ap (λ (b : Bool). b && clauseFails φs G ψ X n δ φ) (eq-eqb e (c .element) same))) in
+      let mine : own ≡ wrongAt n at (failsAt φs G ψ X (c .place) n (c .element) e at δ φ) =
+      is-own ∙ ap (λ (b : Bool). wrongAt n at (brokenIf b (Breaches.Clause (c .place)))) told
+      ∙ sym (ap (λ (t : Bool). wrongAt n at (toldIf t (brokenIf (clauseFails φs G ψ X n δ φ) (Breaches.Clause (c .place))))) (eq-eqb e (c .element) same)) in
       rw (I .is-it) (record {
         ends = l .ends;
         yields = pattern-had φs G (S .bounded) ψ X n e at δ φ (named .takes) (m .takes) (list .set) (l .is) y Y;
-        finds = is-wrong ∙ ap₂ lowerWrong mine (l .finds) ∙ lower-in n (onlyIf (failsAt φs G ψ X n (c .element) e at δ φ) at) (lowestMark (failsAt φs G ψ X n (c .element)) φ);
+        finds = is-wrong ∙ ap₂ lowerWrong mine (l .finds);
       })
 
 -- ---- a list of items
@@ -150,7 +151,7 @@ module _ (s : List ℕ) (c : Clause) (words : List ℕ) (takes : List (List ℕ)
   -- What the items from an offset on add to what was found before.
   pub record Added (φs : List Items) (G : Summary) (ψ : Formula) (X : Sets) (wrong : Wrong) (φ : Items) (end : ℕ) (next : Position) (found : Wrong) : Type 0 where
     pub ends : next .at ≡ end
-    pub finds : found ≡ lowerWrong wrong (wrongIn n (lowestMark (failsAt φs G ψ X n (c .element)) φ))
+    pub finds : found ≡ lowerWrong wrong (lowestIn n (failsAt φs G ψ X (c .place) n (c .element)) φ)
 
   abbrev pub Adds : Wrong → ℕ → Position → Wrong → Type 0
   Adds wrong at next found = OfSearch s c words takes n (λ φs G ψ X. (ruled : ℕ → Bool) (f depth end : ℕ) (φ : Items)
@@ -164,49 +165,48 @@ module _ (s : List ℕ) (c : Clause) (words : List ℕ) (takes : List (List ℕ)
 
   module _ (wrong : Wrong) (at : ℕ) (h : ItemHere) (is : h ≡ itemHere s at) where
     pub adds-end : (next : Position) → h ≡ End next → Adds wrong at next wrong
-    unfolding lowestMark
+    unfolding lowestIn
     adds-end next q φs G ψ X S ruled f depth end φ e =
         let F = end-first f Template ruled s depth at φ end e h is next q in
         rw (F .no-more) (record { ends = F .after; finds = sym (lower-nowhere wrong) })
 
     module _ (after : Position) (found : Wrong) where
       -- An item that is no element adds none.
-      adds-leaf : (i : Item) → ((p : ℕ → ℕ → List Attribute → Items → Bool) → lowestMarkIn p i ≡ Option.none) → (next : Position)
+      adds-leaf : (i : Item) → ((test : Test) → lowestOf n test i ≡ Nowhere) → (next : Position)
           → ((ruled : ℕ → Bool) (f depth end : ℕ) (φ : Items) → items f Template ruled s depth at ≡ whole φ end → LeafFirst Template ruled s depth at i next φ end)
           → Adds wrong (next .at) after found → Adds wrong at after found
-      unfolding lowestMark
+      unfolding lowestIn
       adds-leaf i none-in next first A φs G ψ X S ruled f depth end φ e =
           let F = first ruled f depth end φ e in
           let a = A φs G ψ X S ruled (F .fuel) depth end (F .rest) (F .reads-rest) in
-          rw (F .is-more) (record { ends = a .ends; finds = rw (none-in (failsAt φs G ψ X n (c .element))) (a .finds) })
+          rw (F .is-more) (record { ends = a .ends; finds = rw (none-in (failsAt φs G ψ X (c .place) n (c .element))) (a .finds) })
 
       pub adds-text : (next : Position) → h ≡ Text next → Adds wrong (next .at) after found → Adds wrong at after found
-      unfolding lowestMark
-      adds-text next q = adds-leaf Items.text (λ p. refl) next λ ruled f depth end φ e. text-first f Template ruled s depth at φ end e h is next q
+      unfolding lowestIn
+      adds-text next q = adds-leaf Items.text (λ test. refl) next λ ruled f depth end φ e. text-first f Template ruled s depth at φ end e h is next q
 
       pub adds-blank : (next : Position) → h ≡ Blank next → Adds wrong (next .at) after found → Adds wrong at after found
-      unfolding lowestMark
-      adds-blank next q = adds-leaf Items.blank (λ p. refl) next λ ruled f depth end φ e. blank-first f Template ruled s depth at φ end e h is next q
+      unfolding lowestIn
+      adds-blank next q = adds-leaf Items.blank (λ test. refl) next λ ruled f depth end φ e. blank-first f Template ruled s depth at φ end e h is next q
 
       pub adds-gap : (g : ℕ) (next : Position) → h ≡ Gap g next → Adds wrong (next .at) after found → Adds wrong at after found
-      unfolding lowestMark
-      adds-gap g next q = adds-leaf (Items.gap g) (λ p. refl) next λ ruled f depth end φ e. gap-first f Template ruled s depth at φ end e h is g next q .leaf
+      unfolding lowestIn
+      adds-gap g next q = adds-leaf (Items.gap g) (λ test. refl) next λ ruled f depth end φ e. gap-first f Template ruled s depth at φ end e h is g next q .leaf
 
       pub adds-element : (e : ℕ) (start : Position) → h ≡ Element e start → (own : FoundElement) → SearchesElement s at e start c words takes n own
           → (wrong′ : Wrong) → wrong′ ≡ lowerWrong wrong (own .wrong) → Adds wrong′ (own .next .at) after found → Adds wrong at after found
-      unfolding lowestMark
+      unfolding lowestIn
       adds-element e start q own E wrong′ is-wrong A φs G ψ X S ruled f depth end φ reads =
           let F = element-first f Template ruled s depth at φ end reads h is e start q in
           let i = Items.element e at (F .named) (F .contents) in
           let w = E φs G ψ X S ruled (F .fuel) depth (F .middle) i (F .reads-first) (sym q ∙ is) in
           let a = A φs G ψ X S ruled (F .fuel) depth end (F .rest) (subst (λ (k : ℕ). items (F .fuel) Template ruled s depth k ≡ whole (F .rest) end) (sym (w .ends)) (F .reads-rest)) in
-          let p = failsAt φs G ψ X n (c .element) in
-          let first = lowestMarkIn p i in
-          let rest = lowestMark p (F .rest) in
+          let p = failsAt φs G ψ X (c .place) n (c .element) in
+          let rest = lowestIn n p (F .rest) in
           rw (F .is-more) (record {
             ends = a .ends;
-            finds = a .finds ∙ ap (λ (x : Wrong). lowerWrong x (wrongIn n rest)) is-wrong ∙ lower-assoc wrong (own .wrong) (wrongIn n rest)
-                ∙ ap (lowerWrong wrong) (ap (λ (x : Wrong). lowerWrong x (wrongIn n rest)) (w .finds) ∙ lower-in n first rest);
+            finds = a .finds ∙ ap (λ (x : Wrong). lowerWrong x rest) is-wrong ∙ lower-assoc wrong (own .wrong) rest
+                ∙ ap (λ (x : Wrong). lowerWrong wrong (lowerWrong x rest)) (w .finds);
           })
 
   -- Where the search has come: what is left from here on, added to what was found, is what all of it adds to nothing; and the patterns

@@ -59,7 +59,7 @@ pub record Turning (s : List ℕ) (c : Clause) (words starts : List ℕ) (count 
   pub most : t ≤ 64
   pub is-chosen : t < 64 → member chosen t ≡ true
   pub told : (φs : List Items) (G : Summary) (ψ : Formula) (X : Sets) → Standing s φs G words starts count → ClauseAt s ψ c
-      → Exact φs G (patternsBy ψ) X → LowestWrong (Below φs chosen (λ n. failsAt φs G ψ X n (c .element)) t) lowest
+      → Exact φs G (patternsBy ψ) X → LowestWrong (Below φs chosen (λ n. failsAt φs G ψ X (c .place) n (c .element)) t) lowest
 
 module _ (s : List ℕ) (c : Clause) (words starts : List ℕ) (count chosen : ℕ) where
   -- The sets that the rounds end with are the exact ones.
@@ -76,7 +76,7 @@ module _ (s : List ℕ) (c : Clause) (words starts : List ℕ) (count chosen : �
     least = first .after;
     most = first .within;
     is-chosen = first .is-held;
-    told = λ φs G ψ X S C exact. looked-none φs chosen (λ n. failsAt φs G ψ X n (c .element)) t (first .skips);
+    told = λ φs G ψ X S C exact. looked-none φs chosen (λ n. failsAt φs G ψ X (c .place) n (c .element)) t (first .skips);
   }
 
   module _ (t : ℕ) (lowest : Wrong) (T : Turning s c words starts count chosen t lowest) where
@@ -90,13 +90,13 @@ module _ (s : List ℕ) (c : Clause) (words starts : List ℕ) (count chosen : �
       told = λ φs G ψ X S C exact.
           let k = S .graph .counts in
           let picked = T .is-chosen (omega arith) in
-          rw is (looked-more φs chosen (λ n. failsAt φs G ψ X n (c .element)) t next picked (omega arith) (first .after) (first .skips) lowest found
+          rw is (looked-more φs chosen (λ n. failsAt φs G ψ X (c .place) n (c .element)) t next picked (omega arith) (first .after) (first .skips) lowest found
           (searched φs G ψ X count (S .graph) C (exact-sets made sets settles φs G ψ X S C exact) (templateAt φs t) (S .stand t (T .least) (omega arith)))
           (T .told φs G ψ X S C exact));
     }
 
     pub turning-all : (count < t) ⊎ (32 ≤ t) → SearchesClause s c words starts count chosen lowest
-    turning-all end φs G ψ X S C exact = looked-all φs chosen (λ n. failsAt φs G ψ X n (c .element)) t lowest (past end) (T .told φs G ψ X S C exact)
+    turning-all end φs G ψ X S C exact = looked-all φs chosen (λ n. failsAt φs G ψ X (c .place) n (c .element)) t lowest (past end) (T .told φs G ψ X S C exact)
       where
         past : (count < t) ⊎ (32 ≤ t) → length φs < t
         past e = let k = S .graph .counts in let few = S .graph .few in ⊎-elim (λ e. omega arith) (λ e. omega arith) e

@@ -1,10 +1,10 @@
-// Elements of templates that are wrong by a clause of their rule (document 01, verdict 12), clause by clause.
+// Elements of templates that are wrong by a clause of their rule (document 01, verdict 12; document 02, F-6), clause by clause.
 ghost use mathlib.Core.Path.{_≡_};
 ghost use mathlib.Core.Bool.{true};
 ghost use Prim.Native.Nat.{_≤_, _<_};
 ghost use Rattle.sets.specs.contracts.Promises.{FirstMember};
-ghost use Rattle.patterns.specs.contracts.Shows.{onlyIf};
-ghost use Rattle.patterns.specs.contracts.LowestWrong.{wrongIn};
+ghost use Rattle.judging.specs.contracts.Judgement.{brokenIf};
+ghost use Rattle.patterns.specs.contracts.LowestWrong.{wrongAt};
 ghost use Rattle.elements.specs.contracts.Attributes.{AttributePatterns};
 ghost use Rattle.elements.specs.contracts.Rules.{SettledBy, SearchesTemplate, SearchesClause, SearchesRule, SearchesRules};
 ghost use Rattle.elements.specs.contracts.Search.{CanFail, HasPattern, SearchesElement, SearchesItems};
@@ -18,6 +18,7 @@ use pages::TEXT;
 use patterns::Wrong;
 use schemes::EMPTY;
 use schemes::Scheme;
+use verdicts::Breach;
 use vocabularies::Facts;
 use vocabularies::Tables;
 
@@ -114,12 +115,16 @@ fn can_fail(s: &[u8], clause: Clause, outer: [u64; 4], inner: [u64; 4]) -> bool
     clauses::clause_fails(s, formula, facts, patterns).fails
 }
 
-// The element at an offset of template n, if it is wrong.
-fn wrong_if(fails: bool, n: usize, at: usize) -> Wrong
-    ensures { λ r. ⌜ r ≡ wrongIn n (onlyIf fails at) ⌝ }
+// The element at an offset of template n, if it fails the clause at a place of its rule.
+fn wrong_if(fails: bool, n: usize, at: usize, place: usize) -> Wrong
+    ensures { λ r. ⌜ r ≡ wrongAt n at (brokenIf fails (Breach.Clause place)) ⌝ }
 {
     if fails {
-        return Wrong::At { template: n, at };
+        return Wrong::At {
+            template: n,
+            at,
+            breach: Breach::Clause(place),
+        };
     }
     Wrong::Nowhere
 }
@@ -168,7 +173,7 @@ fn search_element(
     let outer = attributes.set;
     let inner = list.set;
     let fails = can_fail(s, clause, outer, inner);
-    let own = wrong_if(fails, n, here.at);
+    let own = wrong_if(fails, n, here.at, clause.place);
     let wrong = list.wrong;
     let next = list.next;
     FoundElement {
@@ -320,7 +325,7 @@ fn search_rule(
     count: usize,
     chosen: u64,
 ) -> Wrong
-    ensures { λ r. ⌜ SearchesRule (now (s .entry)) e from (now (graph .entry)) (now (starts .entry)) count chosen r ⌝ }
+    ensures { λ r. ⌜ SearchesRule (now (s .entry)) e from 0 (now (graph .entry)) (now (starts .entry)) count chosen r ⌝ }
 {
     let mut lowest = Wrong::Nowhere;
     if chosen == 0 {

@@ -1,4 +1,4 @@
--- The verdict of a job (document 01, "Verdicts", Check a job): the first violation in document 01's order, or acceptance. After the
+-- The verdict of a job (document 01, "Verdicts", Check a job; document 02, F-6): the first violation in their order, or acceptance. After the
 -- reading it is about a script and the entries of all points, E; the proposal is one way to give them; those of the smallest
 -- proposal (document 02, F-1) are another.
 use Prim.Native.Nat.{ℕ, _≤_, _<_}
@@ -8,10 +8,12 @@ use mathlib.Core.Bool.{Bool, true, false, cond}
 use mathlib.Core.Option.{some}
 use Rattle.verdicts.specs.declared.Form.{Form}
 use Rattle.verdicts.specs.declared.Numbers.{Numbers}
-use Rattle.verdicts.specs.Printed.{prints, formNumber}
+use Rattle.verdicts.specs.declared.Breach.{Breach}
+use Rattle.verdicts.specs.declared.Fault.the-variants.{NotRoot}
+use Rattle.verdicts.specs.Printed.{prints, formNumber, faultNumbers, elementFault}
 use Rattle.commands.specs.Reading.{whole, refused}
 use Rattle.pages.specs.Items.{Items}
-use Rattle.pages.specs.RightPages.{Right, RootAlone, SomeElement, WrongAt}
+use Rattle.pages.specs.RightPages.{Right, RootAlone, SomeElement, WrongAt, FirstBreach}
 use Rattle.programs.specs.Program.{Statement, step, stop, statementAt, templateAt}
 use Rattle.summaries.specs.ProposalReading.{variableOf}
 use Rattle.summaries.specs.Summaries.{Summary, Environment, entries}
@@ -55,21 +57,22 @@ module _ (π : Script) (E : ℕ → Environment) where
     pub derived : DerivedFrom (π .templates) graph t page
     pub other : RootAlone (π .vocabulary) page → ⊥
 
-  -- The element of template t whose `23` stands at an offset is wrong in some page. In a script that was read, offsets are the job's: an
-  -- offset stands in one template, and the lowest offset has the lowest template.
-  pub record WrongIn (p t at : ℕ) : Type 0 where
+  -- The element of template t whose `23` stands at an offset is wrong in some page, by this breach. In a script that was read, offsets are
+  -- the job's: an offset stands in one template (`one-template`, agreement).
+  pub record WrongIn (p t at : ℕ) (b : Breach) : Type 0 where
     pub graph : Summary
     pub shows : graphShown (π .templates) (π .program) E p ≡ some graph
     pub page : Items
     pub derived : Language (π .templates) graph page
-    pub wrong : WrongAt (π .vocabulary) at page
+    pub wrong : WrongAt (π .vocabulary) at page b
     pub stands : SomeElement (λ e mark δ φ. mark ≡ at) (templateAt (π .templates) t)
 
 abbrev pub nextOf : Statement → Bool → ℕ
 nextOf (step a q q′) second = cond second q′ q
 nextOf stop second = 0
 
--- The verdict of a script with the entries of all its points, as its four numbers: 9, 10, 11 or 12, or acceptance.
+-- The verdict of a script with the entries of all its points, as its four numbers: 9; 10; at each show, the lowest point
+-- first, 11, and then 12, 14 or 15 at the lowest wrong element; or acceptance.
 pub data ScriptVerdict (π : Script) (E : ℕ → Environment) : Numbers → Type 0 where
   start-uncovered : {v : ℕ} → v < 8 → (StartHolds π E v → ⊥) → ((v′ : ℕ) → v′ < v → StartHolds π E v′)
       → ScriptVerdict π E (prints 9 0 0 v)
@@ -78,11 +81,11 @@ pub data ScriptVerdict (π : Script) (E : ℕ → Environment) : Numbers → Typ
       → ScriptVerdict π E (prints 10 p (nextOf (statementAt (π .program) p) second) v)
   not-root : {p t : ℕ} → AllCovered π E → ((p′ : ℕ) → p′ < p → ShowHolds π E p′)
       → NotRootAt π E p t → ((t′ : ℕ) → NotRootAt π E p t′ → t ≤ t′)
-      → ScriptVerdict π E (prints 11 p t 0)
-  wrong-element : {p t at : ℕ} → AllCovered π E → ((p′ : ℕ) → p′ < p → ShowHolds π E p′)
+      → ScriptVerdict π E (faultNumbers (NotRoot p t))
+  wrong-element : {p t at : ℕ} {b : Breach} → AllCovered π E → ((p′ : ℕ) → p′ < p → ShowHolds π E p′)
       → ((t′ : ℕ) → NotRootAt π E p t′ → ⊥)
-      → WrongIn π E p t at → ((t′ at′ : ℕ) → WrongIn π E p t′ at′ → at ≤ at′)
-      → ScriptVerdict π E (prints 12 p t at)
+      → FirstBreach (WrongIn π E p t at) b → ((t′ at′ : ℕ) (b′ : Breach) → WrongIn π E p t′ at′ b′ → at ≤ at′)
+      → ScriptVerdict π E (faultNumbers (elementFault p t at b))
   accepted : AllCovered π E → ((p : ℕ) → ShowHolds π E p) → ScriptVerdict π E (prints 0 0 0 0)
 
 -- The verdict of a job: 1 to 8 where it cannot be read; otherwise that of its script with the entries that its proposal gives.

@@ -39,7 +39,7 @@ use Rattle.judging.specs.declared.Judged.{Judged}
 use Rattle.pages.specs.PageVerdict.{PageVerdict}
 use Rattle.judging.specs.contracts.Judgement.{firstWrong, isNone, isAlone, wrongVerdict, judged, pageVerdict}
 use Rattle.agreement.proofs.Verdicts.{the-page-verdict}
-use Rattle.judging.specs.contracts.Promises.{markOf, JudgesItem}
+use Rattle.judging.specs.contracts.Promises.{JudgesItem}
 use Rattle.judging.proofs.Booleans.{by-test}
 use Rattle.judging.proofs.AttributeLaws.{no-template}
 use Rattle.judging.proofs.ItemLaws.{or-none}
@@ -101,7 +101,7 @@ module _ (D : Vocabulary) (p : List ℕ) (φ : Items) (at end : ℕ) (S : Solid 
       unfolding withoutBlank _⋈_
       alone-if e root = rw (S .same, first .is-more, eq-eqb x e root) ends-behind
 
-      wrong-in : byte p (last .at) ≡ 0x27 → firstWrong D φ ≡ markOf (r .wrong)
+      wrong-in : byte p (last .at) ≡ 0x27 → firstWrong D φ ≡ r .wrong
       unfolding firstWrong
       wrong-in at-end =
           let b = behind in
@@ -125,8 +125,8 @@ module _ (v p : List ℕ) (t : Tables) (r : Verdict) (at : Position) (A : AfterB
           is ∙ rw (other-element D p φ (at .at) end (A _ (enough p) end φ reads) h first-is x start opens (D .root) (λ q. other (q ∙ sym (H .names-root))))
 
       module _ (i : Judged) (J : (D : Vocabulary) → Describes v D t → JudgesItem D p (at .at) i) (last : Position) (B : AfterBlank p (i .next .at) last) where
-        -- 11 by what follows the root, before 12.
-        pub root-judged : x ≡ t .root → r ≡ firstRefusal (cond (eqb (byte p (last .at)) 0x27) Accepted notRoot) (wrongVerdict (markOf (i .wrong)))
+        -- 11 by what follows the root, before 12, 14 and 15.
+        pub root-judged : x ≡ t .root → r ≡ firstRefusal (cond (eqb (byte p (last .at)) 0x27) Accepted notRoot) (wrongVerdict (i .wrong))
             → JudgesRead v p t r
         root-judged root is D H φ end reads =
             let S = A _ (enough p) end φ reads in

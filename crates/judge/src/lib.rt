@@ -7,7 +7,6 @@ ghost use Rattle.verdicts.specs.TheVerdict.{TheVerdict};
 ghost use Rattle.commands.specs.Commands.{byte};
 ghost use Rattle.pages.specs.PageVerdict.{PageVerdict};
 ghost use Rattle.judging.specs.contracts.Judgement.{wrongVerdict};
-ghost use Rattle.judging.specs.contracts.Promises.{markOf};
 ghost use Rattle.judge.specs.contracts.Answers.{notRoot, firstRefusal, AfterBlank, JudgesRead, JudgesPage};
 use commands::Part;
 use commands::Past;
@@ -38,18 +37,14 @@ fn not_root() -> Verdict
     Verdict::Refused(Refusal::Page(fault))
 }
 
-// 12 at the first wrong element; no refusal where there is none.
+// 12, 14 or 15 at the first wrong element, by what it breaks; no refusal where there is none.
 fn wrong_element(wrong: FirstWrong) -> Verdict
-    ensures { λ r. ⌜ r ≡ wrongVerdict (markOf wrong) ⌝ }
+    ensures { λ r. ⌜ r ≡ wrongVerdict wrong ⌝ }
 {
-    let FirstWrong::At(at) = wrong else {
+    let FirstWrong::At { at, breach } = wrong else {
         return Verdict::Accepted;
     };
-    let element = Fault::WrongElement {
-        point: 0,
-        template: 0,
-        at,
-    };
+    let element = verdicts::element_fault(0, 0, at, breach);
     Verdict::Refused(Refusal::Page(element))
 }
 
@@ -87,7 +82,7 @@ fn first_refusal(first: Verdict, second: Verdict) -> Verdict
     first
 }
 
-// 11, unless the page is exactly one element, the root, and blank text; then 12.
+// 11, unless the page is exactly one element, the root, and blank text; then 12, 14 or 15.
 fn judge_read(vocabulary: &[u8], tables: Tables, page: &[u8]) -> Verdict
     ensures { λ r. ⌜ JudgesRead (now (vocabulary .entry)) (now (page .entry)) tables r ⌝ }
 {

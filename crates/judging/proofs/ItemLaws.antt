@@ -3,17 +3,15 @@ use Prim.Native.Nat.{ℕ, _+_, _≤_, _<_}
 use mathlib.Core.Path.{_≡_, refl, sym, ap, subst, _∙_}
 use mathlib.Core.Logic.{_⊎_, inl, inr}
 use mathlib.Core.List.{List, [], _∷_, _++_, append-assoc, append-nil}
-use mathlib.Core.Bool.{Bool, true, false, cond, false≢true}
-use mathlib.Core.Option.{Option, some, none}
-use native.Mathlib.Numerals.{add-one}
+use mathlib.Core.Bool.{Bool, false}
 use native.Mathlib.Omega.{arith}
 use lib.ListN.{length}
 use lib.Dec.{eqb}
 use borrow.Author.Tests.{eqb-false}
 use Rattle.commands.specs.declared.Position.{Position}
 use Rattle.commands.specs.Reading.{whole}
-use Rattle.vocabularies.specs.Vocabulary.{Vocabulary, ruleOf, declared, isSome}
-use Rattle.vocabularies.specs.Vocabulary as Vocabularies
+use Rattle.vocabularies.specs.Vocabulary.{Vocabulary, ruleOf, declared}
+use Rattle.vocabularies.proofs.Laws.{rule-found}
 use Rattle.pages.specs.declared.Kind.the-variants.{Page}
 use Rattle.pages.specs.declared.ItemHere.{ItemHere}
 use Rattle.pages.specs.declared.ItemHere.the-variants.{Text, Gap, Element, Blank, End}
@@ -25,23 +23,21 @@ use Rattle.pages.proofs.Steps.{no-attribute, text-first, blank-first, gap-first
 use Rattle.judging.specs.declared.Contents.{Contents}
 use Rattle.judging.specs.declared.FirstWrong.{FirstWrong}
 use Rattle.judging.specs.declared.FirstWrong.the-variants.{Nowhere, At}
+use Rattle.judging.specs.declared.Outcome.{Outcome}
 use Rattle.judging.specs.declared.Judged.{Judged}
 use Rattle.judging.specs.declared.Listed.{Listed}
 use Rattle.judging.specs.declared.Named.{Named}
-use Rattle.judging.specs.contracts.Judgement.{rightUnder, orElse, firstWrong, firstWrongItem}
-use Rattle.judging.specs.contracts.Promises.{markOf, firstMark, elementMark, stepNext, Counted, Containing, Remembered, Names, IsRight, ruleAt, Tabled, ItemJudged, JudgesItem, ItemsJudged, JudgesItems, wrongOf}
+use Rattle.judging.specs.contracts.Judgement.{breachUnder, orElse, ofElement, firstWrong, firstWrongItem}
+use Rattle.judging.specs.contracts.Promises.{breachOf, stepNext, Counted, Containing, Remembered, Names, TellsOutcome, ruleAt, Tabled, ItemJudged, JudgesItem, ItemsJudged, JudgesItems}
 use Rattle.judging.proofs.AttributeLaws.{no-template}
 
-pub or-none : (o : Option ℕ) → orElse o none ≡ o
-or-none none = refl
-or-none (some n) = refl
+pub or-none : (w : FirstWrong) → orElse w Nowhere ≡ w
+or-none Nowhere = refl
+or-none (At at b) = refl
 
-or-or : (a b c : Option ℕ) → orElse (orElse a b) c ≡ orElse a (orElse b c)
-or-or none b c = refl
-or-or (some n) b c = refl
-
-pub found-at : (at : ℕ) → wrongOf (at + 1) ≡ some at
-found-at at = rw (add-one at)
+or-or : (a b c : FirstWrong) → orElse (orElse a b) c ≡ orElse a (orElse b c)
+or-or Nowhere b c = refl
+or-or (At at k) b c = refl
 
 -- A variant's number is none of the others'.
 pub no-tag : (n a b c d : ℕ) → (eqb n a ≡ false) × (eqb n b ≡ false) × (eqb n c ≡ false) × (eqb n d ≡ false)
@@ -54,18 +50,6 @@ no-tag n a b c d h (inr (inr (inr e))) = eqb-false n d (h .3) e
 -- What has another number is no element.
 pub no-element-tag : (_≡_ {A = ℕ} 2 0) ⊎ ((_≡_ {A = ℕ} 2 1) ⊎ ((_≡_ {A = ℕ} 2 3) ⊎ (_≡_ {A = ℕ} 2 4))) → ⊥
 no-element-tag = no-tag 2 0 1 3 4 (refl, refl, refl, refl)
-
-first-marked : (a b : FirstWrong) → markOf (firstMark a b) ≡ orElse (markOf a) (markOf b)
-first-marked Nowhere b = refl
-first-marked (At at) b = refl
-
-element-marked : (right : Bool) (at : ℕ) (w : FirstWrong) → markOf (elementMark right at w) ≡ cond right (markOf w) (some at)
-element-marked true at w = refl
-element-marked false at w = refl
-
-found-rule : (o : Option Vocabularies.Rule) → isSome o ≡ true → (R : Vocabularies.Rule) × (o ≡ some R)
-found-rule none h = absurd (false≢true h)
-found-rule (some R) h = (R, refl)
 
 module _ (D : Vocabulary) (p : List ℕ) where
   abbrev ruled : ℕ → Bool
@@ -89,26 +73,26 @@ module _ (D : Vocabulary) (p : List ℕ) where
     module _ (v allowed held from : List ℕ) (T : Tabled v D allowed held from) (e : ℕ) (start : Position) (opens : h ≡ Element e start)
         (named : Named) (strings : List ℕ) (N : Names p (start .at) named strings)
         (list : Listed) (order : List (List ℕ)) (L : JudgesItems D p (named .next .at) list order)
-        (right : Bool) (R : IsRight v (ruleAt allowed held from e) (record { names = named .names; contents = list .contents }) strings order right) where
-      pub element-judged : JudgesItem D p at (record { next = list .next; wrong = elementMark right at (list .wrong) })
+        (outcome : Outcome) (R : TellsOutcome v (ruleAt allowed held from e) (record { names = named .names; contents = list .contents }) strings order outcome) where
+      pub element-judged : JudgesItem D p at (record { next = list .next; wrong = ofElement (breachOf outcome) at (list .wrong) })
       unfolding firstWrongItem
       element-judged f depth end i reads =
           let P = element-item f Page ruled p depth at i end reads h is e start opens in
           let done = no-attribute (P .fuel) Page ruled p (depth + 1) (P .inside) (P .contents) end (P .reads-contents) in
           let n = N (P .fuel) (P .inside) (P .named) (P .reads-attributes) done in
           let l = L (P .fuel) (depth + 1) end (P .contents) (subst (λ (m : ℕ). items (P .fuel) Page ruled p (depth + 1) m ≡ whole (P .contents) end) (sym (n .0)) (P .reads-contents)) in
-          let rule = found-rule (ruleOf (D .rules) e) (P .has-rule) in
-          let r : right ≡ rightUnder (rule .0) (P .named) (word (P .contents)) = R (rule .0) (P .named) (word (P .contents)) (l .count) (T e (rule .0) (rule .1)) (n .1) (l .contains) in
+          let rule = rule-found (ruleOf (D .rules) e) (P .has-rule) in
+          let r : breachOf outcome ≡ breachUnder (rule .0) (P .named) (word (P .contents)) = R (rule .0) (P .named) (word (P .contents)) (l .count) (T e (rule .0) (rule .1)) (n .1) (l .contains) in
           rw (P .is-it) (record {
             ends = l .ends;
-            finds = element-marked right at (list .wrong) ∙ rw (rule .1, ← r, l .finds);
+            finds = rw (rule .1, ← r, l .finds);
           })
 
   -- ---- a list of items
 
   module _ (depth : ℕ) (φ : Items) (end : ℕ) where
     -- What is left of a list behind the items of the word `before`.
-    record Left (before : List ℕ) (wrong : Option ℕ) (at : ℕ) : Type 0 where
+    record Left (before : List ℕ) (wrong : FirstWrong) (at : ℕ) : Type 0 where
       fuel : ℕ
       left : Items
       reads : items fuel Page ruled p depth at ≡ whole left end
@@ -119,7 +103,7 @@ module _ (D : Vocabulary) (p : List ℕ) where
     pub record Judging (order : List (List ℕ)) (at : ℕ) (inside : Contents) (wrong : FirstWrong) : Type 0 where
       before : List ℕ
       contains : Containing before (inside .set) order (inside .count)
-      left : Left before (markOf wrong) at
+      left : Left before wrong at
 
     pub all-left : (f at : ℕ) (order : List (List ℕ)) → items f Page ruled p depth at ≡ whole φ end → Containing [] 0 order 0 → Judging order at (record { set = 0; count = 0 }) Nowhere
     all-left f at order e C = record { before = []; contains = C; left = record { fuel = f; left = φ; reads = e; is = refl; finds = refl } }
@@ -135,14 +119,14 @@ module _ (D : Vocabulary) (p : List ℕ) where
             count = inside .count;
             contains = rw w (J .contains);
             ends = E .after;
-            finds = sym (L .finds ∙ rw (E .no-more) (or-none (markOf wrong)));
+            finds = sym (L .finds ∙ rw (E .no-more) (or-none wrong));
           }
 
       -- An item more, with its contents: one, or none.
       module _ (cs : List ℕ) (r : Contents) (last : List (List ℕ)) (next : ℕ)
           (add : (w : List ℕ) → Containing w (inside .set) order (inside .count) → Containing (w ++ cs) (r .set) last (r .count)) where
         item-left : (fuel : ℕ) (i : Item) (rest : Items) → J .left .left ≡ more i rest → ((w : List ℕ) → wordItem i w ≡ cs ++ w)
-            → items fuel Page ruled p depth next ≡ whole rest end → (w : FirstWrong) → orElse (markOf wrong) (firstWrongItem D i) ≡ markOf w → Judging last next r w
+            → items fuel Page ruled p depth next ≡ whole rest end → (w : FirstWrong) → orElse wrong (firstWrongItem D i) ≡ w → Judging last next r w
         unfolding word firstWrong
         item-left fuel i rest is-more is-cs reads w found = record {
           before = J .before ++ cs;
@@ -153,8 +137,8 @@ module _ (D : Vocabulary) (p : List ℕ) where
             reads = reads;
             is = J .left .is ∙ ap (λ (x : Items). J .before ++ word x) is-more ∙ ap (λ (x : List ℕ). J .before ++ x) (is-cs (word rest))
                 ∙ sym (append-assoc (J .before) cs (word rest));
-            finds = J .left .finds ∙ ap (λ (x : Items). orElse (markOf wrong) (firstWrong D x)) is-more
-                ∙ sym (or-or (markOf wrong) (firstWrongItem D i) (firstWrong D rest)) ∙ ap (λ (o : Option ℕ). orElse o (firstWrong D rest)) found;
+            finds = J .left .finds ∙ ap (λ (x : Items). orElse wrong (firstWrong D x)) is-more
+                ∙ sym (or-or wrong (firstWrongItem D i) (firstWrong D rest)) ∙ ap (λ (o : FirstWrong). orElse o (firstWrong D rest)) found;
           };
         }
 
@@ -164,14 +148,14 @@ module _ (D : Vocabulary) (p : List ℕ) where
       text-more next e r last one =
           let L = J .left in
           let F = text-first (L .fuel) Page ruled p depth at (L .left) end (L .reads) h is next e in
-          item-left (0 ∷ []) r last (next .at) one (F .fuel) text (F .rest) (F .is-more) (λ w. refl) (F .reads-rest) wrong (or-none (markOf wrong))
+          item-left (0 ∷ []) r last (next .at) one (F .fuel) text (F .rest) (F .is-more) (λ w. refl) (F .reads-rest) wrong (or-none wrong)
 
       blank-more : (next : Position) → h ≡ Blank next → Judging order (next .at) inside wrong
       unfolding wordItem firstWrongItem
       blank-more next e =
           let L = J .left in
           let F = blank-first (L .fuel) Page ruled p depth at (L .left) end (L .reads) h is next e in
-          item-left [] inside order (next .at) (λ w C. rw (append-nil w) C) (F .fuel) blank (F .rest) (F .is-more) (λ w. refl) (F .reads-rest) wrong (or-none (markOf wrong))
+          item-left [] inside order (next .at) (λ w C. rw (append-nil w) C) (F .fuel) blank (F .rest) (F .is-more) (λ w. refl) (F .reads-rest) wrong (or-none wrong)
 
       pub gap-more : {A : Type 0} (g : ℕ) (next : Position) → h ≡ Gap g next → A
       gap-more g next e =
@@ -180,14 +164,14 @@ module _ (D : Vocabulary) (p : List ℕ) where
 
       pub element-more : (x : ℕ) (start : Position) → h ≡ Element x start → (i : Judged) → JudgesItem D p at i → (r : Contents) (last : List (List ℕ))
           → ((w : List ℕ) → Containing w (inside .set) order (inside .count) → Containing (w ++ (x ∷ [])) (r .set) last (r .count))
-          → Judging last (i .next .at) r (firstMark wrong (i .wrong))
+          → Judging last (i .next .at) r (orElse wrong (i .wrong))
       unfolding wordItem
       element-more x start e i judges r last one =
           let L = J .left in
           let F = element-first (L .fuel) Page ruled p depth at (L .left) end (L .reads) h is x start e in
           let j = judges (F .fuel) depth (F .middle) _ (F .reads-first) in
-          item-left (x ∷ []) r last (i .next .at) one (F .fuel) _ (F .rest) (F .is-more) (λ w. refl) (rw (j .ends) (F .reads-rest)) (firstMark wrong (i .wrong))
-          (rw (← j .finds) (sym (first-marked wrong (i .wrong))))
+          item-left (x ∷ []) r last (i .next .at) one (F .fuel) _ (F .rest) (F .is-more) (λ w. refl) (rw (j .ends) (F .reads-rest)) (orElse wrong (i .wrong))
+          (rw (← j .finds))
 
 -- The state of the walk over a list.
 pub record Going (v attributes contents clauses p : List ℕ) (at₀ : ℕ) (order shapes : List (List ℕ)) (at : ℕ) (inside : Contents) (wrong : FirstWrong) : Type 0 where

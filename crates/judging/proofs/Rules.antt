@@ -1,7 +1,8 @@
--- An element's tables and its rule's: when the element is right.
-use Prim.Native.Nat.{ℕ, _+_, _%_}
+-- An element's tables and its rule's: what the element breaks.
+use Prim.Native.Nat.{ℕ, suc, _+_, _%_}
 use mathlib.Core.Path.{_≡_, refl, sym, ap, ap₂, subst, _∙_}
 use mathlib.Core.List.{List, [], _∷_}
+use mathlib.Core.Option.{Option, some}
 use mathlib.Core.Bool.{Bool, true, false, not, _&&_, _||_, or-true, false≢true}
 use native.Mathlib.Omega.{arith}
 use lib.ListN.{length, getD}
@@ -15,10 +16,15 @@ use Rattle.vocabularies.specs.Vocabulary as Vocabularies
 use Rattle.vocabularies.specs.contracts.Promises.{RuleTables}
 use Rattle.pages.specs.Items.{Attribute}
 use Rattle.pages.specs.RightPages.{names}
+use Rattle.verdicts.specs.declared.Breach.{Breach}
+use Rattle.verdicts.specs.declared.Breach.the-variants.{Content, Clause}
+use Rattle.verdicts.specs.declared.Breach.the-variants as Breaches
+use Rattle.judging.specs.declared.Outcome.{Outcome}
+use Rattle.judging.specs.declared.Outcome.the-variants.{Breaks}
 use Rattle.judging.specs.declared.Shape.{Shape}
 use Rattle.judging.specs.declared.Rule.{Rule}
-use Rattle.judging.specs.contracts.Judgement.{Atoms, truthOf, allTrue, atomsOf, allIn, rightUnder, precedes, holdsValue}
-use Rattle.judging.specs.contracts.Promises.{firstPlace, lastPlace, tableAtoms, AllHold, Naming, Containing, IsRight}
+use Rattle.judging.specs.contracts.Judgement.{Atoms, truthOf, atomsOf, allIn, brokenIf, orFirst, firstFailing, isFalse, breachUnder, precedes, holdsValue}
+use Rattle.judging.specs.contracts.Promises.{firstPlace, lastPlace, tableAtoms, breachOf, FirstFails, Naming, Containing, TellsOutcome}
 use Rattle.judging.proofs.Booleans.{by-test, or-then-right}
 use Rattle.judging.proofs.WordLaws.{none-precedes, precedes-none}
 
@@ -66,10 +72,10 @@ module _ (A B : Atoms) (s : Same A B) where
   same-truth (order c d) = s .orders c d
   same-truth (value a m) = s .values a m
 
-  same-all : (ψs : List Formula) → allTrue A ψs ≡ allTrue B ψs
-  unfolding allTrue
-  same-all [] = refl
-  same-all (ψ ∷ ψs) = ap₂ _&&_ (same-truth ψ) (same-all ψs)
+  same-failing : (k : ℕ) (ψs : List Formula) → firstFailing (isFalse A) k ψs ≡ firstFailing (isFalse B) k ψs
+  unfolding firstFailing
+  same-failing k [] = refl
+  same-failing k (ψ ∷ ψs) = ap₂ orFirst (ap (λ (t : Bool). brokenIf (not t) (Clause k)) (same-truth ψ)) (same-failing (suc k) ψs)
 
 module _ (δ : List Attribute) (w : List ℕ) (shape : Shape) (strings : List ℕ) (order : List (List ℕ)) (count : ℕ)
     (N : Naming δ (shape .names) strings) (C : Containing w (shape .contents) order count) where
@@ -93,28 +99,28 @@ module _ (δ : List Attribute) (w : List ℕ) (shape : Shape) (strings : List �
   }
 
   module _ (v : List ℕ) (R : Vocabularies.Rule) (allowed held from : ℕ) (T : RuleTables v R allowed held from) where
-    abbrev Right : Bool → Type 0
-    Right b = b ≡ rightUnder R δ w
+    abbrev Broken : Option Breach → Type 0
+    Broken o = o ≡ breachUnder R δ w
 
-    names-wrong : MembersWithin (shape .names) allowed false → Right false
-    unfolding rightUnder
+    names-wrong : MembersWithin (shape .names) allowed false → Broken (some Breaches.Attribute)
+    unfolding breachUnder
     names-wrong h = rw (within-lists (shape .names) allowed (names δ) (R .attributes) (N .has) (T .allows) false h)
 
     module _ (names-right : MembersWithin (shape .names) allowed true) where
-      contents-wrong : MembersWithin (shape .contents) held false → Right false
-      unfolding rightUnder
+      contents-wrong : MembersWithin (shape .contents) held false → Broken (some Content)
+      unfolding breachUnder
       contents-wrong h =
           rw (
             within-lists (shape .names) allowed (names δ) (R .attributes) (N .has) (T .allows) true names-right,
             within-lists (shape .contents) held w (R .contents) (C .has) (T .holds) false h,
           )
 
-      clauses-tell : MembersWithin (shape .contents) held true → (b : Bool) → AllHold (tableAtoms shape strings order) v from b → Right b
-      unfolding rightUnder
-      clauses-tell h b H =
+      clauses-tell : MembersWithin (shape .contents) held true → (o : Option Breach) → FirstFails (tableAtoms shape strings order) v from 0 o → Broken o
+      unfolding breachUnder
+      clauses-tell h o H =
           let f = length v + length v + 2 in
           let q = T .stands f (omega arith) in
-          let e : b ≡ allTrue (atomsOf δ w) (R .clauses) = H f (q .0) (R .clauses) (q .1) ∙ same-all _ _ table-same (R .clauses) in
+          let e : o ≡ firstFailing (isFalse (atomsOf δ w)) 0 (R .clauses) = H f (q .0) (R .clauses) (q .1) ∙ same-failing _ _ table-same 0 (R .clauses) in
           rw (
             within-lists (shape .names) allowed (names δ) (R .attributes) (N .has) (T .allows) true names-right,
             within-lists (shape .contents) held w (R .contents) (C .has) (T .holds) true h,
@@ -122,14 +128,14 @@ module _ (δ : List Attribute) (w : List ℕ) (shape : Shape) (strings : List �
 
 -- What the three tests tell, in the code's order.
 module _ (v : List ℕ) (rule : Rule) (shape : Shape) (strings : List ℕ) (order : List (List ℕ)) where
-  pub names-fail : (t : Bool) → MembersWithin (shape .names) (rule .attributes) t → t ≡ false → IsRight v rule shape strings order false
+  pub names-fail : (t : Bool) → MembersWithin (shape .names) (rule .attributes) t → t ≡ false → TellsOutcome v rule shape strings order (Breaks Breaches.Attribute)
   names-fail t h e R δ w count T N C = names-wrong δ w shape strings order count N C v R _ _ _ T (subst (MembersWithin (shape .names) (rule .attributes)) e h)
 
   module _ (t u : Bool) (h : MembersWithin (shape .names) (rule .attributes) t) (e : t ≡ true) (h′ : MembersWithin (shape .contents) (rule .contents) u) where
-    pub contents-fail : u ≡ false → IsRight v rule shape strings order false
+    pub contents-fail : u ≡ false → TellsOutcome v rule shape strings order (Breaks Content)
     contents-fail e′ R δ w count T N C =
         contents-wrong δ w shape strings order count N C v R _ _ _ T (subst (MembersWithin (shape .names) (rule .attributes)) e h) (subst (MembersWithin (shape .contents) (rule .contents)) e′ h′)
 
-    pub clauses-decide : u ≡ true → (b : Bool) → AllHold (tableAtoms shape strings order) v (rule .clauses .at) b → IsRight v rule shape strings order b
-    clauses-decide e′ b H R δ w count T N C =
-        clauses-tell δ w shape strings order count N C v R _ _ _ T (subst (MembersWithin (shape .names) (rule .attributes)) e h) (subst (MembersWithin (shape .contents) (rule .contents)) e′ h′) b H
+    pub clauses-decide : u ≡ true → (r : Outcome) → FirstFails (tableAtoms shape strings order) v (rule .clauses .at) 0 (breachOf r) → TellsOutcome v rule shape strings order r
+    clauses-decide e′ r H R δ w count T N C =
+        clauses-tell δ w shape strings order count N C v R _ _ _ T (subst (MembersWithin (shape .names) (rule .attributes)) e h) (subst (MembersWithin (shape .contents) (rule .contents)) e′ h′) (breachOf r) H

@@ -3,16 +3,20 @@ use Prim.Native.Nat.{ℕ, zero, suc, _+_, _≤_, _<_}
 use mathlib.Core.Path.{_≡_, refl, sym, _∙_, subst}
 use mathlib.Core.List.{List, [], _∷_}
 use mathlib.Core.Bool.{Bool, true, false, not, _&&_, false≢true}
+use mathlib.Core.Option.{Option, some, none}
+use native.Mathlib.Numerals.{add-one}
 use native.Mathlib.Omega.{arith}
-use lib.ListN.{length, getD, set, replicate, length-set, length-replicate}
+use lib.ListN.{length, getD, set, replicate, length-set}
 use lib.Seq.{getD-set-same, getD-set-other}
 use lib.Dec.{eqb, ltb}
 use borrow.Author.Tests.{eqb-true, eqb-false}
 use Rattle.sets.specs.Sets.{member}
 use Rattle.commands.specs.Commands.{byte}
+use Rattle.verdicts.specs.declared.Breach.{Breach}
+use Rattle.verdicts.specs.declared.Breach.the-variants.{Clause}
 use Rattle.judging.specs.declared.Shape.{Shape}
 use Rattle.judging.specs.contracts.Judgement.{Atoms}
-use Rattle.judging.specs.contracts.Promises.{firstPlace, lastPlace, tableAtoms, Holds, Shaped, Decides, AllHold, Settled, SettledRow, Remembered}
+use Rattle.judging.specs.contracts.Promises.{firstPlace, lastPlace, tableAtoms, Holds, Shaped, Decides, FirstFails, NoneFails, Settled, Remembered}
 use Rattle.judging.proofs.Booleans.{by-test}
 use Rattle.judging.proofs.Clauses.{past-left, none-left, first-fails, first-holds}
 
@@ -32,40 +36,42 @@ table-shaped shape strings order = record {
 
 -- ---- clauses
 
--- The clauses met so far, and those of them that all of the shape meet.
-pub record Meeting (A : Atoms) (shape : Shape) (v : List ℕ) (from at settled : ℕ) : Type 0 where
-  pub left : (b : Bool) → AllHold A v at b → AllHold A v from b
-  pub settles : (B : Atoms) → Shaped shape B → AllHold B v at true → AllHold B v settled true
+-- The clauses met so far, how many they are, and those of them that all of the shape meet.
+pub record Meeting (A : Atoms) (shape : Shape) (v : List ℕ) (from at place settled : ℕ) : Type 0 where
+  pub few : place ≤ at
+  pub left : (o : Option Breach) → FirstFails A v at place o → FirstFails A v from 0 o
+  pub settles : (B : Atoms) → Shaped shape B → NoneFails B v at → NoneFails B v settled
 
-module _ {A : Atoms} {shape : Shape} {v : List ℕ} {from at settled : ℕ} (M : Meeting A shape v from at settled) (S : Shaped shape A) where
-  pub all-met : Settled v shape at → AllHold A v from true × Settled v shape settled
-  all-met T = (M .left true (T .met A S), record { met = λ B S′. M .settles B S′ (T .met B S′) })
+module _ {A : Atoms} {shape : Shape} {v : List ℕ} {from at place settled : ℕ} (M : Meeting A shape v from at place settled) (S : Shaped shape A) where
+  pub all-met : Settled v shape at → FirstFails A v from 0 none × Settled v shape settled
+  all-met T = (M .left none (T .met A S place), record { met = λ B S′. M .settles B S′ (T .met B S′) })
 
-  pub none-more : (byte v at ≡ 0x04 → ⊥) → AllHold A v from true × Settled v shape settled
+  pub none-more : (byte v at ≡ 0x04 → ⊥) → FirstFails A v from 0 none × Settled v shape settled
   none-more other = all-met (record { met = λ B S′. none-left B v at other })
 
   module _ (code : byte v at ≡ 0x04) {start next : ℕ} {value : Bool} (is : start ≡ at + 1) (H : Holds A v start value next) where
     here : (B : Atoms) → Holds B v start value next → Holds B v (at + 1) value next
     here B = subst (λ (k : ℕ). Holds B v k value next) is
 
-    pub one-fails : value ≡ false → AllHold A v from false
-    one-fails e = M .left false (first-fails A v at value next code (here A H) e)
+    pub one-fails : value ≡ false → FirstFails A v from 0 (some (Clause place))
+    one-fails e = M .left (some (Clause place)) (first-fails A v at value next code (here A H) e place)
 
-    module _ (met : value ≡ true) where
-      goes-on : (b : Bool) → AllHold A v next b → AllHold A v from b
-      goes-on b h = M .left b (first-holds A v at value next code (here A H) met b h)
+    module _ (met : value ≡ true) (onward : at < next) where
+      goes-on : (o : Option Breach) → FirstFails A v next (place + 1) o → FirstFails A v from 0 o
+      goes-on o h = M .left o (first-holds A v at value next code (here A H) met place o (rw (add-one place) at h))
 
       -- A clause that is met by this element, and not for its shape alone.
-      pub one-more : Meeting A shape v from next next
-      one-more = record { left = goes-on; settles = λ B S′ h. h }
+      pub one-more : Meeting A shape v from next (place + 1) next
+      one-more = record { few = omega (arith, M .few); left = goes-on; settles = λ B S′ h. h }
 
       -- A clause that is met by all of the shape.
-      pub one-settled : {same : Bool} {after : ℕ} → Decides shape v start same after → same ≡ true → Meeting A shape v from next settled
+      pub one-settled : {same : Bool} {after : ℕ} → Decides shape v start same after → same ≡ true → Meeting A shape v from next (place + 1) settled
       one-settled D y = record {
+        few = omega (arith, M .few);
         left = goes-on;
-        settles = λ B S′ h.
+        settles = λ B S′ h. M .settles B S′ λ k.
             let all : Holds B v start value next = λ f depth end ψ e. (H f depth end ψ e .0, H f depth end ψ e .1 ∙ D f depth end ψ e .1 y A B S S′) in
-            M .settles B S′ (first-holds B v at value next code (here B all) met true h);
+            first-holds B v at value next code (here B all) met k none (h (suc k));
       }
 
 -- ---- the table of shapes

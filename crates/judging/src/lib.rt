@@ -9,13 +9,15 @@ ghost use Rattle.sets.specs.Sets.{member};
 ghost use Rattle.strings.specs.contracts.Promises.{setNumber};
 ghost use Rattle.vocabularies.specs.Vocabulary.{Vocabulary};
 ghost use Rattle.pages.specs.contracts.Steps.{itemHere};
-ghost use Rattle.judging.specs.contracts.Promises.{firstPlace, lastPlace, tableAtoms, markOf, firstMark, elementMark, Holds, Decides, AllHold, Settled, Remembered, Names, Counted, Containing, IsRight, Tabled, ruleAt, stepNext, JudgesItem, JudgesItems};
+ghost use Rattle.judging.specs.contracts.Judgement.{orElse, ofElement};
+ghost use Rattle.judging.specs.contracts.Promises.{firstPlace, lastPlace, tableAtoms, breachOf, Holds, Decides, FirstFails, Settled, Remembered, Names, Counted, Containing, TellsOutcome, Tabled, ruleAt, stepNext, JudgesItem, JudgesItems};
 use commands::Past;
 use commands::Position;
 use pages::AttributeHere;
 use pages::ItemHere;
 use pages::TEXT;
 use strings::StringSet;
+use verdicts::Breach;
 use vocabularies::FormulaHere;
 
 // An answer about a formula, yes or no, and the position after it.
@@ -37,9 +39,15 @@ pub struct Rule {
     pub clauses: Position,
 }
 
-// Whether all clauses are met, and the offset from which on all elements of the same shape meet them.
+// Whether an element is right under its rule, or what it breaks of it.
+pub enum Outcome {
+    Right,
+    Breaks(Breach),
+}
+
+// The first clause that fails, if one does, and the offset from which on all elements of the same shape meet all clauses.
 pub struct Met {
-    pub value: bool,
+    pub outcome: Outcome,
     pub settled: usize,
 }
 
@@ -49,10 +57,10 @@ pub struct Named {
     pub next: Position,
 }
 
-// The first wrong element of a page or of a part of it.
+// The first wrong element of a page or of a part of it, by the offset of its `23`, and what it breaks of its rule.
 pub enum FirstWrong {
     Nowhere,
-    At(usize),
+    At { at: usize, breach: Breach },
 }
 
 // An item that was judged: the position after it, and the first wrong element in it.
@@ -128,27 +136,27 @@ impl Held {
 impl FirstWrong {
     // The first of two parts, one after the other.
     fn or(self, later: FirstWrong) -> FirstWrong
-        ensures { λ r. ⌜ r ≡ firstMark self later ⌝ }
+        ensures { λ r. ⌜ r ≡ orElse self later ⌝ }
     {
         match self {
             FirstWrong::Nowhere => match later {
                 FirstWrong::Nowhere => FirstWrong::Nowhere,
-                FirstWrong::At(at) => FirstWrong::At(at),
+                FirstWrong::At { at, breach } => FirstWrong::At { at, breach },
             },
-            FirstWrong::At(at) => FirstWrong::At(at),
+            FirstWrong::At { at, breach } => FirstWrong::At { at, breach },
         }
     }
 
     // That of an element at an offset: itself, or what is wrong inside it.
-    fn of_element(self, right: bool, at: usize) -> FirstWrong
-        ensures { λ r. ⌜ r ≡ elementMark right at self ⌝ }
+    fn of_element(self, outcome: Outcome, at: usize) -> FirstWrong
+        ensures { λ r. ⌜ r ≡ ofElement (breachOf outcome) at self ⌝ }
     {
-        if !right {
-            return FirstWrong::At(at);
-        }
-        match self {
-            FirstWrong::Nowhere => FirstWrong::Nowhere,
-            FirstWrong::At(inside) => FirstWrong::At(inside),
+        match outcome {
+            Outcome::Breaks(breach) => FirstWrong::At { at, breach },
+            Outcome::Right => match self {
+                FirstWrong::Nowhere => FirstWrong::Nowhere,
+                FirstWrong::At { at: inside, breach } => FirstWrong::At { at: inside, breach },
+            },
         }
     }
 }
@@ -271,9 +279,9 @@ fn is_settled(v: &[u8], here: Position, shape: Shape) -> Held
     }
 }
 
-// Whether all clauses from here on are met, by an element with these tables. Those from `to` on are met by all of its shape; while no
-// offset is known for the shape and the rule, `to` is the end of the bytes, and the offset is found on the way.
-fn all_hold(
+// The first clause from here on that an element with these tables fails. Those from `to` on are met by all of its shape; while no offset is
+// known for the shape and the rule, `to` is the end of the bytes, and the offset is found on the way.
+fn first_failing(
     v: &[u8],
     from: Position,
     to: usize,
@@ -282,38 +290,40 @@ fn all_hold(
     order: &[[u8; 2]; 64],
 ) -> Met
     requires { ⌜ Settled (now v) shape to ⌝ }
-    ensures truth { λ r. ⌜ AllHold (tableAtoms shape (now (strings .entry)) (now (order .entry))) (now (v .entry)) (from .at) (r .value) ⌝ }
+    ensures truth { λ r. ⌜ FirstFails (tableAtoms shape (now (strings .entry)) (now (order .entry))) (now (v .entry)) (from .at) 0 (breachOf (r .outcome)) ⌝ }
     ensures settled { λ r. ⌜ Settled (now (v .entry)) shape (r .settled) ⌝ }
 {
-    let mut place = from;
+    let mut here = from;
+    let mut place: usize = 0;
     let mut settled = from.at;
-    while place.at != to {
-        let past = place.past(v, 0x04);
+    while here.at != to {
+        let past = here.past(v, 0x04);
         let Past::Over(start) = past else {
             return Met {
-                value: true,
+                outcome: Outcome::Right,
                 settled,
             };
         };
         let held = holds(v, start, shape, strings, order);
         if !held.value {
             return Met {
-                value: false,
+                outcome: Outcome::Breaks(Breach::Clause(place)),
                 settled: v.len(),
             };
         }
-        place = held.next;
+        here = held.next;
+        place += 1;
         if to < v.len() {
-            settled = place.at;
+            settled = here.at;
         } else {
             let same = is_settled(v, start, shape);
             if !same.value {
-                settled = place.at;
+                settled = here.at;
             }
         }
     }
     Met {
-        value: true,
+        outcome: Outcome::Right,
         settled,
     }
 }
@@ -371,31 +381,32 @@ fn remember(
     shapes[place] = known;
 }
 
-// Whether an element with these tables is right under a rule.
-fn is_right(
+// Whether an element with these tables is right under a rule, or what it breaks: an attribute before a content, a content before a clause.
+fn outcome_of(
     v: &[u8],
     rule: Rule,
     shape: Shape,
     strings: &[u8; 32],
     order: &[[u8; 2]; 64],
     shapes: &mut [[u64; 4]; 64],
-) -> bool
+) -> Outcome
     requires { ⌜ Remembered (now v) (now shapes) ⌝ }
-    ensures right { λ r. ⌜ IsRight (now (v .entry)) rule shape (now (strings .entry)) (now (order .entry)) r ⌝ }
+    ensures outcome { λ r. ⌜ TellsOutcome (now (v .entry)) rule shape (now (strings .entry)) (now (order .entry)) r ⌝ }
     ensures remembered { λ _. ⌜ Remembered (now (v .entry)) (now (shapes .exit)) ⌝ }
 {
     if !sets::is_within(shape.names, rule.attributes) {
-        return false;
+        return Outcome::Breaks(Breach::Attribute);
     }
     if !sets::is_within(shape.contents, rule.contents) {
-        return false;
+        return Outcome::Breaks(Breach::Content);
     }
     let from = rule.clauses;
     let place = shape_place(shape, from.at);
     let to = settled_from(v, shapes, place, shape, from.at);
-    let met = all_hold(v, from, to, shape, strings, order);
+    let met = first_failing(v, from, to, shape, strings, order);
     remember(v, shapes, place, shape, from.at, met.settled);
-    met.value
+    let outcome = met.outcome;
+    outcome
 }
 
 // The attributes straight after `23 e`: their names, and in `strings` the string of each.
@@ -517,10 +528,10 @@ pub fn judge_item(
         contents: list.contents,
     };
     let rule = rule_of(attributes, contents, clauses, e);
-    let right = is_right(v, rule, shape, &strings, &order, shapes);
+    let outcome = outcome_of(v, rule, shape, &strings, &order, shapes);
     let next = list.next;
     let within = list.wrong;
-    let wrong = within.of_element(right, here.at);
+    let wrong = within.of_element(outcome, here.at);
     Judged { next, wrong }
 }
 

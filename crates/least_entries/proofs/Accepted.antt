@@ -6,8 +6,8 @@ use mathlib.Core.Bool.{Bool, cond}
 use native.Mathlib.Omega.{arith}
 use lib.ListN.{length}
 use Rattle.verdicts.specs.declared.Numbers.{Numbers}
-use Rattle.verdicts.specs.Printed.{prints}
-use Rattle.verdicts.proofs.Told.{form-refuses}
+use Rattle.verdicts.specs.Printed.{prints, elementFault}
+use Rattle.verdicts.proofs.Told.{form-refuses, fault-refuses}
 use Rattle.commands.specs.Reading.{Read, whole, andThen, enough}
 use Rattle.programs.specs.Program.{Statement, step, stop, statementAt, Variable, templateVariable, stringVariable}
 use Rattle.summaries.specs.ProposalReading.{variableOf, proposal}
@@ -70,7 +70,7 @@ passed : {π : Script} {E : ℕ → Environment} {v : Numbers} → v .n ≡ 0 �
 passed e (start-uncovered h n b) = absurd (omega (arith, e))
 passed e (step-uncovered second starts h n b) = absurd (omega (arith, e))
 passed e (not-root c shows n l) = absurd (omega (arith, e))
-passed e (wrong-element c shows n w l) = absurd (omega (arith, e))
+passed e (wrong-element {p = p} {t = t} {at = at} {b = b} c shows n f l) = absurd (fault-refuses (elementFault p t at b) e)
 passed e (accepted covered shows) = record { covered = covered; shows = shows }
 
 -- Entries that hold the same.

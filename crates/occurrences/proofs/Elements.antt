@@ -13,7 +13,7 @@ use Rattle.sets.specs.Sets.{member}
 use Rattle.pages.specs.Items.{Attribute, Item, text, blank, gap, element, Items, none, more}
 use Rattle.pages.specs.RightPages.{SomeElement, SomeElementOf}
 use Rattle.sets.proofs.Booleans.{or-left, or-right}
-use Rattle.patterns.proofs.Standing.{Saying}
+use Rattle.agreement.proofs.SomeElements.{Saying}
 use Rattle.occurrences.specs.contracts.Occurrences.{AllElements, AllElementsOf, Stands, AllTold, Keeps}
 
 module _ (P Q : Saying) (to : (e mark : ℕ) (δ : List Attribute) (φ : Items) → P e mark δ φ → Q e mark δ φ) where

@@ -1,6 +1,6 @@
 -- Templates as trees (source 000, section 2, "XML Templates"). Templates, the values of a run and pages are all lists of items; a
 -- page has no gap left. An element keeps its mark, the offset of its `23`: no step of a run and no derivation changes it, and it gives
--- verdict 12 its place.
+-- verdicts 12, 14 and 15 their place.
 --
 -- Blank text (document 02, F-2) is an item that source 000's grammar does not have. The source's functions read it as no content: it has
 -- no gap, its word is empty, and it is accepted as text is; a derivation and a run copy it.

@@ -1,15 +1,17 @@
 -- Right pages: the acceptance relation and the language of source 000, section 6, and document 01's "exactly one element, the root", beside
--- which blank text may stand (document 02, F-2).
--- The relation is written as functions into types and as records; how it is decided is another matter.
+-- which blank text may stand (document 02, F-2). Then what is wrong with an element, and which of 12, 14 and 15 it gets (document 02, F-6).
+-- The relation is written as functions into types, records and data types; how it is decided is another matter.
 use Prim.Native.Nat.{ℕ, _≤_, _<_}
 use mathlib.Core.Path.{_≡_}
 use mathlib.Core.List.{List, [], _∷_, map, List·Memᴰ}
 use mathlib.Core.Option.{some}
-use mathlib.Core.Option as Option
 use mathlib.Core.Logic.{_⊎_}
 use mathlib.Core.Bool.{true, false}
 use lib.ListN.{length, getD}
 use Rattle.sets.specs.Sets.{member}
+use Rattle.verdicts.specs.declared.Breach.{Breach}
+use Rattle.verdicts.specs.declared.Breach.the-variants.{Content, Clause}
+use Rattle.verdicts.specs.declared.Breach.the-variants as Breaches
 use Rattle.vocabularies.specs.Vocabulary.{Formula, conj, disj, neg, truth, attr, content, order, value, Rule, Vocabulary, ruleOf}
 use Rattle.pages.specs.Items.{string, Attribute, Item, text, blank, gap, element, Items, none, more, one, withoutBlank, gapIn, attributeGapIn}
 
@@ -102,25 +104,27 @@ unfoldable mutual
   SomeElementOf P (gap g) = ⊥
   SomeElementOf P (element e mark δ φ) = P e mark δ φ ⊎ SomeElement P φ
 
--- How an element can be wrong, document 01's word for one that fails what section 6 asks of it besides D ⊨ φ: it has no rule; it has this
--- attribute, or this content, which its rule does not allow; it does not meet the clause at this place of its rule, from 0.
-pub data Way : Type 0 where
-  no-rule : Way
-  in-attribute : ℕ → Way
-  in-content : ℕ → Way
-  in-clause : ℕ → Way
-
--- The element e(δ)φ is wrong in this way. It is wrong in some way exactly if it is not `ElementRight`.
-pub data ElementWrong (D : Vocabulary) (e : ℕ) (δ : List Attribute) (φ : Items) : Way → Type 0 where
-  unruled : ruleOf (D .rules) e ≡ Option.none → ElementWrong D e δ φ no-rule
+-- The element e(δ)φ is wrong, document 01's word for one that fails what section 6 asks of it besides D ⊨ φ, by what it breaks of its rule:
+-- it has an attribute a, or a content c, that the rule does not allow; it does not meet the clause at this place, from 0. An element
+-- without a rule is not read (8); one that has a rule is wrong exactly if it is not `ElementRight` (`wrong-iff`, agreement).
+pub data ElementWrong (D : Vocabulary) (e : ℕ) (δ : List Attribute) (φ : Items) : Breach → Type 0 where
   attribute-not-allowed : {rule : Rule} (a : ℕ) → ruleOf (D .rules) e ≡ some rule → a ∈ names δ → (a ∈ rule .attributes → ⊥)
-      → ElementWrong D e δ φ (in-attribute a)
+      → ElementWrong D e δ φ Breaches.Attribute
   content-not-allowed : {rule : Rule} (c : ℕ) → ruleOf (D .rules) e ≡ some rule → c ∈ word φ → (c ∈ rule .contents → ⊥)
-      → ElementWrong D e δ φ (in-content c)
+      → ElementWrong D e δ φ Content
   clause-not-met : {rule : Rule} (i : ℕ) → ruleOf (D .rules) e ≡ some rule → i < length (rule .clauses)
-      → (Meets δ φ (getD (rule .clauses) i truth) → ⊥) → ElementWrong D e δ φ (in-clause i)
+      → (Meets δ φ (getD (rule .clauses) i truth) → ⊥) → ElementWrong D e δ φ (Clause i)
 
--- An element with this mark stands in the page and is wrong there.
-unfoldable pub WrongAt : Vocabulary → ℕ → Items → Type 0
+-- An element with this mark stands in the page and is wrong there, by this breach.
+unfoldable pub WrongAt : Vocabulary → ℕ → Items → Breach → Type 0
 unfolding SomeElement
-WrongAt D mark φ = SomeElement (λ e m δ contents. (m ≡ mark) × ((way : Way) × ElementWrong D e δ contents way)) φ
+WrongAt D mark φ b = SomeElement (λ e m δ contents. (m ≡ mark) × ElementWrong D e δ contents b) φ
+
+-- The breach that is told of an element, W saying which there are of it in some page (document 02, F-6): "12, it carries an attribute, in
+-- some page, that isn't allowed; 14, otherwise, some page gives it a content that isn't allowed; 15, otherwise, a clause fails in some
+-- page", and of the clauses "the lowest failing one".
+pub data FirstBreach (W : Breach → Type 0) : Breach → Type 0 where
+  an-attribute : W Breaches.Attribute → FirstBreach W Breaches.Attribute
+  a-content : W Content → (W Breaches.Attribute → ⊥) → FirstBreach W Content
+  a-clause : {i : ℕ} → W (Clause i) → (W Breaches.Attribute → ⊥) → (W Content → ⊥) → ((j : ℕ) → W (Clause j) → i ≤ j)
+      → FirstBreach W (Clause i)

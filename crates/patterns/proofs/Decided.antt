@@ -1,39 +1,44 @@
--- A show is decided exactly. From exact tables the lowest root is the lowest that has a page which is not exactly the root element,
--- and the lowest mark is the lowest of an element that is wrong in some page of the language; and every page of the language is right
--- if and only if there is neither.
+-- A show is decided exactly. From exact tables the lowest root is the lowest that has a page which is not exactly the root element, and the
+-- lowest element that the tests find is the lowest that is wrong in some page of the language, with the first breach in any page; and
+-- every page of the language is right if and only if there is neither.
 use Prim.Native.Nat.{ℕ, suc, _≤_, _<_}
 use native.Mathlib.Omega.{arith}
 use mathlib.Core.Path.{_≡_, refl, sym, subst, _∙_}
 use mathlib.Core.List.{List}
 use mathlib.Core.Bool.{Bool, true, false, cond, false≢true}
-use mathlib.Core.Option.{Option, none}
+use mathlib.Core.Option.{Option, some, none}
 use mathlib.Core.Logic.{_↔_, inl, inr}
 use lib.ListN.{length}
-use Rattle.vocabularies.specs.Vocabulary.{Vocabulary, Distinct}
+use Rattle.verdicts.specs.declared.Breach.{Breach}
+use Rattle.vocabularies.specs.Vocabulary.{Vocabulary, Distinct, declared}
 use Rattle.pages.specs.Items.{Attribute, Item, Items}
-use Rattle.pages.specs.RightPages.{names, ElementRight, Way, ElementWrong, Accepts, RootAlone, Right, SomeElement, SomeElementOf, WrongAt}
+use Rattle.pages.specs.RightPages.{names, ElementWrong, FirstBreach, RootAlone, Right, SomeElement, SomeElementOf, WrongAt}
 use Rattle.programs.specs.Program.{templateAt}
 use Rattle.summaries.specs.Summaries.{Summary}
 use Rattle.summaries.specs.Languages.{AttributesDerive, Derives, ItemDerives, Language, DerivedFrom, nothing, item-then, text-stays, blank-stays, gap-takes, element-keeps}
 use Rattle.agreement.proofs.Deciding.{Decided, holds, fails}
-use Rattle.agreement.proofs.Elements.{wrong-iff}
 use Rattle.agreement.proofs.Roots.{decided-alone}
-use Rattle.agreement.proofs.Gaps.{NoGap}
-use Rattle.agreement.proofs.Pages.{Found, no-wrong, wrong, found, accepts-right}
+use Rattle.agreement.proofs.Breaches.{first-told, BreachFound, no-breach, breaks}
+use Rattle.agreement.proofs.SomeElements.{Saying, some-into, some-sum}
+use Rattle.agreement.proofs.Ruled.{Ruled}
+use Rattle.agreement.proofs.Pages.{accepted-unless, accepts-right}
+use Rattle.patterns.specs.declared.Wrong.the-variants.{Nowhere}
 use Rattle.patterns.specs.contracts.Given.{Bounded, contents, SoundTemplates, SoundVocabulary}
 use Rattle.patterns.specs.contracts.Reached.{Reached, CanBe}
-use Rattle.patterns.specs.contracts.Elements.{wrongElement}
-use Rattle.patterns.specs.contracts.Shows.{Least, nowhere, Tables, ExactTables, notRoot, lowestMark, lowestRoot, lowestWrongIn, lowestWrong}
+use Rattle.patterns.specs.contracts.Elements.{breachOf}
+use Rattle.patterns.specs.contracts.LowestWrong.{LowestWrong, lowestIn}
+use Rattle.patterns.specs.contracts.Shows.{Least, Tables, ExactTables, notRoot, lowestRoot, tested, lowestWrong}
 use Rattle.patterns.proofs.Closed.{derived-no-gap, derived-closed}
 use Rattle.patterns.proofs.NotRoot.{not-root-exact}
-use Rattle.patterns.proofs.Standing.{Saying, Made, standing, reached-yields}
+use Rattle.patterns.proofs.Standing.{Made, standing, reached-yields}
 use Rattle.patterns.proofs.Reaching.{reached-there}
-use Rattle.patterns.proofs.WrongElements.{wrong-exact}
-use Rattle.patterns.proofs.Lowest.{least-iff, none-of, least-none, least-test, least-over, least-mark}
+use Rattle.patterns.proofs.WrongElements.{breach-exact}
+use Rattle.patterns.proofs.Lowest.{least-iff, none-of, least-none, least-test, least-over}
+use Rattle.patterns.proofs.LowestOf.{Here, lowest-iff, lowest-none, lowest-over, lowest-in, lowest-nowhere, none-found}
 
--- An element of this mark that is wrong.
-abbrev pub Wrong : Vocabulary → ℕ → Saying
-Wrong D at e mark δ φ = (mark ≡ at) × ((way : Way) × ElementWrong D e δ φ way)
+-- An element of this mark that is wrong, by this breach.
+abbrev pub WrongBy : Vocabulary → ℕ → Breach → Saying
+WrongBy D at b e mark δ φ = (mark ≡ at) × ElementWrong D e δ φ b
 
 module _ (φs : List Items) (G : Summary) where
   -- An element of template n whose gaps can be filled, that has no attribute twice, and whose contents have names in range.
@@ -73,7 +78,7 @@ module _ (φs : List Items) (G : Summary) where
           }) s)
       item-some-map (element-keeps a d) small once (inr s) = inr (some-map d (λ c t. small c (inr t)) (λ δ t. once δ (inr t)) s)
 
-module _ (φs : List Items) (G : Summary) (bounded : Bounded φs G) (templates : SoundTemplates φs) (D : Vocabulary) (sound : SoundVocabulary D)
+module _ (φs : List Items) (G : Summary) (bounded : Bounded φs G) (D : Vocabulary) (templates : SoundTemplates (declared (D .rules)) φs) (sound : SoundVocabulary D)
     (T : Tables) (exact : ExactTables φs G D T) where
   -- The lowest root template of which some page is not exactly the root element.
   pub lowest-root : Least (λ r. (page : Items) × DerivedFrom φs G r page × (RootAlone D page → ⊥)) (lowestRoot φs G D T)
@@ -92,85 +97,111 @@ module _ (φs : List Items) (G : Summary) (bounded : Bounded φs G) (templates :
           → (i : ℕ) × (i < suc (length φs)) × ((i ≡ r) × (notRoot G (T .classes) i ≡ true))
       back r h = (r, (let le = bounded .roots r (h .1 .0) in omega arith), (refl, decides r .1 h))
 
-  -- An element of template n of this mark that the test finds wrong.
-  abbrev Tested : ℕ → ℕ → Saying
-  Tested at n e mark δ φ = (mark ≡ at) × (wrongElement φs G (T .clauses) (T .contents) D n e δ φ ≡ true)
+  abbrev CanBreakHere : ℕ → ℕ → List Attribute → Items → Breach → Type 0
+  CanBreakHere n e δ φ b = CanBe φs G n δ φ (λ δ′ φ′. ElementWrong D e δ′ φ′ b)
 
   element-decided : (n e : ℕ) (δ : List Attribute) (φ : Items) → Fillable φs G n δ φ
-      → wrongElement φs G (T .clauses) (T .contents) D n e δ φ ≡ true ↔ CanBe φs G n δ φ (λ δ′ φ′. ElementRight D e δ′ φ′ → ⊥)
+      → BreachFound (CanBreakHere n e δ φ) (breachOf φs G (T .clauses) (T .contents) D n e δ φ)
   element-decided n e δ φ f =
-      wrong-exact φs G bounded (templates .in-range) (T .clauses) (T .contents) (exact .contents) n δ (f .attributes) φ (f .inside)
+      breach-exact φs G bounded (templates .in-range) (T .clauses) (T .contents) (exact .contents) n δ (f .attributes) φ (f .inside)
       (f .attributes-fill) (f .inside-fills) (f .once) (f .small) D e
       (λ r p ψ m. (sound .named-only e r ψ p m, exact .clauses e r ψ p m))
 
-  tested-made : (at n e mark : ℕ) (δ : List Attribute) (φ : Items) → Fillable φs G n δ φ → Tested at n e mark δ φ → Made φs G (Wrong D at) n e mark δ φ
-  tested-made at n e mark δ φ f (q, t) =
-      let (δ′, φ′, a, d, p) = element-decided n e δ φ f .0 t in
-      (δ′, φ′, a, d, (q, wrong-iff D e δ′ φ′ .1 p))
+  -- An element of template n at an offset of which the tests tell this.
+  pub record Tested (n at : ℕ) (b : Breach) : Type 0 where
+    pub there : n ≤ length φs
+    pub is-reached : T .reached n ≡ true
+    pub element : SomeElement (λ e mark δ φ. (mark ≡ at) × (tested φs G D T n e mark δ φ ≡ some b)) (templateAt φs n)
 
-  made-tested : (at n e mark : ℕ) (δ : List Attribute) (φ : Items) → Fillable φs G n δ φ → Made φs G (Wrong D at) n e mark δ φ → Tested at n e mark δ φ
-  made-tested at n e mark δ φ f (δ′, φ′, a, d, (q, p)) = (q, element-decided n e δ φ f .1 (δ′, φ′, a, d, wrong-iff D e δ′ φ′ .0 p))
+  -- Of an element that is tested, the first breach in any page is told.
+  abbrev pub Telling : ℕ → ℕ → Breach → Saying
+  Telling n at b e mark δ φ = (mark ≡ at) × FirstBreach (CanBreakHere n e δ φ) b
 
-  -- The lowest element of a template that is wrong in some page.
-  pub lowest-wrong-in : (n : ℕ) → n ≤ length φs
-      → Least (λ at. Reached φs G n × SomeElement (Made φs G (Wrong D at) n) (templateAt φs n)) (lowestWrongIn φs G D T n)
-  unfolding lowestWrongIn
-  lowest-wrong-in n h = go (T .reached n) refl
+  found-first : {W : Breach → Type 0} {b : Breach} → BreachFound W (some b) → FirstBreach W b
+  found-first (breaks f) = f
+
+  pub tested-told : (n at : ℕ) (b : Breach) → Tested n at b → Reached φs G n × SomeElement (Telling n at b) (templateAt φs n)
+  tested-told n at b t =
+      let r : Reached φs G n = exact .reached n (t .there) .0 (t .is-reached) in
+      let (page, d) = reached-yields φs G r in (
+        r,
+        some-map φs G (λ n e mark δ φ. (mark ≡ at) × (tested φs G D T n e mark δ φ ≡ some b)) (λ n. Telling n at b)
+            (λ n e mark δ φ f (q, h). (q, found-first (subst (BreachFound (CanBreakHere n e δ φ)) h (element-decided n e δ φ f))))
+            d (templates .in-range n) (templates .once n) (t .element),
+      )
+
+  -- An element that is wrong in some page is tested, by that breach or another.
+  found-some : {W : Breach → Type 0} {o : Option Breach} (b : Breach) → W b → BreachFound W o → (c : Breach) × (o ≡ some c)
+  found-some b w (no-breach n) = absurd (n b w)
+  found-some b w (breaks {b = c} f) = (c, refl)
+
+  pub wrong-tested : (page : Items) (at : ℕ) (b : Breach) → Language φs G page → WrongAt D at page b → (n : ℕ) × (c : Breach) × Tested n at c
+  unfolding WrongAt
+  wrong-tested page at b l w =
+      let (n, r, s) = standing φs G (WrongBy D at b) .0 (page, l, w) in
+      let (other, d) = reached-yields φs G r in
+      let (c, t) = some-sum (λ c e mark δ φ. (mark ≡ at) × (tested φs G D T n e mark δ φ ≡ some c)) (templateAt φs n)
+      (some-map φs G (Made φs G (WrongBy D at b)) (λ n e mark δ φ. (c : Breach) × ((mark ≡ at) × (tested φs G D T n e mark δ φ ≡ some c)))
+      (λ n e mark δ φ f (δ′, φ′, a, d, (q, v)). let (c, h) = found-some b (δ′, φ′, a, d, v) (element-decided n e δ φ f) in (c, (q, h)))
+      d (templates .in-range n) (templates .once n) s) in
+      let h = reached-there φs G bounded r in
+      (n, c, record { there = h; is-reached = exact .reached n h .1 r; element = t })
+
+  -- It can be made so.
+  pub told-made : (n at : ℕ) (b : Breach) → Tested n at b → Reached φs G n × SomeElement (Made φs G (WrongBy D at b) n) (templateAt φs n)
+  told-made n at b t =
+      let (r, s) = tested-told n at b t in (
+        r,
+        some-into (Telling n at b) (Made φs G (WrongBy D at b) n)
+            (λ e mark δ φ (q, f). let (δ′, φ′, a, d, w) = first-told f in (δ′, φ′, a, d, (q, w))) (templateAt φs n) s,
+      )
+
+  wrong-page : (n at : ℕ) (b : Breach) → Reached φs G n → SomeElement (Made φs G (WrongBy D at b) n) (templateAt φs n)
+      → (page : Items) × Language φs G page × WrongAt D at page b
+  unfolding WrongAt
+  wrong-page n at b r s = standing φs G (WrongBy D at b) .1 (n, r, s)
+
+  -- The lowest element that is tested.
+  pub lowest-tested : LowestWrong Tested (lowestWrong φs G D T)
+  unfolding lowestWrong
+  lowest-tested = lowest-iff (λ n at b. (to n at b, λ t. (n, (let h = t .there in omega arith), (t .is-reached, (refl, t .element)))))
+      (lowest-over (suc (length φs)) (λ i n at b. (T .reached i ≡ true) × Here i (tested φs G D T i) (templateAt φs i) n at b) _ (λ i h. in-template i (T .reached i) refl))
     where
-      test : ℕ → ℕ → List Attribute → Items → Bool
-      test e mark δ φ = wrongElement φs G (T .clauses) (T .contents) D n e δ φ
+      in-template : (i : ℕ) (b : Bool) → T .reached i ≡ b
+          → LowestWrong (λ n at k. (T .reached i ≡ true) × Here i (tested φs G D T i) (templateAt φs i) n at k) (cond b (lowestIn i (tested φs G D T i) (templateAt φs i)) Nowhere)
+      in-template i true e = lowest-iff (λ n at k. (λ h. (e, h), λ h. h .1)) (lowest-in i (tested φs G D T i) (templateAt φs i))
+      in-template i false e = lowest-none (λ n at k h. false≢true (sym e ∙ h .0))
 
-      go : (b : Bool) → T .reached n ≡ b
-          → Least (λ at. Reached φs G n × SomeElement (Made φs G (Wrong D at) n) (templateAt φs n)) (cond b (lowestMark test (templateAt φs n)) none)
-      go true e =
-          let r : Reached φs G n = exact .reached n h .0 e in
-          let (page, d) = reached-yields φs G r in
-          least-iff (λ at. (
-            λ s. (r, some-map φs G (Tested at) (Made φs G (Wrong D at)) (tested-made at) d (templates .in-range n) (templates .once n) s),
-            λ (r′, s). some-map φs G (Made φs G (Wrong D at)) (Tested at) (made-tested at) d (templates .in-range n) (templates .once n) s,
-          ))
-          (least-mark test (templateAt φs n))
-      go false e = nowhere (λ at (r, s). false≢true (sym e ∙ exact .reached n h .1 r))
+      to : (n at : ℕ) (b : Breach) → (i : ℕ) × (i < suc (length φs)) × ((T .reached i ≡ true) × Here i (tested φs G D T i) (templateAt φs i) n at b) → Tested n at b
+      to n at b (i, h, (r, (e, s))) = subst (λ (k : ℕ). Tested k at b) (sym e) (record { there = omega arith; is-reached = r; element = s })
 
-  -- The lowest mark of an element that is wrong in some page of the language.
-  pub lowest-wrong : Least (λ at. (page : Items) × Language φs G page × WrongAt D at page) (lowestWrong φs G D T)
-  unfolding lowestWrong WrongAt
-  lowest-wrong = least-iff (λ at. (to at, back at))
-      (least-over (suc (length φs)) (λ n at. Reached φs G n × SomeElement (Made φs G (Wrong D at) n) (templateAt φs n)) (lowestWrongIn φs G D T)
-      (λ n h. lowest-wrong-in n (omega arith)))
-    where
-      to : (at : ℕ) → (n : ℕ) × (n < suc (length φs)) × (Reached φs G n × SomeElement (Made φs G (Wrong D at) n) (templateAt φs n))
-          → (page : Items) × Language φs G page × SomeElement (Wrong D at) page
-      to at (n, h, (r, s)) = standing φs G (Wrong D at) .1 (n, r, s)
-
-      back : (at : ℕ) → (page : Items) × Language φs G page × SomeElement (Wrong D at) page
-          → (n : ℕ) × (n < suc (length φs)) × (Reached φs G n × SomeElement (Made φs G (Wrong D at) n) (templateAt φs n))
-      back at w =
-          let (n, r, s) = standing φs G (Wrong D at) .0 w in
-          (n, (let le = reached-there φs G bounded r in omega arith), (r, s))
+  -- Every element of a page of the language has a rule.
+  page-ruled : (page : Items) → Language φs G page → Ruled (declared (D .rules)) page
+  page-ruled page l c s =
+      let (n, r, t) = standing φs G (λ e mark δ φ. e ≡ c) .0 (page, l, s) in
+      templates .have-rules n c (some-into (Made φs G (λ e mark δ φ. e ≡ c) n) (λ e mark δ φ. e ≡ c) (λ e mark δ φ (δ′, φ′, a, d, q). q) (templateAt φs n) t)
 
   -- Every page of the language is right if and only if no root gives 11 and no element is wrong.
-  pub all-right : ((page : Items) → Language φs G page → Right D page) ↔ ((lowestRoot φs G D T ≡ none) × (lowestWrong φs G D T ≡ none))
+  pub all-right : ((page : Items) → Language φs G page → Right D page) ↔ ((lowestRoot φs G D T ≡ none) × (lowestWrong φs G D T ≡ Nowhere))
   all-right = (to, back)
     where
-      to : ((page : Items) → Language φs G page → Right D page) → (lowestRoot φs G D T ≡ none) × (lowestWrong φs G D T ≡ none)
+      to : ((page : Items) → Language φs G page → Right D page) → (lowestRoot φs G D T ≡ none) × (lowestWrong φs G D T ≡ Nowhere)
       to right = (
         least-none lowest-root (λ r (page, d, n). n (right page (r, d) .alone)),
-        least-none lowest-wrong (λ at (page, l, w). accepts-right D page at (right page l .accepted) w),
+        lowest-nowhere lowest-tested (λ n at b t.
+            let (r, s) = told-made n at b t in
+            let (page, l, w) = wrong-page n at b r s in
+            accepts-right D page at b (right page l .accepted) w),
       )
 
       alone-or : (page : Items) {b : Bool} → Decided (RootAlone D page) b → ((RootAlone D page → ⊥) → ⊥) → RootAlone D page
       alone-or page (holds a) k = a
       alone-or page (fails n) k = absurd (k n)
 
-      accepts-or : (page : Items) {o : Option ℕ} → Found D page o → NoGap page → ((at : ℕ) → WrongAt D at page → ⊥) → Accepts D page
-      accepts-or page (no-wrong k) h n = k h
-      accepts-or page (wrong {mark = mark} w) h n = absurd (n mark w)
-
-      back : (lowestRoot φs G D T ≡ none) × (lowestWrong φs G D T ≡ none) → (page : Items) → Language φs G page → Right D page
+      back : (lowestRoot φs G D T ≡ none) × (lowestWrong φs G D T ≡ Nowhere) → (page : Items) → Language φs G page → Right D page
       back (no-root, no-mark) page (r, (g, d)) = record {
         alone = alone-or page (decided-alone D page) (λ n. none-of (subst (Least _) no-root lowest-root) r (page, (g, d), n));
-        accepted = accepts-or page (found D page) (derived-no-gap φs G d)
-            (λ at w. none-of (subst (Least _) no-mark lowest-wrong) at (page, (r, (g, d)), w));
+        accepted = accepted-unless D page (derived-no-gap φs G d) (page-ruled page (r, (g, d)))
+            (λ at b w. let (n, c, t) = wrong-tested page at b (r, (g, d)) w in none-found (subst (LowestWrong _) no-mark lowest-tested) n at c t);
         gapless = derived-closed φs G d;
       }

@@ -1,17 +1,13 @@
--- Lowest numbers: of two sorts, over a range, and of the marks of elements.
+-- Lowest numbers: of two sorts, and over a range.
 use Prim.Native.Nat.{ℕ, zero, suc, _≤_, _<_}
 use native.Mathlib.Omega.{arith}
 use mathlib.Core.Path.{_≡_, refl, ap, subst}
-use mathlib.Core.List.{List}
 use mathlib.Core.Bool.{Bool, true, false, cond, false≢true}
 use mathlib.Core.Option.{Option, some, none}
 use mathlib.Core.Logic.{_↔_, _⊎_, inl, inr, ⊎-elim}
 use lib.Dec.{leb, eqb}
 use borrow.Author.Tests.{leb-true, leb-false, eqb-true, eqb-false}
-use Rattle.pages.specs.Items.{Attribute, Item, text, blank, gap, element, Items, more}
-use Rattle.pages.specs.Items as Items
-use Rattle.pages.specs.RightPages.{SomeElement, SomeElementOf}
-use Rattle.patterns.specs.contracts.Shows.{Least, nowhere, least, lower, onlyIf, lowestOver, lowestMark, lowestMarkIn}
+use Rattle.patterns.specs.contracts.Shows.{Least, nowhere, least, lower, onlyIf, lowestOver}
 use Rattle.sets.proofs.Booleans.{either}
 
 pub least-iff : {P Q : ℕ → Type 0} {o : Option ℕ} → ((n : ℕ) → P n ↔ Q n) → Least P o → Least Q o
@@ -73,18 +69,3 @@ least-over (suc N) P f each =
         (λ e. inr (subst (λ (j : ℕ). P j a) (eqb-true i N e) p))
         (λ e. let ne : i ≡ N → ⊥ = eqb-false i N e in inl (i, omega arith, p))
         (either (eqb i N))
-
--- The lowest mark.
-module _ (p : ℕ → ℕ → List Attribute → Items → Bool) where
-  mutual
-    unfolding lowestMark SomeElement
-
-    pub least-mark : (φ : Items) → Least (λ at. SomeElement (λ e mark δ χ. (mark ≡ at) × (p e mark δ χ ≡ true)) φ) (lowestMark p φ)
-    least-mark Items.none = nowhere (λ n h. h)
-    least-mark (more i φ) = least-lower (least-mark-in i) (least-mark φ)
-
-    least-mark-in : (i : Item) → Least (λ at. SomeElementOf (λ e mark δ χ. (mark ≡ at) × (p e mark δ χ ≡ true)) i) (lowestMarkIn p i)
-    least-mark-in text = nowhere (λ n h. h)
-    least-mark-in blank = nowhere (λ n h. h)
-    least-mark-in (gap g) = nowhere (λ n h. h)
-    least-mark-in (element e mark δ φ) = least-lower (least-test (p e mark δ φ) mark) (least-mark φ)

@@ -10,7 +10,9 @@ use Rattle.vocabularies.specs.Vocabulary.{declared}
 use Rattle.summaries.specs.Summaries.{Summary, Environment, entries}
 use Rattle.summaries.specs.Languages.{graphShown}
 use Rattle.jobs.specs.Job.{Script, Job, script, job}
-use Rattle.agreement.proofs.Readings.{Gives, gives, given, gives-then, gives-alone}
+use Rattle.agreement.proofs.Readings.{Gives, gives, given, gives-both, gives-then, gives-alone}
+use Rattle.agreement.proofs.Marks.{templates-rise}
+use Rattle.agreement.proofs.JobVerdicts.{Marked}
 use Rattle.agreement.proofs.ReadPrograms.{TemplatesThere, program-there}
 use Rattle.patterns.specs.contracts.Given.{Bounded, SoundTemplates, SoundVocabulary}
 use Rattle.patterns.proofs.ReadVocabularies.{Bytes, vocabulary-sound}
@@ -19,7 +21,8 @@ use Rattle.patterns.proofs.ReadProposals.{proposal-in-range, shown-boun
 
 pub record GivenScript (π : Script) : Type 0 where
   pub vocabulary : SoundVocabulary (π .vocabulary)
-  pub templates : SoundTemplates (π .templates)
+  pub templates : SoundTemplates (declared (π .vocabulary .rules)) (π .templates)
+  pub marked : Marked π
   pub program : TemplatesThere (length (π .templates)) (π .program)
 
 pub record GivenShows (π : Script) (E : ℕ → Environment) : Type 0 where
@@ -30,8 +33,8 @@ gives-script : (s : List ℕ) → Bytes s → Gives (Unit {0}) (λ π end. Given
 unfolding script
 gives-script s bytes =
     gives-then (vocabulary-sound s bytes) λ D next v.
-    gives-then (templates-sound (declared (D .rules)) s (enough s) 0 next) λ φs next′ t.
-    gives-then (program-there (length φs) s (enough s) next′) λ ts end p. gives (record { vocabulary = v; templates = t; program = p .templates })
+    gives-then (gives-both (templates-sound (declared (D .rules)) s (enough s) 0 next) (templates-rise (declared (D .rules)) s (enough s) 0 next)) λ φs next′ t.
+    gives-then (program-there (length φs) s (enough s) next′) λ ts end p. gives (record { vocabulary = v; templates = t .0; marked = (next, next′, t .1); program = p .templates })
 
 gives-job : (s : List ℕ) → Bytes s → Gives (Unit {0}) (λ j end. GivenShows (j .script) (entries (j .proposal))) (job s)
 unfolding job

@@ -1,4 +1,4 @@
--- Templates that were read have elements in range, and no attribute twice in one element.
+-- Templates that were read have elements in range, each with a rule, and no attribute twice in one element.
 use Prim.Native.Nat.{ℕ, zero, suc, _+_, _<_}
 use native.Mathlib.Omega.{arith}
 use mathlib.Core.Path.{_≡_, sym, subst, _∙_}
@@ -24,32 +24,34 @@ use Rattle.sets.proofs.Booleans.{or-left, or-cases, or-neither, and-left, and-r
 use Rattle.patterns.proofs.Tests.{eqb-same}
 use Rattle.patterns.proofs.Ranges.{Ranged, ranges-of, gives-ranged}
 
--- What each element that was read has: a name in range, and no attribute twice.
-abbrev ElementSound : ℕ → List Attribute → Type 0
-ElementSound e δ = (e < contents) × Distinct (names δ)
+-- What each element that was read has: a name in range, a rule, and no attribute twice.
+record ElementSound (ruled : ℕ → Bool) (e : ℕ) (δ : List Attribute) : Type 0 where
+  in-range : e < contents
+  has-rule : ruled e ≡ true
+  once : Distinct (names δ)
 
 unfoldable mutual
-  ItemsSound : Items → Type 0
-  ItemsSound none = Unit {0}
-  ItemsSound (more i φ) = ItemSound i × ItemsSound φ
+  ItemsSound : (ℕ → Bool) → Items → Type 0
+  ItemsSound ruled none = Unit {0}
+  ItemsSound ruled (more i φ) = ItemSound ruled i × ItemsSound ruled φ
 
-  ItemSound : Item → Type 0
-  ItemSound text = Unit {0}
-  ItemSound blank = Unit {0}
-  ItemSound (gap g) = Unit {0}
-  ItemSound (element e mark δ φ) = ElementSound e δ × ItemsSound φ
+  ItemSound : (ℕ → Bool) → Item → Type 0
+  ItemSound ruled text = Unit {0}
+  ItemSound ruled blank = Unit {0}
+  ItemSound ruled (gap g) = Unit {0}
+  ItemSound ruled (element e mark δ φ) = ElementSound ruled e δ × ItemsSound ruled φ
 
 -- What follows from it for each element, follows for some element of the items.
-module _ (P : ℕ → List Attribute → Type 0) (R : Type 0) (each : (e : ℕ) (δ : List Attribute) → ElementSound e δ → P e δ → R) where
+module _ (ruled : ℕ → Bool) (P : ℕ → List Attribute → Type 0) (R : Type 0) (each : (e : ℕ) (δ : List Attribute) → ElementSound ruled e δ → P e δ → R) where
   mutual
     unfolding ItemsSound SomeElement
 
-    some-sound : (φ : Items) → ItemsSound φ → SomeElement (λ e mark δ χ. P e δ) φ → R
+    some-sound : (φ : Items) → ItemsSound ruled φ → SomeElement (λ e mark δ χ. P e δ) φ → R
     some-sound none u s = absurd s
     some-sound (more i φ) (h, k) (inl s) = some-sound-of i h s
     some-sound (more i φ) (h, k) (inr s) = some-sound φ k s
 
-    some-sound-of : (i : Item) → ItemSound i → SomeElementOf (λ e mark δ χ. P e δ) i → R
+    some-sound-of : (i : Item) → ItemSound ruled i → SomeElementOf (λ e mark δ χ. P e δ) i → R
     some-sound-of text u s = absurd s
     some-sound-of blank u s = absurd s
     some-sound-of (gap g) u s = absurd s
@@ -84,11 +86,11 @@ attributes-apart k s (suc f) before at = gives-when (allowed (attributeContext k
     gives (one-apart (byte s (at + 1)) (valueAt s at code) before δ fresh apart)))
     (λ _ _. gives (none-apart before))
 
-leaf-sound : (s : List ℕ) (at code : ℕ) → ItemSound (leafAt s at code)
+leaf-sound : (ruled : ℕ → Bool) (s : List ℕ) (at code : ℕ) → ItemSound ruled (leafAt s at code)
 unfolding ItemsSound
-leaf-sound s at code = cases (eqb code 0x21) (eqb code 0x29)
+leaf-sound ruled s at code = cases (eqb code 0x21) (eqb code 0x29)
   where
-    cases : (a b : Bool) → ItemSound (cond a text (cond b blank (gap (byte s (at + 1)))))
+    cases : (a b : Bool) → ItemSound ruled (cond a text (cond b blank (gap (byte s (at + 1)))))
     cases true b = tt
     cases false true = tt
     cases false false = tt
@@ -105,50 +107,51 @@ module _ (k : Kind) (ruled : ℕ → Bool) (s : List ℕ) where
   mutual
     unfolding items ItemsSound
 
-    items-sound : (f depth at : ℕ) → Gives (Unit {0}) (λ φ end. ItemsSound φ) (items f k ruled s depth at)
+    items-sound : (f depth at : ℕ) → Gives (Unit {0}) (λ φ end. ItemsSound ruled φ) (items f k ruled s depth at)
     items-sound zero depth at = runs-out tt
     items-sound (suc f) depth at = gives-when (eqb (byte s at) (endOf depth))
         (λ _ _. gives tt)
         (λ _ _. gives-then (item-sound f depth at) λ i next m. gives-then (items-sound f depth next) λ φ end n. gives (m, n))
 
-    item-sound : (f depth at : ℕ) → Gives (Unit {0}) (λ i end. ItemSound i) (item f k ruled s depth at)
+    item-sound : (f depth at : ℕ) → Gives (Unit {0}) (λ i end. ItemSound ruled i) (item f k ruled s depth at)
     item-sound zero depth at = runs-out tt
     item-sound (suc f) depth at = gives-ranged (itemContext k) s at λ code next t. gives-when (eqb code 0x23)
         (λ _ e. gives-when (ruled (byte s (at + 1)))
-        (λ _ _. gives-when (ltb depth (nesting k))
+        (λ _ has. gives-when (ltb depth (nesting k))
         (λ _ _. gives-then (attributes-apart k s f [] next) λ δ inside apart. gives-then (items-sound f (depth + 1) inside) λ φ end n.
-        gives ((element-ranged (itemContext k) s at code t e, apart .0), n))
+        gives (record { in-range = element-ranged (itemContext k) s at code t e; has-rule = has; once = apart .0 }, n))
         (λ _ _. refuses))
         (λ _ _. refuses))
-        (λ _ _. gives (leaf-sound s at code))
+        (λ _ _. gives (leaf-sound ruled s at code))
 
-AllSound : List Items → Type 0
-AllSound φs = (n : ℕ) → ItemsSound (templateAt φs n)
+AllSound : (ℕ → Bool) → List Items → Type 0
+AllSound ruled φs = (n : ℕ) → ItemsSound ruled (templateAt φs n)
 
-no-templates : AllSound []
+no-templates : (ruled : ℕ → Bool) → AllSound ruled []
 unfolding AllSound ItemsSound templateAt
-no-templates n = tt
+no-templates ruled n = tt
 
-more-templates : (φ : Items) (φs : List Items) → ItemsSound φ → AllSound φs → AllSound (φ ∷ φs)
+more-templates : (ruled : ℕ → Bool) (φ : Items) (φs : List Items) → ItemsSound ruled φ → AllSound ruled φs → AllSound ruled (φ ∷ φs)
 unfolding AllSound ItemsSound templateAt
-more-templates φ φs h k zero = tt
-more-templates φ φs h k (suc zero) = h
-more-templates φ φs h k (suc (suc n)) = k (suc n)
+more-templates ruled φ φs h k zero = tt
+more-templates ruled φ φs h k (suc zero) = h
+more-templates ruled φ φs h k (suc (suc n)) = k (suc n)
 
-all-sound : (ruled : ℕ → Bool) (s : List ℕ) (f count at : ℕ) → Gives (Unit {0}) (λ φs end. AllSound φs) (templates f ruled s count at)
+all-sound : (ruled : ℕ → Bool) (s : List ℕ) (f count at : ℕ) → Gives (Unit {0}) (λ φs end. AllSound ruled φs) (templates f ruled s count at)
 unfolding templates
 all-sound ruled s zero count at = runs-out tt
 all-sound ruled s (suc f) count at = gives-ranged Templates s at λ code next t. gives-when (eqb code 0x2F)
-    (λ _ _. gives no-templates)
+    (λ _ _. gives (no-templates ruled))
     (λ _ _. gives-when (ltb count mostTemplates)
     (λ _ _. gives-then (items-sound Template ruled s f 0 next) λ φ after m. gives-then (all-sound ruled s f (count + 1) after) λ φs end n.
-    gives (more-templates φ φs m n))
+    gives (more-templates ruled φ φs m n))
     (λ _ _. refuses))
 
-pub templates-sound : (ruled : ℕ → Bool) (s : List ℕ) (f count at : ℕ) → Gives (Unit {0}) (λ φs end. SoundTemplates φs) (templates f ruled s count at)
+pub templates-sound : (ruled : ℕ → Bool) (s : List ℕ) (f count at : ℕ) → Gives (Unit {0}) (λ φs end. SoundTemplates ruled φs) (templates f ruled s count at)
 unfolding AllSound
 templates-sound ruled s f count at = gives-map (λ φs end all. record {
-  in-range = λ n c. some-sound (λ e δ. e ≡ c) (c < contents) (λ e δ h q. rw (sym q) (h .0)) (templateAt φs n) (all n);
-  once = λ n δ. some-sound (λ e ε. ε ≡ δ) (Distinct (names δ)) (λ e ε h q. subst (λ (ζ : List Attribute). Distinct (names ζ)) q (h .1)) (templateAt φs n) (all n);
+  in-range = λ n c. some-sound ruled (λ e δ. e ≡ c) (c < contents) (λ e δ h q. rw (sym q) (h .in-range)) (templateAt φs n) (all n);
+  have-rules = λ n c. some-sound ruled (λ e δ. e ≡ c) (ruled c ≡ true) (λ e δ h q. rw (sym q) (h .has-rule)) (templateAt φs n) (all n);
+  once = λ n δ. some-sound ruled (λ e ε. ε ≡ δ) (Distinct (names δ)) (λ e ε h q. subst (λ (ζ : List Attribute). Distinct (names ζ)) q (h .once)) (templateAt φs n) (all n);
 })
     (all-sound ruled s f count at)

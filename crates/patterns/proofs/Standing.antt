@@ -7,19 +7,16 @@ use mathlib.Core.List.{List}
 use mathlib.Core.Bool.{true, false≢true}
 use mathlib.Core.Logic.{_↔_, _⊎_, inl, inr, ⊎-elim}
 use borrow.Author.Tests.{eqb-true}
-use Rattle.pages.specs.Items.{Attribute, Item, text, blank, gap, element, Items, none, more, one, _⋈_, gapIn, gapInItem}
+use Rattle.pages.specs.Items.{Item, text, blank, gap, element, Items, none, more, one, _⋈_, gapIn, gapInItem}
 use Rattle.pages.specs.RightPages.{SomeElement, SomeElementOf}
 use Rattle.programs.specs.Program.{templateAt}
 use Rattle.summaries.specs.Proposal.{edge}
 use Rattle.summaries.specs.Summaries.{Summary}
 use Rattle.summaries.specs.Languages.{Derives, ItemDerives, Language, nothing, item-then, text-stays, blank-stays, gap-takes, element-keeps}
+use Rattle.agreement.proofs.SomeElements.{Saying}
 use Rattle.patterns.specs.contracts.Reached.{Yields, Reached, from-root, through-gap, CanBe}
 use Rattle.patterns.proofs.Tests.{eqb-same}
 use Rattle.sets.proofs.Booleans.{or-left, or-right, or-cases}
-
--- What is said of an element: its name, mark, attributes and contents.
-abbrev pub Saying : Type 1
-Saying = ℕ → ℕ → List Attribute → Items → Type 0
 
 some-left : (P : Saying) (u v : Items) → SomeElement P u → SomeElement P (u ⋈ v)
 unfolding SomeElement _⋈_
@@ -38,7 +35,7 @@ some-cases P none v s = inr s
 some-cases P (more i u) v (inl s) = inl (inl s)
 some-cases P (more i u) v (inr s) = ⊎-elim (λ t. inl (inr t)) (λ t. inr t) (some-cases P u v s)
 
--- An element of which one of two things is said, and one of which more is said.
+-- An element of which one of two things is said.
 module _ (P Q : Saying) where
   mutual
     unfolding SomeElement
@@ -55,22 +52,6 @@ module _ (P Q : Saying) where
     item-some-either (element e mark δ φ) (inl (inl p)) = inl (inl p)
     item-some-either (element e mark δ φ) (inl (inr q)) = inr (inl q)
     item-some-either (element e mark δ φ) (inr s) = ⊎-elim (λ t. inl (inr t)) (λ t. inr (inr t)) (some-either φ s)
-
-module _ (P Q : Saying) (to : (e mark : ℕ) (δ : List Attribute) (φ : Items) → P e mark δ φ → Q e mark δ φ) where
-  mutual
-    unfolding SomeElement
-
-    pub some-into : (φ : Items) → SomeElement P φ → SomeElement Q φ
-    some-into none s = s
-    some-into (more i φ) (inl s) = inl (item-some-into i s)
-    some-into (more i φ) (inr s) = inr (some-into φ s)
-
-    item-some-into : (i : Item) → SomeElementOf P i → SomeElementOf Q i
-    item-some-into text s = s
-    item-some-into blank s = s
-    item-some-into (gap g) s = s
-    item-some-into (element e mark δ φ) (inl p) = inl (to e mark δ φ p)
-    item-some-into (element e mark δ φ) (inr s) = inr (some-into φ s)
 
 module _ (φs : List Items) (G : Summary) where
   pub reached-yields : {n : ℕ} → Reached φs G n → Yields φs G n

@@ -1,165 +1,113 @@
--- The test of an element is exact: where its gaps can be filled, it passes exactly if the element, filled in some way, is not right.
+-- The tests of an element are exact: where its gaps can be filled, they tell what the element, filled in some way, breaks of its rule.
 use Prim.Native.Nat.{ℕ, _<_}
-use mathlib.Core.Path.{_≡_, refl, ap, subst}
-use mathlib.Core.List.{List, [], _∷_, List·Memᴰ·head, List·Memᴰ·tail}
-use mathlib.Core.Bool.{Bool, true, false, not, _&&_, _||_, true≢false, false≢true}
+use mathlib.Core.Path.{_≡_, refl, ap}
+use mathlib.Core.List.{List}
+use mathlib.Core.Bool.{Bool, true, not, _&&_}
 use mathlib.Core.Option.{Option, some, none}
-use mathlib.Core.Logic.{_↔_, _⊎_, ⊎-elim}
-use lib.Dec.{eqb}
-use borrow.Author.Tests.{eqb-true, not-true}
-use Rattle.vocabularies.specs.Vocabulary.{Formula, Rule, Vocabulary, ruleOf, isIn, Distinct}
+use lib.ListN.{length, getD}
+use borrow.Author.Tests.{not-true}
+use Rattle.verdicts.specs.declared.Breach.{Breach}
+use Rattle.verdicts.specs.declared.Breach.the-variants.{Content, Clause}
+use Rattle.verdicts.specs.declared.Breach.the-variants as Breaches
+use Rattle.vocabularies.specs.Vocabulary.{Formula, truth, Rule, Vocabulary, ruleOf, isIn, Distinct}
 use Rattle.vocabularies.specs.Facts.{factsOf}
 use Rattle.pages.specs.Items.{Attribute, Items}
-use Rattle.pages.specs.RightPages.{_∈_, names, word, ElementRight, SomeElement}
-use Rattle.judging.specs.contracts.Judgement.{truthOf, atomsOf, allIn, allTrue, rightUnder, rightBy}
+use Rattle.pages.specs.RightPages.{_∈_, names, word, ElementWrong, SomeElement}
+use Rattle.judging.specs.contracts.Judgement.{allIn}
 use Rattle.summaries.specs.Summaries.{Summary}
 use Rattle.summaries.specs.Languages.{AttributesDerive, Derives}
-use Rattle.agreement.proofs.Deciding.{false-iff}
-use Rattle.agreement.proofs.Elements.{decided-right}
+use Rattle.agreement.proofs.Deciding.{Decided, true-iff, false-iff, decided-iff, decided-test}
+use Rattle.agreement.proofs.Tests.{decided-member, decided-meets}
+use Rattle.agreement.proofs.Breaches.{BreachFound, no-breach, breach-found}
+use Rattle.agreement.proofs.Elements.{placed, decided-outside, unruled, attribute-breach, content-breach, clause-breach}
 use Rattle.patterns.specs.contracts.Morphisms.{factMorphism}
 use Rattle.patterns.specs.contracts.Given.{Bounded, contents, NamesInRange, NamedOnly}
 use Rattle.patterns.specs.contracts.Rounds.{Sets}
 use Rattle.patterns.specs.contracts.Reached.{CanBe, contentsOf}
-use Rattle.patterns.specs.contracts.Elements.{carriableNames, clauseFails, someClauseFails, contentOutside, wrongUnder, wrongBy, wrongElement}
+use Rattle.patterns.specs.contracts.Elements.{carriableNames, clauseFails, contentOutside, breachUnder, breachBy, breachOf}
 use Rattle.patterns.specs.contracts.Exactness.{Exact, ContentsExact}
-use Rattle.patterns.proofs.Tests.{eqb-same, any-below, below-any}
-use Rattle.sets.proofs.Booleans.{or-left, or-right, or-cases, and-both, and-left, and-right, fails-left, fails-right, fails-cases}
+use Rattle.patterns.proofs.Tests.{any-below, below-any}
+use Rattle.sets.proofs.Booleans.{and-both, and-left, and-right}
 use Rattle.patterns.proofs.Attributes.{carried-in, carried-by}
 use Rattle.patterns.proofs.Contents.{occurs-small, items-contents-exact}
 use Rattle.patterns.proofs.ElementPatterns.{clause-exact}
 
--- A number of the list that is not allowed.
-outside : (ns allowed : List ℕ) → allIn ns allowed ≡ false → (c : ℕ) × (isIn c ns ≡ true) × (isIn c allowed ≡ false)
-unfolding allIn isIn
-outside [] allowed e = absurd (true≢false e)
-outside (n ∷ ns) allowed e = ⊎-elim
-    (λ p. (n, or-left (eqb n n) (isIn n ns) (eqb-same n), p))
-    (λ p. let (c, h, q) = outside ns allowed p in (c, or-right (eqb c n) (isIn c ns) h, q))
-    (fails-cases (isIn n allowed) (allIn ns allowed) e)
-
-not-all-in : (ns allowed : List ℕ) (c : ℕ) → isIn c ns ≡ true → isIn c allowed ≡ false → allIn ns allowed ≡ false
-unfolding allIn isIn
-not-all-in [] allowed c h e = absurd (false≢true h)
-not-all-in (n ∷ ns) allowed c h e = ⊎-elim
-    (λ p. fails-left (isIn n allowed) (allIn ns allowed) (subst (λ (k : ℕ). isIn k allowed ≡ false) (eqb-true c n p) e))
-    (λ p. fails-right (isIn n allowed) (allIn ns allowed) (not-all-in ns allowed c p e))
-    (or-cases (eqb c n) (isIn c ns) h)
-
 module _ (φs : List Items) (G : Summary) (bounded : Bounded φs G) (named : NamesInRange φs) where
-  module _ (X : Formula → Sets) where
-    -- What is to be known of a clause.
-    abbrev pub Worked : Formula → Type 0
-    Worked ψ = NamedOnly ψ × Exact φs G (factMorphism (factsOf ψ)) (X ψ)
+  -- What is to be known of a clause.
+  abbrev pub Worked : (Formula → Sets) → Formula → Type 0
+  Worked X ψ = NamedOnly ψ × Exact φs G (factMorphism (factsOf ψ)) (X ψ)
 
-    clauses-fail : (ψs : List Formula) → ((ψ : Formula) → ψ ∈ ψs → Worked ψ) → (n : ℕ) (δ : List Attribute) (φ : Items) → Distinct (names δ)
-        → someClauseFails φs G X ψs n δ φ ≡ true → CanBe φs G n δ φ (λ δ′ φ′. allTrue (atomsOf δ′ (word φ′)) ψs ≡ false)
-    unfolding someClauseFails allTrue
-    clauses-fail [] worked n δ φ once e = absurd (false≢true e)
-    clauses-fail (ψ ∷ ψs) worked n δ φ once e = ⊎-elim
-        (λ p.
-        let (k, ex) = worked ψ (List·Memᴰ·head refl) in
-        let (δ′, φ′, a, d, q) = clause-exact φs G bounded ψ k (X ψ) ex n δ φ once .0 p in
-        (δ′, φ′, a, d, fails-left (truthOf (atomsOf δ′ (word φ′)) ψ) (allTrue (atomsOf δ′ (word φ′)) ψs) q))
-        (λ p.
-        let (δ′, φ′, a, d, q) = clauses-fail ψs (λ χ m. worked χ (List·Memᴰ·tail m)) n δ φ once p in
-        (δ′, φ′, a, d, fails-right (truthOf (atomsOf δ′ (word φ′)) ψ) (allTrue (atomsOf δ′ (word φ′)) ψs) q))
-        (or-cases (clauseFails φs G ψ (X ψ) n δ φ) (someClauseFails φs G X ψs n δ φ) e)
-
-    fail-clauses : (ψs : List Formula) → ((ψ : Formula) → ψ ∈ ψs → Worked ψ) → (n : ℕ) (δ : List Attribute) (φ : Items) → Distinct (names δ)
-        → CanBe φs G n δ φ (λ δ′ φ′. allTrue (atomsOf δ′ (word φ′)) ψs ≡ false) → someClauseFails φs G X ψs n δ φ ≡ true
-    unfolding someClauseFails allTrue
-    fail-clauses [] worked n δ φ once (δ′, φ′, a, d, e) = absurd (true≢false e)
-    fail-clauses (ψ ∷ ψs) worked n δ φ once (δ′, φ′, a, d, e) = ⊎-elim
-        (λ p.
-        let (k, ex) = worked ψ (List·Memᴰ·head refl) in
-        or-left (clauseFails φs G ψ (X ψ) n δ φ) (someClauseFails φs G X ψs n δ φ)
-        (clause-exact φs G bounded ψ k (X ψ) ex n δ φ once .1 (δ′, φ′, a, d, p)))
-        (λ p. or-right (clauseFails φs G ψ (X ψ) n δ φ) (someClauseFails φs G X ψs n δ φ)
-        (fail-clauses ψs (λ χ m. worked χ (List·Memᴰ·tail m)) n δ φ once (δ′, φ′, a, d, p)))
-        (fails-cases (truthOf (atomsOf δ′ (word φ′)) ψ) (allTrue (atomsOf δ′ (word φ′)) ψs) e)
-
-  -- An element of template n whose gaps can be filled, that has no attribute twice, and whose contents have names in range.
+  -- An element e of template n whose gaps can be filled, that has no attribute twice, and whose contents have names in range.
   module _ (X : Formula → Sets) (C : Sets) (exact : ContentsExact φs G C) (n : ℕ) (δ δ₀ : List Attribute) (φ φ₀ : Items)
       (a₀ : AttributesDerive φs G n δ δ₀) (d₀ : Derives φs G n φ φ₀) (once : Distinct (names δ))
-      (small : (c : ℕ) → SomeElement (λ e mark ε χ. e ≡ c) φ → c < contents) where
-    content-fails : (allowed : List ℕ) → contentOutside φs G C allowed n φ ≡ true → CanBe φs G n δ φ (λ δ′ φ′. allIn (word φ′) allowed ≡ false)
-    unfolding contentOutside
-    content-fails allowed e =
-        let (c, h, p) = below-any contents (λ c. contentsOf φs G C n φ c && not (isIn c allowed)) e in
-        let (φ′, d, i) = items-contents-exact φs G bounded C exact n φ φ₀ d₀ c .0 (and-left (contentsOf φs G C n φ c) (not (isIn c allowed)) p) in (
-          δ₀,
-          φ′,
-          a₀,
-          d,
-          not-all-in (word φ′) allowed c i (not-true (isIn c allowed) (and-right (contentsOf φs G C n φ c) (not (isIn c allowed)) p)),
-        )
+      (small : (c : ℕ) → SomeElement (λ e mark ε χ. e ≡ c) φ → c < contents) (D : Vocabulary) (e : ℕ) where
+    -- It breaks this, filled in some way.
+    abbrev pub CanBreak : Breach → Type 0
+    CanBreak b = CanBe φs G n δ φ (λ δ′ φ′. ElementWrong D e δ′ φ′ b)
 
-    fail-content : (allowed : List ℕ) → CanBe φs G n δ φ (λ δ′ φ′. allIn (word φ′) allowed ≡ false) → contentOutside φs G C allowed n φ ≡ true
-    unfolding contentOutside
-    fail-content allowed (δ′, φ′, a, d, e) =
-        let (c, i, p) = outside (word φ′) allowed e in
-        any-below contents (λ c′. contentsOf φs G C n φ c′ && not (isIn c′ allowed)) c (occurs-small φs G named d small c i)
-        (and-both _ _ (items-contents-exact φs G bounded C exact n φ φ₀ d₀ c .1 (φ′, d, i)) (ap not p))
+    module _ (r : Rule) (p : ruleOf (D .rules) e ≡ some r) (worked : (ψ : Formula) → ψ ∈ r .clauses → Worked X ψ) where
+      attribute-decided : Decided (CanBreak Breaches.Attribute) (not (allIn (carriableNames G n δ) (r .attributes)))
+      attribute-decided = decided-iff (to, back) (decided-outside (carriableNames G n δ) (r .attributes))
+        where
+          to : (a : ℕ) × (a ∈ carriableNames G n δ) × (a ∈ r .attributes → ⊥) → CanBreak Breaches.Attribute
+          to (a, m, out) =
+              let (δ′, d, h) = carried-by φs G bounded a₀ a (true-iff (decided-member a (carriableNames G n δ)) .1 m) in
+              (δ′, φ₀, d, d₀, attribute-breach D e δ′ φ₀ r p .0 (a, true-iff (decided-member a (names δ′)) .0 h, out))
 
-    attribute-fails : (allowed : List ℕ) → allIn (carriableNames G n δ) allowed ≡ false → CanBe φs G n δ φ (λ δ′ φ′. allIn (names δ′) allowed ≡ false)
-    attribute-fails allowed e =
-        let (c, i, p) = outside (carriableNames G n δ) allowed e in
-        let (δ′, a, h) = carried-by φs G bounded a₀ c i in
-        (δ′, φ₀, a, d₀, not-all-in (names δ′) allowed c h p)
+          back : CanBreak Breaches.Attribute → (a : ℕ) × (a ∈ carriableNames G n δ) × (a ∈ r .attributes → ⊥)
+          back (δ′, φ′, d, d′, w) =
+              let (a, m, out) = attribute-breach D e δ′ φ′ r p .1 w in
+              (a, true-iff (decided-member a (carriableNames G n δ)) .0 (carried-in φs G bounded d a (true-iff (decided-member a (names δ′)) .1 m)), out)
 
-    fail-attribute : (allowed : List ℕ) (δ′ : List Attribute) → AttributesDerive φs G n δ δ′ → allIn (names δ′) allowed ≡ false → allIn (carriableNames G n δ) allowed ≡ false
-    fail-attribute allowed δ′ a e =
-        let (c, i, p) = outside (names δ′) allowed e in
-        not-all-in (carriableNames G n δ) allowed c (carried-in φs G bounded a c i) p
+      outside : ℕ → Bool
+      outside c = contentsOf φs G C n φ c && not (isIn c (r .contents))
 
-    module _ (r : Rule) (worked : (ψ : Formula) → ψ ∈ r .clauses → Worked X ψ) where
-      carried-right : Bool
-      carried-right = allIn (carriableNames G n δ) (r .attributes)
+      content-decided : Decided (CanBreak Content) (contentOutside φs G C (r .contents) n φ)
+      unfolding contentOutside outside
+      content-decided = decided-iff (to, back) (decided-test (contentOutside φs G C (r .contents) n φ))
+        where
+          to : contentOutside φs G C (r .contents) n φ ≡ true → CanBreak Content
+          to t =
+              let (c, h, q) = below-any contents outside t in
+              let (φ′, d, i) = items-contents-exact φs G bounded C exact n φ φ₀ d₀ c .0 (and-left (contentsOf φs G C n φ c) (not (isIn c (r .contents))) q) in
+              let out = not-true (isIn c (r .contents)) (and-right (contentsOf φs G C n φ c) (not (isIn c (r .contents))) q) in
+              (δ₀, φ′, a₀, d, content-breach D e δ₀ φ′ r p .0 (c, true-iff (decided-member c (word φ′)) .0 i, false-iff (decided-member c (r .contents)) .0 out))
 
-      names-right : List Attribute → Bool
-      names-right ε = allIn (names ε) (r .attributes)
+          back : CanBreak Content → contentOutside φs G C (r .contents) n φ ≡ true
+          back (δ′, φ′, a, d, w) =
+              let (c, m, out) = content-breach D e δ′ φ′ r p .1 w in
+              let i = true-iff (decided-member c (word φ′)) .1 m in
+              any-below contents outside c (occurs-small φs G named d small c i)
+              (and-both _ _ (items-contents-exact φs G bounded C exact n φ φ₀ d₀ c .1 (φ′, d, i)) (ap not (false-iff (decided-member c (r .contents)) .1 out)))
 
-      word-right : Items → Bool
-      word-right χ = allIn (word χ) (r .contents)
+      clause-decided : (i : ℕ) → i < length (r .clauses) → Decided (CanBreak (Clause i)) (clauseFails φs G (getD (r .clauses) i truth) (X (getD (r .clauses) i truth)) n δ φ)
+      clause-decided i h = decided-iff (to, back) (decided-test (clauseFails φs G ψ (X ψ) n δ φ))
+        where
+          ψ : Formula
+          ψ = getD (r .clauses) i truth
 
-      clauses-right : List Attribute → Items → Bool
-      clauses-right ε χ = allTrue (atomsOf ε (word χ)) (r .clauses)
+          known : Worked X ψ
+          known = worked ψ (placed truth (r .clauses) i h)
 
-      under-wrong : wrongUnder φs G X C r n δ φ ≡ true → CanBe φs G n δ φ (λ δ′ φ′. rightUnder r δ′ (word φ′) ≡ false)
-      unfolding wrongUnder rightUnder carried-right names-right word-right clauses-right
-      under-wrong e = ⊎-elim
-          (λ p. ⊎-elim
-          (λ q. let (δ′, φ′, a, d, h) = attribute-fails (r .attributes) (not-true carried-right q) in
-          (δ′, φ′, a, d, fails-left (names-right δ′ && word-right φ′) (clauses-right δ′ φ′) (fails-left (names-right δ′) (word-right φ′) h)))
-          (λ q. let (δ′, φ′, a, d, h) = content-fails (r .contents) q in
-          (δ′, φ′, a, d, fails-left (names-right δ′ && word-right φ′) (clauses-right δ′ φ′) (fails-right (names-right δ′) (word-right φ′) h)))
-          (or-cases (not carried-right) (contentOutside φs G C (r .contents) n φ) p))
-          (λ p. let (δ′, φ′, a, d, h) = clauses-fail X (r .clauses) worked n δ φ once p in
-          (δ′, φ′, a, d, fails-right (names-right δ′ && word-right φ′) (clauses-right δ′ φ′) h))
-          (or-cases (not carried-right || contentOutside φs G C (r .contents) n φ) (someClauseFails φs G X (r .clauses) n δ φ) e)
+          to : clauseFails φs G ψ (X ψ) n δ φ ≡ true → CanBreak (Clause i)
+          to t =
+              let (δ′, φ′, a, d, q) = clause-exact φs G bounded ψ (known .0) (X ψ) (known .1) n δ φ once .0 t in
+              (δ′, φ′, a, d, clause-breach D e δ′ φ′ r p i .0 (h, false-iff (decided-meets δ′ φ′ ψ) .0 q))
 
-      wrong-under : CanBe φs G n δ φ (λ δ′ φ′. rightUnder r δ′ (word φ′) ≡ false) → wrongUnder φs G X C r n δ φ ≡ true
-      unfolding wrongUnder rightUnder carried-right names-right word-right clauses-right
-      wrong-under (δ′, φ′, a, d, e) = ⊎-elim
-          (λ p. or-left (not carried-right || contentOutside φs G C (r .contents) n φ) (someClauseFails φs G X (r .clauses) n δ φ)
-          (⊎-elim
-          (λ q. or-left (not carried-right) (contentOutside φs G C (r .contents) n φ)
-          (ap not (fail-attribute (r .attributes) δ′ a q)))
-          (λ q. or-right (not carried-right) (contentOutside φs G C (r .contents) n φ) (fail-content (r .contents) (δ′, φ′, a, d, q)))
-          (fails-cases (names-right δ′) (word-right φ′) p)))
-          (λ p. or-right (not carried-right || contentOutside φs G C (r .contents) n φ) (someClauseFails φs G X (r .clauses) n δ φ)
-          (fail-clauses X (r .clauses) worked n δ φ once (δ′, φ′, a, d, p)))
-          (fails-cases (names-right δ′ && word-right φ′) (clauses-right δ′ φ′) e)
+          back : CanBreak (Clause i) → clauseFails φs G ψ (X ψ) n δ φ ≡ true
+          back (δ′, φ′, a, d, w) =
+              clause-exact φs G bounded ψ (known .0) (X ψ) (known .1) n δ φ once .1
+              (δ′, φ′, a, d, false-iff (decided-meets δ′ φ′ ψ) .1 (clause-breach D e δ′ φ′ r p i .1 w .1))
+
+      under-exact : BreachFound CanBreak (breachUnder φs G X C r n δ φ)
+      unfolding breachUnder
+      under-exact = breach-found CanBreak (λ ψ. clauseFails φs G ψ (X ψ) n δ φ) (r .clauses) attribute-decided content-decided clause-decided
+          (λ i (δ′, φ′, a, d, w). clause-breach D e δ′ φ′ r p i .1 w .0)
 
     -- What is to be known of a vocabulary: of each clause of each rule.
-    by-wrong : (o : Option Rule) → ((r : Rule) → o ≡ some r → (ψ : Formula) → ψ ∈ r .clauses → Worked X ψ)
-        → wrongBy φs G X C o n δ φ ≡ true ↔ CanBe φs G n δ φ (λ δ′ φ′. rightBy o δ′ (word φ′) ≡ false)
-    by-wrong none worked = (λ e. (δ₀, φ₀, a₀, d₀, refl), λ h. refl)
-    by-wrong (some r) worked = (under-wrong r (worked r refl), wrong-under r (worked r refl))
-
-    pub wrong-exact : (D : Vocabulary) (e : ℕ) → ((r : Rule) → ruleOf (D .rules) e ≡ some r → (ψ : Formula) → ψ ∈ r .clauses → Worked X ψ)
-        → wrongElement φs G X C D n e δ φ ≡ true ↔ CanBe φs G n δ φ (λ δ′ φ′. ElementRight D e δ′ φ′ → ⊥)
-    wrong-exact D e worked = (
-      λ t. let (δ′, φ′, a, d, p) = by-wrong (ruleOf (D .rules) e) worked .0 t in (δ′, φ′, a, d, false-iff (decided-right D e δ′ φ′) .0 p),
-      λ (δ′, φ′, a, d, p). by-wrong (ruleOf (D .rules) e) worked .1 (δ′, φ′, a, d, false-iff (decided-right D e δ′ φ′) .1 p),
-    )
+    pub breach-exact : ((r : Rule) → ruleOf (D .rules) e ≡ some r → (ψ : Formula) → ψ ∈ r .clauses → Worked X ψ) → BreachFound CanBreak (breachOf φs G X C D n e δ φ)
+    breach-exact worked = go (ruleOf (D .rules) e) refl
+      where
+        go : (o : Option Rule) → ruleOf (D .rules) e ≡ o → BreachFound CanBreak (breachBy φs G X C o n δ φ)
+        go none p = no-breach (λ b (δ′, φ′, a, d, w). unruled D e δ′ φ′ p b w)
+        go (some r) p = under-exact r p (worked r p)

@@ -1,4 +1,3 @@
-pub mod Marks
 pub mod Sets
 pub mod Unions
 pub mod Closing

@@ -2,18 +2,18 @@
 use Prim.Native.Nat.{ℕ, _+_, _≤_, _<_}
 use mathlib.Core.Path.{_≡_, refl, sym, ap, ap₂, subst, _∙_}
 use mathlib.Core.List.{List, []}
-use mathlib.Core.Bool.{Bool, true, _||_, false≢true}
-use mathlib.Core.Option.{Option, some, none}
+use mathlib.Core.Bool.{Bool, true, _||_}
 use lib.ListN.{length, getD}
 use lib.Dec.{eqb}
 use Rattle.sets.specs.Sets.{member}
 use Rattle.commands.specs.declared.Position.{Position}
 use Rattle.commands.specs.Reading.{whole}
-use Rattle.vocabularies.specs.Vocabulary.{Rule, Vocabulary, ruleOf, declared, isSome}
+use Rattle.vocabularies.specs.Vocabulary.{Vocabulary, ruleOf, declared}
+use Rattle.vocabularies.proofs.Laws.{rule-found}
 use Rattle.pages.specs.declared.Kind.the-variants.{Template}
 use Rattle.pages.specs.declared.ItemHere.{ItemHere}
 use Rattle.pages.specs.declared.ItemHere.the-variants.{Text, Gap, Element, Blank, End}
-use Rattle.pages.specs.Items.{Attribute, Item, Items, more, one}
+use Rattle.pages.specs.Items.{Item, Items, more}
 use Rattle.pages.specs.Items as Items
 use Rattle.pages.specs.ItemReading.{items}
 use Rattle.pages.specs.contracts.Steps.{itemHere}
@@ -22,21 +22,16 @@ use Rattle.summaries.specs.Summaries.{Summary}
 use Rattle.patterns.specs.declared.Wrong.{Wrong}
 use Rattle.patterns.specs.declared.Wrong.the-variants.{Nowhere}
 use Rattle.patterns.specs.contracts.Rounds.{Sets}
-use Rattle.patterns.specs.contracts.Shows.{lower, onlyIf, lowestMark, lowestMarkIn}
-use Rattle.patterns.specs.contracts.LowestWrong.{lowerWrong, wrongIn}
-use Rattle.patterns.proofs.LowestOf.{lower-in, lower-nowhere, lower-assoc}
+use Rattle.patterns.specs.contracts.Elements.{plainBreach}
+use Rattle.patterns.specs.contracts.LowestWrong.{lowerWrong, wrongAt, Test, lowestIn, lowestOf}
+use Rattle.patterns.proofs.LowestOf.{lower-nowhere, lower-assoc}
 use Rattle.reach.specs.declared.Carriable.{Carriable}
 use Rattle.reach.specs.declared.WalkedElement.{WalkedElement}
 use Rattle.reach.specs.declared.WalkedItems.{WalkedItems}
 use Rattle.reach.specs.contracts.Closures.{United}
-use Rattle.reach.specs.contracts.PlainlyWrong.{plainlyUnder, plainlyWrong}
+use Rattle.reach.specs.contracts.PlainlyWrong.{plainlyWrong}
 use Rattle.reach.specs.contracts.Walking.{RulesKept, TellsCarriable, GraphTold, TellsOutside, WalksElement, WalksItems}
-use Rattle.reach.proofs.Marks.{lower-none, mark-first}
 use Rattle.reach.proofs.Outlining.{Outlined, outlined-none, outlined-all, outlined-text, outlined-blank, outlined-gap, outlined-element, contents-by}
-
-found-rule : (o : Option Rule) → isSome o ≡ true → (R : Rule) × (o ≡ some R)
-found-rule none h = absurd (false≢true h)
-found-rule (some R) h = (R, refl)
 
 module _ (s allowed-in held-in graph brings : List ℕ) (n : ℕ) where
   -- ---- items
@@ -47,7 +42,7 @@ module _ (s allowed-in held-in graph brings : List ℕ) (n : ℕ) where
     pub outlined : Outlined inside gaps φ (r .inside) (r .gaps)
     pub lowers : (φs : List Items) (G : Summary) (C : Sets) (D : Vocabulary) → RulesKept D allowed-in held-in → GraphTold φs G C n graph brings
         → ((e : ℕ) → ruled e ≡ true → declared (D .rules) e ≡ true)
-        → r .wrong ≡ lowerWrong wrong (wrongIn n (lowestMark (λ e mark δ χ. plainlyWrong φs G C D n e δ χ) φ))
+        → r .wrong ≡ lowerWrong wrong (lowestIn n (λ e mark δ χ. plainlyWrong φs G C D n e δ χ) φ)
 
   abbrev pub Adds : ℕ → ℕ → Wrong → ℕ → WalkedItems → Type 0
   Adds inside gaps wrong at r = (ruled : ℕ → Bool) (f depth end : ℕ) (φ : Items) → items f Template ruled s depth at ≡ whole φ end
@@ -60,7 +55,7 @@ module _ (s allowed-in held-in graph brings : List ℕ) (n : ℕ) where
 
   module _ (inside gaps : ℕ) (wrong : Wrong) (at : ℕ) (h : ItemHere) (is : h ≡ itemHere s at) where
     pub list-ends : (next : Position) → h ≡ End next → Adds inside gaps wrong at (record { inside = inside; gaps = gaps; next = next; wrong = wrong })
-    unfolding lowestMark
+    unfolding lowestIn
     list-ends next q ruled f depth end φ e =
         let F = end-first f Template ruled s depth at φ end e h is next q in
         rw (F .no-more) (record {
@@ -70,11 +65,11 @@ module _ (s allowed-in held-in graph brings : List ℕ) (n : ℕ) where
         })
 
     -- An item that is no element, by what it adds to the outline.
-    list-leaf : (i : Item) → ((p : ℕ → ℕ → List Attribute → Items → Bool) → lowestMarkIn p i ≡ none) → (next : Position) (inside′ gaps′ : ℕ)
+    list-leaf : (i : Item) → ((test : Test) → lowestOf n test i ≡ Nowhere) → (next : Position) (inside′ gaps′ : ℕ)
         → ((φ : Items) (inside″ gaps″ : ℕ) → Outlined inside′ gaps′ φ inside″ gaps″ → Outlined inside gaps (more i φ) inside″ gaps″)
         → ((ruled : ℕ → Bool) (f depth end : ℕ) (φ : Items) → items f Template ruled s depth at ≡ whole φ end → LeafFirst Template ruled s depth at i next φ end)
         → (r : WalkedItems) → Adds inside′ gaps′ wrong (next .at) r → Adds inside gaps wrong at r
-    unfolding lowestMark
+    unfolding lowestIn
     list-leaf i none-in next inside′ gaps′ outline first r A ruled f depth end φ e =
         let F = first ruled f depth end φ e in
         let a = A ruled (F .fuel) depth end (F .rest) (F .reads-rest) in
@@ -86,39 +81,56 @@ module _ (s allowed-in held-in graph brings : List ℕ) (n : ℕ) where
 
     pub list-text : (next : Position) → h ≡ Text next → (inside′ : ℕ) → ((k : ℕ) → member inside′ k ≡ (eqb k 0 || member inside k))
         → (r : WalkedItems) → Adds inside′ gaps wrong (next .at) r → Adds inside gaps wrong at r
-    unfolding lowestMark
-    list-text next q inside′ is-inside = list-leaf Items.text (λ p. refl) next inside′ gaps (λ φ x y. outlined-text inside gaps φ x y inside′ is-inside)
+    unfolding lowestIn
+    list-text next q inside′ is-inside = list-leaf Items.text (λ test. refl) next inside′ gaps (λ φ x y. outlined-text inside gaps φ x y inside′ is-inside)
         λ ruled f depth end φ e. text-first f Template ruled s depth at φ end e h is next q
 
     pub list-blank : (next : Position) → h ≡ Blank next → (r : WalkedItems) → Adds inside gaps wrong (next .at) r → Adds inside gaps wrong at r
-    unfolding lowestMark
-    list-blank next q = list-leaf Items.blank (λ p. refl) next inside gaps (outlined-blank inside gaps)
+    unfolding lowestIn
+    list-blank next q = list-leaf Items.blank (λ test. refl) next inside gaps (outlined-blank inside gaps)
         λ ruled f depth end φ e. blank-first f Template ruled s depth at φ end e h is next q
 
     pub list-gap : (g : ℕ) → g < 8 → (next : Position) → h ≡ Gap g next → (gaps′ : ℕ) → ((k : ℕ) → member gaps′ k ≡ (eqb k g || member gaps k))
         → (r : WalkedItems) → Adds inside gaps′ wrong (next .at) r → Adds inside gaps wrong at r
-    unfolding lowestMark
-    list-gap g small next q gaps′ is-gaps = list-leaf (Items.gap g) (λ p. refl) next inside gaps′ (λ φ x y. outlined-gap inside gaps φ x y g gaps′ small is-gaps)
+    unfolding lowestIn
+    list-gap g small next q gaps′ is-gaps = list-leaf (Items.gap g) (λ test. refl) next inside gaps′ (λ φ x y. outlined-gap inside gaps φ x y g gaps′ small is-gaps)
         λ ruled f depth end φ e. gap-first f Template ruled s depth at φ end e h is g next q .leaf
 
+    -- An element: itself, by the two tests, and those inside it.
     pub list-element : (e : ℕ) (start : Position) → h ≡ Element e start → (inside′ : ℕ) → ((k : ℕ) → member inside′ k ≡ (eqb k e || member inside k))
-        → (own : WalkedElement) → WalksElement s allowed-in held-in graph brings n at e start own
-        → (wrong′ : Wrong) → wrong′ ≡ lowerWrong wrong (own .wrong) → (r : WalkedItems) → Adds inside′ gaps wrong′ (own .next .at) r → Adds inside gaps wrong at r
-    list-element e start q inside′ is-inside own W wrong′ is-wrong r A ruled f depth end φ reads =
+        → (walked : WalkedElement) → WalksElement s allowed-in held-in graph brings n (start .at) walked
+        → (own : Wrong) → TellsOutside n at (walked .names) (getD allowed-in e 0) (walked .inside) (getD held-in e 0) own
+        → (lowest : Wrong) → lowest ≡ lowerWrong own (walked .wrong) → (wrong′ : Wrong) → wrong′ ≡ lowerWrong wrong lowest
+        → (r : WalkedItems) → Adds inside′ gaps wrong′ (walked .next .at) r → Adds inside gaps wrong at r
+    unfolding lowestIn
+    list-element e start q inside′ is-inside walked W own O lowest is-lowest wrong′ is-wrong r A ruled f depth end φ reads =
         let F = element-first f Template ruled s depth at φ end reads h is e start q in
-        let i = Items.element e at (F .named) (F .contents) in
-        let w = W ruled (F .fuel) depth (F .middle) i (F .reads-first) (sym q ∙ is) in
+        let δ = F .named in
+        let χ = F .contents in
+        let i = Items.element e at δ χ in
+        let I = element-item (F .fuel) Template ruled s depth at i (F .middle) (F .reads-first) h is e start q in
+        let named : I .named ≡ δ = cc (I .is-it) in
+        let contained : I .contents ≡ χ = cc (I .is-it) in
+        let done = no-attribute (I .fuel) Template ruled s (depth + 1) (I .inside) (I .contents) (F .middle) (I .reads-contents) in
+        let w = W ruled (I .fuel) (depth + 1) (I .inside) (F .middle) δ χ (rw named at (I .reads-attributes)) done (rw contained at (I .reads-contents)) in
         let a = A ruled (F .fuel) depth end (F .rest) (subst (λ (k : ℕ). items (F .fuel) Template ruled s depth k ≡ whole (F .rest) end) (sym (w .ends)) (F .reads-rest)) in
         rw (F .is-more) (record {
           ends = a .ends;
-          outlined = outlined-element inside gaps (F .rest) (r .inside) (r .gaps) e at (F .named) (F .contents) inside′ is-inside (a .outlined);
+          outlined = outlined-element inside gaps (F .rest) (r .inside) (r .gaps) e at δ χ inside′ is-inside (a .outlined);
           lowers = λ φs G C D rules graph-told ruled-are.
-              let p : ℕ → ℕ → List Attribute → Items → Bool = λ e mark δ χ. plainlyWrong φs G C D n e δ χ in
-              let first = lowestMark p (one i) in
-              let rest = lowestMark p (F .rest) in
-              a .lowers φs G C D rules graph-told ruled-are ∙ ap (λ (w : Wrong). lowerWrong w (wrongIn n rest)) is-wrong ∙ lower-assoc wrong (own .wrong) (wrongIn n rest)
-              ∙ ap (lowerWrong wrong) (ap (λ (w : Wrong). lowerWrong w (wrongIn n rest)) (w .finds φs G C D rules graph-told ruled-are) ∙ lower-in n first rest
-              ∙ ap (wrongIn n) (sym (mark-first p i (F .rest))));
+              let test : Test = λ e mark δ χ. plainlyWrong φs G C D n e δ χ in
+              let (R, is-rule) = rule-found (ruleOf (D .rules) e) (ruled-are e (I .has-rule)) in
+              let told : own ≡ wrongAt n at (plainBreach φs G C R n δ χ) = O φs G C R δ χ (record {
+                has-names = w .carries G (graph-told .keeps);
+                allows = rules .allows e R is-rule;
+                has-contents = w .contains φs G C graph-told;
+                holds = rules .holds e R is-rule;
+              }) in
+              let itself : own ≡ wrongAt n at (plainlyWrong φs G C D n e δ χ) = rw is-rule told in
+              let first : lowest ≡ lowerWrong (wrongAt n at (plainlyWrong φs G C D n e δ χ)) (lowestIn n test χ) = is-lowest ∙ ap₂ lowerWrong itself (w .finds φs G C D rules graph-told ruled-are) in
+              a .lowers φs G C D rules graph-told ruled-are ∙ ap (λ (v : Wrong). lowerWrong v (lowestIn n test (F .rest))) is-wrong
+              ∙ lower-assoc wrong lowest (lowestIn n test (F .rest))
+              ∙ ap (λ (v : Wrong). lowerWrong wrong (lowerWrong v (lowestIn n test (F .rest)))) first;
         })
 
   -- Where walking has come: what the items from here on add is what all of them add to nothing.
@@ -128,32 +140,16 @@ module _ (s allowed-in held-in graph brings : List ℕ) (n : ℕ) where
 
   -- ---- an element
 
-  pub element-walked : (at e : ℕ) (start : Position) (named : Carriable) → TellsCarriable s (start .at) graph n named
+  pub element-walked : (start : Position) (named : Carriable) → TellsCarriable s (start .at) graph n named
       → (list : WalkedItems) → WalksItems s allowed-in held-in graph brings n (named .next .at) list
       → (inside : ℕ) → length brings ≡ 8 → United (list .inside) (list .gaps) brings inside
-      → (own : Wrong) → TellsOutside n at (named .names) (getD allowed-in e 0) inside (getD held-in e 0) own
-      → (wrong : Wrong) → wrong ≡ lowerWrong own (list .wrong) → WalksElement s allowed-in held-in graph brings n at e start (record { next = list .next; wrong = wrong })
-  unfolding lowestMark
-  element-walked at e start named N list L inside long U own O wrong is-wrong ruled f depth end i reads here =
-      let I = element-item f Template ruled s depth at i end reads (Element e start) here e start refl in
-      let δ = I .named in
-      let φ = I .contents in
-      let done = no-attribute (I .fuel) Template ruled s (depth + 1) (I .inside) φ end (I .reads-contents) in
-      let m = N [] (I .fuel) (I .inside) δ (I .reads-attributes) done in
-      let l = L ruled (I .fuel) (depth + 1) end φ (subst (λ (k : ℕ). items (I .fuel) Template ruled s (depth + 1) k ≡ whole φ end) (sym (m .0)) (I .reads-contents)) in
-      rw (I .is-it) (record {
+      → WalksElement s allowed-in held-in graph brings n (start .at) (record { names = named .names; inside = inside; next = list .next; wrong = list .wrong })
+  element-walked start named N list L inside long U ruled f depth middle end δ φ reads done reads-contents =
+      let m = N [] f middle δ reads done in
+      let l = L ruled f depth end φ (subst (λ (k : ℕ). items f Template ruled s depth k ≡ whole φ end) (sym (m .0)) reads-contents) in
+      record {
         ends = l .ends;
-        finds = λ φs G C D rules graph-told ruled-are.
-            let (R, is-rule) = found-rule (ruleOf (D .rules) e) (ruled-are e (I .has-rule)) in
-            let told : own ≡ wrongIn n (onlyIf (plainlyUnder φs G C R n δ φ) at) = O φs G C R δ φ (record {
-              has-names = m .1 G (graph-told .keeps);
-              allows = rules .allows e R is-rule;
-              has-contents = λ c low. contents-by φs G C n c brings long (graph-told .brought) low φ (list .inside) (list .gaps) inside (l .outline) U;
-              holds = rules .holds e R is-rule;
-            }) in
-            let itself : own ≡ wrongIn n (onlyIf (plainlyWrong φs G C D n e δ φ) at) = rw is-rule told in
-            let p : ℕ → ℕ → List Attribute → Items → Bool = λ e mark δ χ. plainlyWrong φs G C D n e δ χ in
-            let mine = onlyIf (plainlyWrong φs G C D n e δ φ) at in
-            is-wrong ∙ ap₂ lowerWrong itself (l .finds φs G C D rules graph-told ruled-are) ∙ lower-in n mine (lowestMark p φ)
-            ∙ sym (ap (wrongIn n) (lower-none (lower mine (lowestMark p φ))));
-      })
+        carries = m .1;
+        contains = λ φs G C graph-told c low. contents-by φs G C n c brings long (graph-told .brought) low φ (list .inside) (list .gaps) inside (l .outline) U;
+        finds = l .finds;
+      }

@@ -5,6 +5,7 @@ use mathlib.Core.List.{List}
 use mathlib.Core.Bool.{Bool, true, false, not, _&&_, false≢true}
 use Rattle.sets.specs.Sets.{member}
 use Rattle.sets.specs.contracts.Promises.{MembersWithin}
+use Rattle.verdicts.specs.declared.Breach.the-variants as Breaches
 use Rattle.vocabularies.specs.Vocabulary.{isIn}
 use Rattle.pages.specs.Items.{Items}
 use Rattle.judging.specs.contracts.Judgement.{allIn}
@@ -14,10 +15,9 @@ use Rattle.patterns.specs.declared.Wrong.the-variants.{Nowhere, At}
 use Rattle.patterns.specs.contracts.Given.{contents}
 use Rattle.patterns.specs.contracts.Rounds.{Sets, anyBelow}
 use Rattle.patterns.specs.contracts.Reached.{contentsOf}
-use Rattle.patterns.specs.contracts.Elements.{carriableNames, contentOutside}
+use Rattle.patterns.specs.contracts.Elements.{carriableNames, contentOutside, plainBreach}
 use Rattle.patterns.proofs.Tests.{any-below, below-any}
 use Rattle.sets.proofs.Booleans.{and-both, and-left, and-right, refuted}
-use Rattle.reach.specs.contracts.PlainlyWrong.{plainlyUnder}
 use Rattle.reach.specs.contracts.Walking.{TellsOutside}
 
 module _ (φs : List Items) (G : Summary) (C : Sets) (n : ℕ) (allowed : List ℕ) (φ : Items) (inside held : ℕ)
@@ -36,21 +36,21 @@ module _ (φs : List Items) (G : Summary) (C : Sets) (n : ℕ) (allowed : List �
   content-test false (c, h, p, q) = any-below contents out c h (and-both _ _ (sym (is c h) ∙ p) (ap not (sym (is-held c) ∙ q)))
 
 module _ (n at named allowed inside held : ℕ) where
-  pub names-outside : (t : Bool) → MembersWithin named allowed t → t ≡ false → TellsOutside n at named allowed inside held (At n at)
-  unfolding plainlyUnder
+  pub names-outside : (t : Bool) → MembersWithin named allowed t → t ≡ false → TellsOutside n at named allowed inside held (At n at Breaches.Attribute)
+  unfolding plainBreach
   names-outside t w e φs G C R δ φ c =
       let a : allIn (carriableNames G n δ) (R .attributes) ≡ false = within-lists named allowed (carriableNames G n δ) (R .attributes) (c .has-names) (c .allows) t w ∙ e in
       rw a
 
-  pub content-outside : (t u : Bool) → MembersWithin named allowed t → t ≡ true → MembersWithin inside held u → u ≡ false → TellsOutside n at named allowed inside held (At n at)
-  unfolding plainlyUnder
+  pub content-outside : (t u : Bool) → MembersWithin named allowed t → t ≡ true → MembersWithin inside held u → u ≡ false → TellsOutside n at named allowed inside held (At n at Breaches.Content)
+  unfolding plainBreach
   content-outside t u w e v q φs G C R δ φ c =
       let a : allIn (carriableNames G n δ) (R .attributes) ≡ true = within-lists named allowed (carriableNames G n δ) (R .attributes) (c .has-names) (c .allows) t w ∙ e in
       let b : contentOutside φs G C (R .contents) n φ ≡ true = content-test φs G C n (R .contents) φ inside held (c .has-contents) (c .holds) u v ∙ ap not q in
       rw (a, b)
 
   pub none-outside : (t u : Bool) → MembersWithin named allowed t → t ≡ true → MembersWithin inside held u → u ≡ true → TellsOutside n at named allowed inside held Nowhere
-  unfolding plainlyUnder
+  unfolding plainBreach
   none-outside t u w e v q φs G C R δ φ c =
       let a : allIn (carriableNames G n δ) (R .attributes) ≡ true = within-lists named allowed (carriableNames G n δ) (R .attributes) (c .has-names) (c .allows) t w ∙ e in
       let b : contentOutside φs G C (R .contents) n φ ≡ false = content-test φs G C n (R .contents) φ inside held (c .has-contents) (c .holds) u v ∙ ap not q in

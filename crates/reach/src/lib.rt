@@ -15,6 +15,7 @@ use pages::AttributeHere;
 use pages::ItemHere;
 use pages::TEXT;
 use patterns::Wrong;
+use verdicts::Breach;
 
 // The templates whose set of classes is not empty.
 pub fn yielding(classes: [[u64; 4]; 32], count: usize) -> u64
@@ -141,9 +142,11 @@ fn carriable_names(s: &[u8], start: Position, graph: &Graph, n: usize) -> Carria
     }
 }
 
-// An element of a template that was walked over: the position after it, and the lowest element in it, itself one of them, that is plainly
-// wrong.
+// An element of a template that was walked over: the names of the attributes that it can carry, the contents that it can get, the position
+// after it, and the lowest element inside it that is plainly wrong.
 pub struct WalkedElement {
+    pub names: u64,
+    pub inside: u64,
     pub next: Position,
     pub wrong: Wrong,
 }
@@ -157,21 +160,29 @@ pub struct WalkedItems {
     pub wrong: Wrong,
 }
 
-// The element at an offset of template n, if it can carry an attribute, or get a content, that is not allowed.
+// The element at an offset of template n, if it can carry an attribute that is not allowed, or else get a content that is not allowed.
 fn outside_at(n: usize, at: usize, names: u64, attributes: u64, inside: u64, contents: u64) -> Wrong
     ensures { λ r. ⌜ TellsOutside n at names attributes inside contents r ⌝ }
 {
     if !sets::is_within(names, attributes) {
-        return Wrong::At { template: n, at };
+        return Wrong::At {
+            template: n,
+            at,
+            breach: Breach::Attribute,
+        };
     }
     if !sets::is_within(inside, contents) {
-        return Wrong::At { template: n, at };
+        return Wrong::At {
+            template: n,
+            at,
+            breach: Breach::Content,
+        };
     }
     Wrong::Nowhere
 }
 
-// The element e here, of template n, whose attributes stand at `start`, under the rules whose tables are given; `brings` has the
-// contents that each gap can bring.
+// The element of template n whose attributes stand at `start`, under the rules whose tables are given; `brings` has the contents that each
+// gap can bring.
 fn walk_element(
     s: &[u8],
     attributes: &[u64; 64],
@@ -179,32 +190,22 @@ fn walk_element(
     graph: &Graph,
     brings: &[u64; 8],
     n: usize,
-    here: Position,
-    e: u8,
     start: Position,
 ) -> WalkedElement
-    requires { ⌜ (e < 64) × (n < 32) ⌝ }
+    requires { ⌜ n < 32 ⌝ }
     ensures forward { λ r. ⌜ start .at ≤ r .next .at ⌝ }
-    ensures walked { λ r. ⌜ WalksElement (now (s .entry)) (now (attributes .entry)) (now (contents .entry)) (now (graph .entry)) (now (brings .entry)) n (here .at) e start r ⌝ }
+    ensures walked { λ r. ⌜ WalksElement (now (s .entry)) (now (attributes .entry)) (now (contents .entry)) (now (graph .entry)) (now (brings .entry)) n (start .at) r ⌝ }
 {
     let carriable = carriable_names(s, start, graph, n);
     let first = carriable.next;
     let list = walk_items(s, attributes, contents, graph, brings, n, first);
-    let inside = union_of(list.inside, list.gaps, brings);
-    let i = e as usize;
-    let own = outside_at(
-        n,
-        here.at,
-        carriable.names,
-        attributes[i],
-        inside,
-        contents[i],
-    );
-    let inner = list.wrong;
     let next = list.next;
+    let wrong = list.wrong;
     WalkedElement {
+        names: carriable.names,
+        inside: union_of(list.inside, list.gaps, brings),
         next,
-        wrong: patterns::lower(own, inner),
+        wrong,
     }
 }
 
@@ -238,19 +239,19 @@ fn walk_items(
             }
             ItemHere::Element(e, first) => {
                 inside = sets::with(inside, e);
-                let element = walk_element(
-                    s,
-                    attributes,
-                    contents,
-                    graph,
-                    brings,
+                let element = walk_element(s, attributes, contents, graph, brings, n, first);
+                let i = e as usize;
+                let own = outside_at(
                     n,
-                    here,
-                    e,
-                    first,
+                    here.at,
+                    element.names,
+                    attributes[i],
+                    element.inside,
+                    contents[i],
                 );
-                let own = element.wrong;
-                wrong = patterns::lower(wrong, own);
+                let inner = element.wrong;
+                let lowest = patterns::lower(own, inner);
+                wrong = patterns::lower(wrong, lowest);
                 here = element.next;
             }
             ItemHere::Blank(next) => here = next,

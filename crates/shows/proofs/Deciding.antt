@@ -12,11 +12,10 @@ use Rattle.jobs.specs.Job.{Script}
 use Rattle.jobs.specs.JobVerdict.{NotRootAt, WrongIn}
 use Rattle.patterns.specs.declared.Wrong as Wrongs
 use Rattle.patterns.specs.contracts.Shows.{Least, Tables, ExactTables, notRoot, lowestRoot}
-use Rattle.patterns.specs.contracts.LowestWrong.{LowestWrong, lowest}
-use Rattle.patterns.specs.contracts.LowestWrong as LowestWrong
-use Rattle.patterns.proofs.Lowest.{least-iff, least-of, least-below, none-of, least-none, least-unique, least-test, least-over}
+use Rattle.patterns.specs.contracts.LowestWrong.{LowestBreach, nowhere-wrong, lowest-wrong}
+use Rattle.patterns.proofs.Lowest.{least-iff, least-of, least-below, none-of, least-unique, least-test, least-over}
 use Rattle.patterns.proofs.ReadJobs.{GivenShows}
-use Rattle.patterns.proofs.JobShows.{lowest-not-root, lowest-wrong-element, show-holds}
+use Rattle.patterns.proofs.JobShows.{lowest-not-root, holds-unless}
 use Rattle.shows.specs.declared.Shown.the-variants.{NotRoot}
 use Rattle.shows.specs.declared.OtherRoot.{OtherRoot}
 use Rattle.shows.specs.declared.OtherRoot.the-variants.{Nowhere, At}
@@ -53,12 +52,11 @@ module _ (π : Script) (E : ℕ → Environment) (read : GivenShows π E) (p : �
     pub no-other : r ≡ Nowhere → lowestRoot (π .templates) G (π .vocabulary) T ≡ none
     no-other e = sym root-is ∙ ap otherRoot e
 
-  -- ---- 12
+  -- ---- 12, 14 and 15
 
   module _ (no-root : lowestRoot (π .templates) G (π .vocabulary) T ≡ none) where
-    pub found-wrong : {w : Wrongs.Wrong} → LowestWrong (WrongIn π E p) w → ShowFound π E p (shownOf w)
-    found-wrong (LowestWrong.nowhere h) =
-        show-holds π E read p G shows T exact .1 (no-root, least-none (lowest-wrong-element π E read p G shows T exact) (λ at (t, W). h t at W))
-    found-wrong (lowest {n = t} {at = at} W h) =
+    pub found-wrong : {w : Wrongs.Wrong} → LowestBreach (WrongIn π E p) w → ShowFound π E p (shownOf w)
+    found-wrong (nowhere-wrong h) = holds-unless π E read p G shows T exact no-root h
+    found-wrong (lowest-wrong f h) =
         let n = subst (Least (NotRootAt π E p)) no-root (lowest-not-root π E read p G shows T exact) in
-        record { no-root = none-of n; wrong = W; lowest = h }
+        record { no-root = none-of n; told = f; lowest = h }

@@ -1,4 +1,4 @@
--- What is found at the show of a graph, 11 before 12.
+-- What is found at the show of a graph, 11 before a wrong element.
 use Prim.Native.Nat.{ℕ, _≤_}
 use native.Mathlib.Omega.{arith}
 use mathlib.Core.Path.{_≡_, subst}

@@ -1,4 +1,5 @@
-// The shows of a job (document 01, "Verdicts", 11 and 12): what a point shows, and what is wrong in the pages of its language.
+// The shows of a job (document 01, "Verdicts", 11 and 12; document 02, F-6): what a point shows, and what is wrong in the pages of its
+// language.
 ghost use mathlib.Core.Path.{_≡_};
 ghost use Prim.Native.Nat.{_<_};
 ghost use Rattle.shows.specs.contracts.Promises.{ShowsAt, HoldsEntry, HoldsSource, HoldsShown, TabledBy, DecidesShow, isOther, LowestRoot, shownOf, WrongElements};
@@ -10,6 +11,7 @@ use programs::Act;
 use programs::Statement;
 use schemes::EMPTY;
 use schemes::OTHER;
+use verdicts::Breach;
 use vocabularies::Tables;
 
 // What a point shows: nothing, or a page.
@@ -26,11 +28,15 @@ pub enum Source {
 }
 
 // What is found at a show: nothing; a root template with a page that is not exactly the root element (11); or an element that is
-// wrong in some page (12), by its template and the offset of its `23`.
+// wrong in some page (12, 14 or 15), by its template, the offset of its `23` and what it breaks.
 pub enum Shown {
     Right,
     NotRoot(usize),
-    Wrong { template: usize, at: usize },
+    Wrong {
+        template: usize,
+        at: usize,
+        breach: Breach,
+    },
 }
 
 // What is worked out of the templates of a job: the gaps of each, at any depth; the contents and the gaps among its outer items; and for
@@ -177,7 +183,7 @@ fn lowest_root(roots: u64, classes: [[u64; 4]; 32], count: usize) -> OtherRoot
     OtherRoot::Nowhere
 }
 
-// 12: the lowest wrong element. Those that are wrong by their attributes and contents are looked for before those by a clause.
+// 12, 14 or 15: the lowest wrong element. Its attributes and contents are told before its clauses.
 fn wrong_elements(
     s: &[u8],
     rules: Tables,
@@ -217,11 +223,19 @@ fn shown_of(wrong: Wrong) -> Shown
 {
     match wrong {
         Wrong::Nowhere => Shown::Right,
-        Wrong::At { template, at } => Shown::Wrong { template, at },
+        Wrong::At {
+            template,
+            at,
+            breach,
+        } => Shown::Wrong {
+            template,
+            at,
+            breach,
+        },
     }
 }
 
-// What is found at the show of a graph: 11 before 12.
+// What is found at the show of a graph: 11 before a wrong element.
 pub fn decide(
     s: &[u8],
     rules: Tables,

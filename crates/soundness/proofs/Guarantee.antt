@@ -4,7 +4,8 @@ use mathlib.Core.Path.{_≡_}
 use mathlib.Core.List.{List}
 use native.Mathlib.Omega.{arith}
 use Rattle.verdicts.specs.declared.Numbers.{Numbers}
-use Rattle.verdicts.proofs.Told.{form-refuses}
+use Rattle.verdicts.specs.Printed.{elementFault}
+use Rattle.verdicts.proofs.Told.{form-refuses, fault-refuses}
 use Rattle.programs.specs.Runs.{Choice}
 use Rattle.summaries.specs.Summaries.{Environment}
 use Rattle.jobs.specs.Job.{Script}
@@ -19,7 +20,7 @@ script-shows-right : {π : Script} {E : ℕ → Environment} {v : Numbers} → I
 script-shows-right r e (start-uncovered h n b) = absurd (omega (arith, e))
 script-shows-right r e (step-uncovered second starts h n b) = absurd (omega (arith, e))
 script-shows-right r e (not-root c shows n l) = absurd (omega (arith, e))
-script-shows-right r e (wrong-element c shows n w l) = absurd (omega (arith, e))
+script-shows-right r e (wrong-element {p = p} {t = t} {at = at} {b = b} c shows n f l) = absurd (fault-refuses (elementFault p t at b) e)
 script-shows-right {π} {E} r e (accepted covered shows) = all-right π E r covered shows
 
 -- The job's verdict keeps what demand 3 claims.

@@ -7,13 +7,14 @@ use lib.Dec.{eqb}
 use Rattle.verdicts.specs.declared.Form.{Form}
 use Rattle.verdicts.specs.declared.Form.the-variants.{TooLong, Ended, NotAllowed, OutOfRange, NotRising, TooMany, TooManyFacts, Missing}
 use Rattle.verdicts.specs.declared.Cover.the-variants.{Start, Step}
-use Rattle.verdicts.specs.declared.Fault.the-variants.{NotRoot, WrongElement}
+use Rattle.verdicts.specs.declared.Fault.{Fault}
+use Rattle.verdicts.specs.declared.Fault.the-variants.{NotRoot, AttributeNotAllowed, ContentNotAllowed, ClauseFails}
 use Rattle.verdicts.specs.declared.Place.{Place}
 use Rattle.verdicts.specs.declared.Refusal.the-variants as Refusals
 use Rattle.verdicts.specs.declared.Verdict.{Verdict}
 use Rattle.verdicts.specs.declared.Verdict.the-variants.{Accepted, Refused}
 use Rattle.verdicts.specs.declared.Numbers.{Numbers}
-use Rattle.verdicts.specs.Printed.{prints, formNumber, numbersOf}
+use Rattle.verdicts.specs.Printed.{prints, formNumber, faultNumbers, numbersOf}
 
 -- The verdict of four numbers.
 abbrev formOf : ℕ → Form
@@ -33,9 +34,11 @@ toldBy n a b c =
     (cond (eqb n 9) (Refused (Refusals.Cover (Start c)))
     (cond (eqb n 10) (Refused (Refusals.Cover (Step a b c)))
     (cond (eqb n 11) (Refused (Refusals.Page (NotRoot a b)))
-    (cond (eqb n 12) (Refused (Refusals.Page (WrongElement a b c)))
+    (cond (eqb n 12) (Refused (Refusals.Page (AttributeNotAllowed a b c)))
     (cond (eqb n 13) (Refused (Refusals.NoRoom a))
-    (Refused (Refusals.Form (formOf n) (record { at = a; slice = b }))))))))
+    (cond (eqb n 14) (Refused (Refusals.Page (ContentNotAllowed a b c)))
+    (cond (eqb n 15) (Refused (Refusals.Page (ClauseFails a b c)))
+    (Refused (Refusals.Form (formOf n) (record { at = a; slice = b }))))))))))
 
 abbrev told : Numbers → Verdict
 told v = toldBy (v .n) (v .a) (v .b) (v .c)
@@ -56,7 +59,9 @@ told-of (Refused (Refusals.Form f place)) = told-form f place
 told-of (Refused (Refusals.Cover (Start x))) = refl
 told-of (Refused (Refusals.Cover (Step p q x))) = refl
 told-of (Refused (Refusals.Page (NotRoot p t))) = refl
-told-of (Refused (Refusals.Page (WrongElement p t at))) = refl
+told-of (Refused (Refusals.Page (AttributeNotAllowed p t at))) = refl
+told-of (Refused (Refusals.Page (ContentNotAllowed p t at))) = refl
+told-of (Refused (Refusals.Page (ClauseFails p i at))) = refl
 told-of (Refused (Refusals.NoRoom needed)) = refl
 
 -- So a promise that leaves one set of numbers leaves one answer.
@@ -72,3 +77,9 @@ form-refuses NotRising e = omega arith
 form-refuses TooMany e = omega arith
 form-refuses TooManyFacts e = omega arith
 form-refuses Missing e = omega arith
+
+pub fault-refuses : (f : Fault) → faultNumbers f .n ≡ 0 → ⊥
+fault-refuses (NotRoot p t) e = omega arith
+fault-refuses (AttributeNotAllowed p t at) e = omega arith
+fault-refuses (ContentNotAllowed p t at) e = omega arith
+fault-refuses (ClauseFails p i at) e = omega arith

@@ -1,6 +1,6 @@
 // What a call answers: acceptance, or a refusal with its kind and place (document 01, "Verdicts").
 ghost use mathlib.Core.Path.{_≡_};
-ghost use Rattle.verdicts.specs.Printed.{formNumber, coverNumbers, faultNumbers, refusalNumbers, numbersOf, verdictOf, bytesWritten};
+ghost use Rattle.verdicts.specs.Printed.{formNumber, coverNumbers, faultNumbers, elementFault, refusalNumbers, numbersOf, verdictOf, bytesWritten};
 ghost use Rattle.verdicts.specs.contracts.Acceptance.{accepts};
 
 // Why bytes cannot be read.
@@ -43,17 +43,58 @@ pub enum Cover {
 
 // What is wrong in a page that a point shows. A page that is judged alone has point 0 and template 0.
 pub enum Fault {
-    // 11: a page of this root template is not exactly the root element.
+    // 11: a page of this root template, the lowest such, is not exactly the root element.
     NotRoot {
         point: usize,
         template: usize,
     },
-    // 12: the element whose `23` stands at this offset is wrong in some page.
-    WrongElement {
+    // 12: the lowest wrong element, whose `23` stands at this offset, carries in some page an attribute that is not allowed.
+    AttributeNotAllowed {
         point: usize,
         template: usize,
         at: usize,
     },
+    // 14: it carries none in any page, but some page gives it a content that is not allowed.
+    ContentNotAllowed {
+        point: usize,
+        template: usize,
+        at: usize,
+    },
+    // 15: neither is so, but the clause at this place of its rule, from 0, fails in some page, and none before it does in any.
+    ClauseFails {
+        point: usize,
+        clause: usize,
+        at: usize,
+    },
+}
+
+// Which part of its rule a wrong element breaks (document 02, F-6).
+pub enum Breach {
+    // The allowed attributes.
+    Attribute,
+    // The allowed contents.
+    Content,
+    // The clause at this place, from 0.
+    Clause(usize),
+}
+
+// The fault of an element of a template, whose `23` stands at this offset, by what it breaks.
+pub fn element_fault(point: usize, template: usize, at: usize, breach: Breach) -> Fault
+    ensures { λ r. ⌜ r ≡ elementFault point template at breach ⌝ }
+{
+    match breach {
+        Breach::Attribute => Fault::AttributeNotAllowed {
+            point,
+            template,
+            at,
+        },
+        Breach::Content => Fault::ContentNotAllowed {
+            point,
+            template,
+            at,
+        },
+        Breach::Clause(clause) => Fault::ClauseFails { point, clause, at },
+    }
 }
 
 pub enum Refusal {
@@ -161,7 +202,7 @@ fn fault_numbers(f: Fault) -> Numbers
             b: template,
             c: 0,
         },
-        Fault::WrongElement {
+        Fault::AttributeNotAllowed {
             point,
             template,
             at,
@@ -169,6 +210,22 @@ fn fault_numbers(f: Fault) -> Numbers
             n: 12,
             a: point,
             b: template,
+            c: at,
+        },
+        Fault::ContentNotAllowed {
+            point,
+            template,
+            at,
+        } => Numbers {
+            n: 14,
+            a: point,
+            b: template,
+            c: at,
+        },
+        Fault::ClauseFails { point, clause, at } => Numbers {
+            n: 15,
+            a: point,
+            b: clause,
             c: at,
         },
     }

@@ -5,5 +5,5 @@ pub use Rattle.vocabularies.proofs.Formulas.{formula-ends, formula-fini
 pub use Rattle.vocabularies.proofs.Walks.{told, onward, two-walk, one-walk, leaf-walk, no-walk}
 pub use Rattle.vocabularies.proofs.FactLists.{count-is, kept}
 pub use Rattle.vocabularies.proofs.Clauses.{Clausal, no-more, one-more, clauses-formed, clauses-ends, clauses-fuel, clauses-finishes}
-pub use Rattle.vocabularies.proofs.Rules.{rule-element, rule-fuel, rule-finishes}
+pub use Rattle.vocabularies.proofs.Rules.{rule-found, rule-element, rule-fuel, rule-finishes}
 pub use Rattle.vocabularies.proofs.Vocabularies.{rules-ends, rules-finishes, vocabulary-ends, vocabulary-finishes}

@@ -2,8 +2,8 @@
 use Prim.Native.Nat.{ℕ, _≤_, _<_}
 use mathlib.Core.Path.{_≡_, refl, sym, _∙_}
 use mathlib.Core.List.{List, [], _∷_, _++_}
-use mathlib.Core.Option.{some, none}
-use mathlib.Core.Bool.{Bool, true, false, cond, _||_}
+use mathlib.Core.Option.{Option, some, none}
+use mathlib.Core.Bool.{Bool, true, false, cond, _||_, false≢true}
 use native.Mathlib.Omega.{arith}
 use lib.ListN.{length, getD, set}
 use lib.Seq.{getD-set-same, getD-set-other}
@@ -28,6 +28,11 @@ use Rattle.vocabularies.specs.contracts.Promises.{NamesRead, ClausesRead
 use Rattle.vocabularies.proofs.Parts.{agrees-whole, agrees-refused, agrees-itself, andThen-same, last-agrees-as, last-whole, Finished, last-finishes, andThen-finishes}
 use Rattle.vocabularies.proofs.NameLists.{rising-ends, rising-fuel, rising-finishes}
 use Rattle.vocabularies.proofs.Clauses.{clauses-ends, clauses-fuel, clauses-finishes}
+
+-- A rule that is there.
+pub rule-found : (o : Option Rule) → isSome o ≡ true → (r : Rule) × (o ≡ some r)
+rule-found none h = absurd (false≢true h)
+rule-found (some r) h = (r, refl)
 
 -- What follows the attributes of a rule, and its contents.
 abbrev withClauses : ℕ → List ℕ → ℕ → List ℕ → List ℕ → ℕ → Read Rule

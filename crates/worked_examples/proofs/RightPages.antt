@@ -1,15 +1,17 @@
--- Clauses met and not met, elements that are wrong, and a page that is right (source 000, section 6, with document 01's formulas), by
--- computation where the definition computes, else by a short proof.
-use Prim.Native.Nat.{ℕ, zero, suc, zero-le}
+-- Clauses met and not met, elements that are wrong and what is told of them (document 02, F-6), and a page that is right (source 000, section
+-- 6, with document 01's formulas), by computation where the definition computes, else by a short proof.
+use Prim.Native.Nat.{ℕ, zero, suc, _≤_, zero-le}
 use native.Mathlib.Omega.{arith}
 use mathlib.Core.Path.{_≡_, refl, sym, ap, _∙_}
 use mathlib.Core.List.{List, [], _∷_, List·Memᴰ·head, List·Memᴰ·tail, List·Memᴰ·not-nil, List·Memᴰ·cases-cons, List·Memᴰ·eq-of-singleton}
 use mathlib.Core.Bool.{Bool, true, false, false≢true}
 use mathlib.Core.Logic.{_⊎_, inl, inr}
 use Rattle.sets.specs.Sets.{member}
-use Rattle.vocabularies.specs.Vocabulary.{Formula, disj, neg, attr, order, value, Vocabulary, ruleOf}
+use Rattle.verdicts.specs.declared.Breach.the-variants.{Content, Clause}
+use Rattle.verdicts.specs.declared.Breach.the-variants as Breaches
+use Rattle.vocabularies.specs.Vocabulary.{Formula, disj, neg, attr, content, order, value, Rule, Vocabulary, ruleOf}
 use Rattle.pages.specs.Items.{Value, string, open-gap, Attribute, text, element, Items, none, more, one, withoutBlank, gapIn, attributeGapIn}
-use Rattle.pages.specs.RightPages.{_∈_, word, Meets, Accepts, Right, in-attribute, in-content, in-clause, ElementWrong, attribute-not-allowed, content-not-allowed, clause-not-met}
+use Rattle.pages.specs.RightPages.{_∈_, word, Meets, Accepts, Right, SomeElement, ElementWrong, attribute-not-allowed, content-not-allowed, clause-not-met, WrongAt, FirstBreach, an-attribute, a-clause}
 use Rattle.programs.specs.Program.{statementAt, templateAt}
 use Rattle.programs.specs.Runs.{shown, closed, pluggedString}
 use Rattle.worked_examples.proofs.Runs.{attribute, first, choosing}
@@ -137,15 +139,60 @@ page-right = record {
 }
 
 -- An element 1 without attribute 0 does not meet its first clause: what an element may have it need not have, unless a clause says so.
-pub attribute-missing : ElementWrong vocabulary 1 [] none (in-clause 0)
+pub attribute-missing : ElementWrong vocabulary 1 [] none (Clause 0)
 unfolding ruleOf Meets
 attribute-missing = clause-not-met 0 refl (omega arith) List·Memᴰ·not-nil
 
 -- Attribute 3 is allowed in element 1 alone, and text is not allowed in element 2.
-pub attribute-wrong : ElementWrong vocabulary 2 (having 7) none (in-attribute 3)
+pub attribute-wrong : ElementWrong vocabulary 2 (having 7) none Breaches.Attribute
 unfolding ruleOf
 attribute-wrong = attribute-not-allowed 3 refl (List·Memᴰ·head refl) (λ m. let e = List·Memᴰ·eq-of-singleton m in omega (arith, e))
 
-pub content-wrong : ElementWrong vocabulary 2 [] (one text) (in-content 0)
+pub content-wrong : ElementWrong vocabulary 2 [] (one text) Content
 unfolding ruleOf word
 content-wrong = content-not-allowed 0 refl (List·Memᴰ·head refl) List·Memᴰ·not-nil
+
+-- Element 1 must hold no text, must have attribute 0 and must hold an element 2.
+abbrev strict-rule : Rule
+strict-rule = record { element = 1; attributes = 0 ∷ []; contents = 0 ∷ 2 ∷ []; clauses = neg (content 0) ∷ attr 0 ∷ content 2 ∷ [] }
+
+abbrev strict : Vocabulary
+strict = record { rules = strict-rule ∷ []; root = 1 }
+
+abbrev alone : List Attribute → Items
+alone δ = one (element 1 0 δ none)
+
+-- With attribute 3, which is not allowed, in place of attribute 0: the attribute is told, not the clause.
+pub attribute-first : WrongAt strict 0 (alone (having 7)) (Clause 1) × FirstBreach (WrongAt strict 0 (alone (having 7))) Breaches.Attribute
+unfolding WrongAt SomeElement ruleOf Meets
+attribute-first = (
+  inl (inl (refl, clause-not-met 1 refl (omega arith) (λ m. let e = List·Memᴰ·eq-of-singleton m in omega (arith, e)))),
+  an-attribute (inl (inl (refl, attribute-not-allowed 3 refl (List·Memᴰ·head refl) (λ m. let e = List·Memᴰ·eq-of-singleton m in omega (arith, e))))),
+)
+
+-- Without attributes and contents: of the clauses, at 0 to 2, the last two fail, and the lower one is told.
+pub lowest-clause : WrongAt strict 0 (alone []) (Clause 2) × FirstBreach (WrongAt strict 0 (alone [])) (Clause 1)
+unfolding WrongAt SomeElement ruleOf Meets word
+lowest-clause = (
+  inl (inl (refl, clause-not-met 2 refl (omega arith) (λ (i, h, e). omega (arith, h)))),
+  a-clause (inl (inl (refl, clause-not-met 1 refl (omega arith) List·Memᴰ·not-nil))) no-attribute no-content from-1,
+)
+  where
+    no-attribute : WrongAt strict 0 (alone []) Breaches.Attribute → ⊥
+    no-attribute (inl (inl (e, attribute-not-allowed a p m n))) = List·Memᴰ·not-nil m
+    no-attribute (inl (inr w)) = w
+    no-attribute (inr w) = w
+
+    no-content : WrongAt strict 0 (alone []) Content → ⊥
+    no-content (inl (inl (e, content-not-allowed c p m n))) = List·Memᴰ·not-nil m
+    no-content (inl (inr w)) = w
+    no-content (inr w) = w
+
+    from-1 : (j : ℕ) → WrongAt strict 0 (alone []) (Clause j) → 1 ≤ j
+    from-1 (suc j) w = omega arith
+    from-1 zero (inl (inl (e, clause-not-met {rule = r} i p h n))) =
+        let is : r ≡ strict-rule = cc in
+        let fails : Meets [] none (neg (content 0)) → ⊥ = rw is at n in
+        absurd (fails (λ (i, h, e). omega (arith, h)))
+    from-1 zero (inl (inr w)) = absurd w
+    from-1 zero (inr w) = absurd w

@@ -10,17 +10,17 @@ use lib.Dec.{ltb}
 use borrow.Author.Tests.{ltb-true}
 use Rattle.verdicts.specs.declared.Numbers.{Numbers}
 use Rattle.commands.specs.Commands.{command}
-use Rattle.vocabularies.specs.Vocabulary.{ruleOf, isIn}
+use Rattle.vocabularies.specs.Vocabulary.{ruleOf}
 use Rattle.vocabularies.specs.Facts.{withFacts}
 use Rattle.pages.specs.Items.{gapIn, attributeGapIn}
 use Rattle.pages.specs.RightPages.{_∈_}
-use Rattle.judging.specs.contracts.Judgement.{precedes, truthOf}
+use Rattle.judging.specs.contracts.Judgement.{precedes}
 use Rattle.programs.specs.Program.{templateAt}
-use Rattle.summaries.specs.Summaries.{sameCode, held}
+use Rattle.summaries.specs.Summaries.{sameCode}
 use Rattle.agreement.proofs.JobVerdicts.{unique}
-use Rattle.patterns.specs.contracts.Patterns.{breaksValue, patternOf, join}
+use Rattle.patterns.specs.contracts.Patterns.{breaksValue, join}
 use Rattle.patterns.specs.contracts.Morphisms.{classOf}
-use Rattle.patterns.specs.contracts.Elements.{wrongUnder}
+use Rattle.patterns.specs.contracts.Elements.{breachUnder}
 use Rattle.patterns.proofs.ReadVocabularies.{Bytes}
 use Rattle.sets.specs.Sets.{member}
 use Rattle.sets.proofs.Booleans.{and-left, and-right}
@@ -28,6 +28,7 @@ use Rattle.worked_verdicts.specs.Table.{Row, RowHolds, table}
 use Rattle.worked_verdicts.specs.BlankText.{blankTable}
 use Rattle.worked_verdicts.specs.Frames.{framedTable}
 use Rattle.worked_verdicts.specs.Absence.{absentTable}
+use Rattle.worked_verdicts.specs.Breaches.{breachTable}
 use Rattle.worked_verdicts.proofs.Verdicts.{verdictBy, verdict-by}
 
 abbrev areBytes : List ℕ → Bool
@@ -51,9 +52,9 @@ abbrev stated : Row → Answer
 stated r = record { bytes = true; numbers = some (r .numbers) }
 
 answers : (map computed table ≡ map stated table) × (map computed blankTable ≡ map stated blankTable) × (map computed framedTable ≡ map stated framedTable)
-    × (map computed absentTable ≡ map stated absentTable)
-unfolding verdictBy command ruleOf withFacts gapIn attributeGapIn templateAt sameCode held wrongUnder classOf join patternOf isIn precedes breaksValue member truthOf
-answers = (refl, refl, refl, refl)
+    × (map computed absentTable ≡ map stated absentTable) × (map computed breachTable ≡ map stated breachTable)
+unfolding verdictBy command ruleOf withFacts gapIn attributeGapIn templateAt sameCode breachUnder classOf join precedes breaksValue member
+answers = (refl, refl, refl, refl, refl)
 
 same-at : {A B : Type 0} (f g : A → B) (xs : List A) → map f xs ≡ map g xs → (a : A) → a ∈ xs → f a ≡ g a
 same-at f g [] e a i = absurd (List·Memᴰ·not-nil i)
@@ -68,7 +69,8 @@ each-holds rows all r i =
     let is = verdict-by 3 (r .bytes) (are-bytes (r .bytes) (ap (λ (a : Answer). a .bytes) e)) (r .numbers) (ap (λ (a : Answer). a .numbers) e) in
     record { is = is; only = λ v h. unique h is }
 
--- The theorem for all rows of the marked cases, and those for jobs with blank text, with frames, and with attributes that can be absent.
+-- The theorem for all rows of the marked cases, and those for jobs with blank text, with frames, with attributes that can be absent, and about
+-- what a wrong element breaks.
 pub rows-hold : (r : Row) → r ∈ table → RowHolds r
 rows-hold = each-holds table (answers .0)
 
@@ -80,3 +82,6 @@ framed-rows-hold = each-holds framedTable (answers .2)
 
 pub absent-rows-hold : (r : Row) → r ∈ absentTable → RowHolds r
 absent-rows-hold = each-holds absentTable (answers .3)
+
+pub breach-rows-hold : (r : Row) → r ∈ breachTable → RowHolds r
+breach-rows-hold = each-holds breachTable (answers .4)

@@ -1,62 +1,44 @@
--- The shows of a job, decided by tables of t rounds: point by point, the lowest first, 11 before 12.
+-- The shows of a job, decided by tables of t rounds: point by point, the lowest first, 11 before 12, 14 and 15.
 use Prim.Native.Nat.{ℕ, zero, suc, _+_, _≤_, _<_}
-use native.Mathlib.Nat.{le-of-suc-le-suc}
 use native.Mathlib.Omega.{arith}
-use mathlib.Core.Path.{_≡_, refl, ap, subst}
-use mathlib.Core.Bool.{Bool, true, false, false≢true}
+use mathlib.Core.Path.{_≡_, refl, subst}
+use mathlib.Core.Bool.{Bool, true, false}
 use mathlib.Core.Option.{Option, some, none}
 use lib.ListN.{length}
-use lib.Dec.{eqb, ltb}
-use borrow.Author.Tests.{eqb-true, ltb-true, ltb-false}
+use lib.Dec.{ltb}
+use borrow.Author.Tests.{ltb-true, ltb-false}
 use Rattle.verdicts.specs.declared.Numbers.{Numbers}
-use Rattle.verdicts.specs.Printed.{prints}
+use Rattle.verdicts.specs.declared.Breach.{Breach}
+use Rattle.verdicts.specs.declared.Fault.the-variants.{NotRoot}
+use Rattle.verdicts.specs.Printed.{prints, faultNumbers, elementFault}
+use Rattle.pages.specs.RightPages.{FirstBreach}
 use Rattle.summaries.specs.Summaries.{Summary, Environment, entries}
 use Rattle.summaries.specs.Languages.{graphShown}
 use Rattle.jobs.specs.Job.{Script, Job}
 use Rattle.jobs.specs.JobVerdict.{AllCovered, ShowHolds, NotRootAt, WrongIn, ScriptVerdict, not-root, wrong-element, accepted}
 use Rattle.programs.proofs.Points.{past-stops}
-use Rattle.patterns.specs.contracts.Shows.{Tables, ExactTables, Least, onlyIf, lowestOver, lowestRoot, lowestWrongIn, lowestWrong}
-use Rattle.patterns.proofs.Lowest.{least-of, least-below, none-of, least-test, least-over}
+use Rattle.patterns.specs.declared.Wrong.{Wrong}
+use Rattle.patterns.specs.declared.Wrong.the-variants.{Nowhere, At}
+use Rattle.patterns.specs.contracts.LowestWrong.{LowestBreach, nowhere-wrong, lowest-wrong}
+use Rattle.patterns.specs.contracts.Shows.{Tables, ExactTables, Least, lowestRoot, lowestWrong}
+use Rattle.patterns.proofs.Lowest.{least-of, least-below, none-of}
 use Rattle.patterns.proofs.ReadJobs.{GivenShows}
-use Rattle.patterns.proofs.JobShows.{nothing-shown, lowest-not-root, lowest-wrong-element, wrong-in, show-holds}
+use Rattle.patterns.proofs.JobShows.{nothing-shown, lowest-not-root, lowest-wrong-element, show-holds}
 use Rattle.worked_verdicts.proofs.Counting.{one-more}
 use Rattle.worked_verdicts.proofs.Tables.{tablesBy, enoughRounds, tables-exact}
 
--- What is found at a point: all pages are right; a root template with another page; an element that is wrong, by template and offset;
--- or the rounds are too few to tell.
+-- What is found at a point: all pages are right; a root template with another page; an element that is wrong, by template, offset and
+-- breach; or the rounds are too few to tell.
 pub data Found : Type 0 where
   right : Found
   other-page : ℕ → Found
-  wrong : ℕ → ℕ → Found
+  wrong : ℕ → ℕ → Breach → Found
   undecided : Found
 
-abbrev isAt : Option ℕ → ℕ → Bool
-isAt none at = false
-isAt (some b) at = eqb b at
-
-is-at : (o : Option ℕ) (at : ℕ) → isAt o at ≡ true → o ≡ some at
-is-at none at e = absurd (false≢true e)
-is-at (some b) at e = ap some (eqb-true b at e)
-
--- The lowest number below N at which f gives `at`.
-unfoldable pub placeOf : ℕ → (ℕ → Option ℕ) → ℕ → Option ℕ
-unfolding lowestOver
-placeOf N f at = lowestOver N (λ n. onlyIf (isAt (f n) at) n)
-
-place-of : (N : ℕ) (f : ℕ → Option ℕ) (at n : ℕ) → placeOf N f at ≡ some n → (n < N) × (f n ≡ some at)
-unfolding placeOf
-place-of N f at n e =
-    let (i, h, (q, p)) = least-of (subst (Least _) e (least-over N (λ i a. (i ≡ a) × (isAt (f i) at ≡ true)) (λ i. onlyIf (isAt (f i) at) i) (λ i _. least-test (isAt (f i) at) i))) in
-    (rw (← q) h, rw (← q) (is-at (f i) at p))
-
-abbrev wrongIn : Option ℕ → ℕ → Found
-wrongIn none at = undecided
-wrongIn (some n) at = wrong n at
-
-abbrev byLowest : Option ℕ → Option ℕ → (ℕ → Option ℕ) → Found
-byLowest (some r) o place = other-page r
-byLowest none none place = right
-byLowest none (some at) place = wrongIn (place at) at
+abbrev byLowest : Option ℕ → Wrong → Found
+byLowest (some r) w = other-page r
+byLowest none Nowhere = right
+byLowest none (At n at b) = wrong n at b
 
 abbrev onlyEnough : Bool → Found → Found
 onlyEnough true f = f
@@ -67,11 +49,10 @@ module _ (t : ℕ) (π : Script) (E : ℕ → Environment) where
   inGraph none = right
   inGraph (some G) = onlyEnough (enoughRounds (π .templates) G t (π .vocabulary))
       (byLowest (lowestRoot (π .templates) G (π .vocabulary) (tablesBy (π .templates) G t (π .vocabulary)))
-      (lowestWrong (π .templates) G (π .vocabulary) (tablesBy (π .templates) G t (π .vocabulary)))
-      (placeOf (suc (length (π .templates))) (lowestWrongIn (π .templates) G (π .vocabulary) (tablesBy (π .templates) G t (π .vocabulary)))))
+      (lowestWrong (π .templates) G (π .vocabulary) (tablesBy (π .templates) G t (π .vocabulary))))
 
   unfoldable pub showBy : ℕ → Found
-  unfolding enoughRounds tablesBy lowestRoot lowestWrong placeOf graphShown
+  unfolding enoughRounds tablesBy lowestRoot lowestWrong graphShown
   showBy p = inGraph (graphShown (π .templates) (π .program) E p)
 
 -- What it means that this is found.
@@ -80,38 +61,30 @@ module _ (π : Script) (E : ℕ → Environment) (p : ℕ) where
     pub page : NotRootAt π E p r
     pub lowest : (r′ : ℕ) → NotRootAt π E p r′ → r ≤ r′
 
-  pub record WrongFound (n at : ℕ) : Type 0 where
+  pub record WrongFound (n at : ℕ) (b : Breach) : Type 0 where
     pub no-other : (r : ℕ) → NotRootAt π E p r → ⊥
-    pub element : WrongIn π E p n at
-    pub lowest : (n′ at′ : ℕ) → WrongIn π E p n′ at′ → at ≤ at′
+    pub element : FirstBreach (WrongIn π E p n at) b
+    pub lowest : (n′ at′ : ℕ) (b′ : Breach) → WrongIn π E p n′ at′ b′ → at ≤ at′
 
   abbrev pub FoundAt : Found → Type 0
   FoundAt right = ShowHolds π E p
   FoundAt (other-page r) = OtherPage r
-  FoundAt (wrong n at) = WrongFound n at
+  FoundAt (wrong n at b) = WrongFound n at b
   FoundAt undecided = Unit {0}
 
 module _ (t : ℕ) (π : Script) (E : ℕ → Environment) (read : GivenShows π E) (p : ℕ) where
   module _ (G : Summary) (shows : graphShown (π .templates) (π .program) E p ≡ some G) (T : Tables)
       (exact : ExactTables (π .templates) G (π .vocabulary) T) where
-    by-lowest : (a b : Option ℕ) → lowestRoot (π .templates) G (π .vocabulary) T ≡ a → lowestWrong (π .templates) G (π .vocabulary) T ≡ b
-        → FoundAt π E p (byLowest a b (placeOf (suc (length (π .templates))) (lowestWrongIn (π .templates) G (π .vocabulary) T)))
-    by-lowest (some r) b e f =
+    by-wrong : ((r : ℕ) → NotRootAt π E p r → ⊥) → (w : Wrong) → LowestBreach (WrongIn π E p) w → (w ≡ Nowhere → ShowHolds π E p) → FoundAt π E p (byLowest none w)
+    by-wrong no-other _ (nowhere-wrong h) holds = holds refl
+    by-wrong no-other _ (lowest-wrong f l) holds = record { no-other = no-other; element = f; lowest = l }
+
+    by-lowest : (o : Option ℕ) → lowestRoot (π .templates) G (π .vocabulary) T ≡ o → FoundAt π E p (byLowest o (lowestWrong (π .templates) G (π .vocabulary) T))
+    by-lowest (some r) e =
         let l = subst (Least _) e (lowest-not-root π E read p G shows T exact) in
         record { page = least-of l; lowest = least-below l }
-    by-lowest none none e f = show-holds π E read p G shows T exact .1 (e, f)
-    by-lowest none (some at) e f = go (placeOf (suc (length (π .templates))) (lowestWrongIn (π .templates) G (π .vocabulary) T) at) refl
-      where
-        go : (o : Option ℕ) → placeOf (suc (length (π .templates))) (lowestWrongIn (π .templates) G (π .vocabulary) T) at ≡ o → FoundAt π E p (wrongIn o at)
-        go none q = tt
-        go (some n) q =
-            let (h, i) = place-of (suc (length (π .templates))) (lowestWrongIn (π .templates) G (π .vocabulary) T) at n q in
-            let l = subst (Least _) f (lowest-wrong-element π E read p G shows T exact) in
-            record {
-              no-other = none-of (subst (Least _) e (lowest-not-root π E read p G shows T exact));
-              element = wrong-in π E read p G shows T exact n at (le-of-suc-le-suc h) i;
-              lowest = λ n′ at′ w. least-below l at′ (n′, w);
-            }
+    by-lowest none e = by-wrong (none-of (subst (Least _) e (lowest-not-root π E read p G shows T exact))) _
+        (lowest-wrong-element π E read p G shows T exact) (λ q. show-holds π E read p G shows T exact .1 (e, q))
 
   pub show-by : FoundAt π E p (showBy t π E p)
   unfolding showBy
@@ -124,13 +97,13 @@ module _ (t : ℕ) (π : Script) (E : ℕ → Environment) (read : GivenShows π
 
       go : (o : Option Summary) → graphShown (π .templates) (π .program) E p ≡ o → FoundAt π E p (inGraph t π E o)
       go none e = nothing-shown π E p e
-      go (some G) e = enough-or G e _ refl _ (λ exact. by-lowest G e _ exact _ _ refl refl)
+      go (some G) e = enough-or G e _ refl _ (λ exact. by-lowest G e _ exact _ refl)
 
 -- Point by point.
 abbrev pageVerdict : ℕ → Found → Option Numbers → Option Numbers
 pageVerdict p right rest = rest
-pageVerdict p (other-page r) rest = some (prints 11 p r 0)
-pageVerdict p (wrong n at) rest = some (prints 12 p n at)
+pageVerdict p (other-page r) rest = some (faultNumbers (NotRoot p r))
+pageVerdict p (wrong n at b) rest = some (faultNumbers (elementFault p n at b))
 pageVerdict p undecided rest = none
 
 module _ (t : ℕ) (π : Script) (E : ℕ → Environment) where
@@ -159,10 +132,10 @@ module _ (t : ℕ) (π : Script) (E : ℕ → Environment) (read : GivenShows π
       → (ShowHolds π E p → (v : Numbers) → rest ≡ some v → ScriptVerdict π E v) → (v : Numbers) → pageVerdict p f rest ≡ some v → ScriptVerdict π E v
   page-verdict p below right h rest goes v e = goes h v e
   page-verdict p below (other-page r) h rest goes v e =
-      let is : prints 11 p r 0 ≡ v = cc in
+      let is : faultNumbers (NotRoot p r) ≡ v = cc in
       subst (ScriptVerdict π E) is (not-root covered below (h .page) (h .lowest))
-  page-verdict p below (wrong n at) h rest goes v e =
-      let is : prints 12 p n at ≡ v = cc in
+  page-verdict p below (wrong n at b) h rest goes v e =
+      let is : faultNumbers (elementFault p n at b) ≡ v = cc in
       subst (ScriptVerdict π E) is (wrong-element covered below (h .no-other) (h .element) (h .lowest))
   page-verdict p below undecided h rest goes v e = absurd (let z : _≡_ {A = ℕ} 0 1 = cc in omega arith)
 

@@ -49,9 +49,9 @@ absentTable =
     -- Absence makes `17` true; string 0 would not be of the set.
     ∷ record { bytes = shown (0x02 ∷ 0x00 ∷ 0x04 ∷ oneString) gapped opened; numbers = prints 0 0 0 0 }
     -- String 0 counts where the summary holds it.
-    ∷ record { bytes = shown (0x02 ∷ 0x00 ∷ 0x04 ∷ oneString) gapped (openOr 0); numbers = prints 12 1 1 18 }
+    ∷ record { bytes = shown (0x02 ∷ 0x00 ∷ 0x04 ∷ oneString) gapped (openOr 0); numbers = prints 15 1 0 18 }
     -- Absence makes `14` false, though string 5 reaches the attribute.
-    ∷ record { bytes = shown (0x02 ∷ 0x00 ∷ 0x04 ∷ 0x14 ∷ 0x00 ∷ []) gapped (openOr 5); numbers = prints 12 1 1 10 }
+    ∷ record { bytes = shown (0x02 ∷ 0x00 ∷ 0x04 ∷ 0x14 ∷ 0x00 ∷ []) gapped (openOr 5); numbers = prints 15 1 0 10 }
     -- No page has the attribute: `12 14 00` is met.
     ∷ record { bytes = shown (0x02 ∷ 0x00 ∷ 0x04 ∷ 0x12 ∷ 0x14 ∷ 0x00 ∷ []) gapped opened; numbers = prints 0 0 0 0 }
     -- `14` or `17`, together: string 5, which is not of the set, is carried; absence meets `17`. To test the facts one at a time is wrong.
@@ -61,19 +61,19 @@ absentTable =
       bytes = shown (
           0x02 ∷ 0x00 ∷ 0x02 ∷ 0x01 ∷ 0x04 ∷ 0x11 ∷ 0x10 ∷ 0x14 ∷ 0x00 ∷ 0x14 ∷ 0x01 ∷ 0x10 ∷ 0x12 ∷ 0x14 ∷ 0x00 ∷ 0x12 ∷ 0x14 ∷ 0x01 ∷ [])
           (0x25 ∷ 0x00 ∷ 0x00 ∷ 0x25 ∷ 0x01 ∷ 0x00 ∷ []) (openOr 5);
-      numbers = prints 12 1 1 23;
+      numbers = prints 15 1 0 23;
     }
     -- The clause `12 13` fails for every element 1. With neither string nor absence to take no page comes, and none is wrong.
     ∷ record { bytes = unreached (0x04 ∷ 0x12 ∷ 0x13 ∷ []) gapped []; numbers = prints 0 0 0 0 }
     -- Attribute 0 can be absent, attribute 1 on gap 1 has nothing to take: no page comes.
     ∷ record { bytes = unreached (0x04 ∷ 0x12 ∷ 0x13 ∷ []) (0x25 ∷ 0x00 ∷ 0x00 ∷ 0x25 ∷ 0x01 ∷ 0x01 ∷ []) opened; numbers = prints 0 0 0 0 }
     -- Absence alone is something to take.
-    ∷ record { bytes = unreached (0x04 ∷ 0x12 ∷ 0x13 ∷ []) gapped opened; numbers = prints 12 1 1 8 }
+    ∷ record { bytes = unreached (0x04 ∷ 0x12 ∷ 0x13 ∷ []) gapped opened; numbers = prints 15 1 0 8 }
     -- A show in a frame closes likewise: the frame's attribute gap is open, and `14` fails.
     ∷ record {
       bytes = jobOf (0x02 ∷ 0x00 ∷ 0x04 ∷ 0x14 ∷ 0x00 ∷ []) gapped (
           0x39 ∷ 0x00 ∷ 0x01 ∷ 0x00 ∷ 0x01 ∷ 0x01 ∷ 0x38 ∷ 0x3F ∷ 0x40 ∷ 0x00 ∷ 0x00 ∷ 0x41 ∷ 0x00 ∷ 0x40 ∷ 0x01 ∷ 0x00 ∷ 0x41 ∷ 0x00 ∷ 0x4F ∷ []);
-      numbers = prints 12 0 1 10;
+      numbers = prints 15 0 0 10;
     }
     -- `14 00` to `14 08`, nine facts: 7, at the clause's `04`.
     ∷ record {

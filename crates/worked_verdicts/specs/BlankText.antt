@@ -17,12 +17,12 @@ blankTable =
     -- The doubled gap with `29` before element 1 and between the gaps: the offset of its `23` moves from 20 to 21, and nothing else.
     ∷ record {
       bytes = variant (exchanged (0x23 ∷ 0x01 ∷ 0x22 ∷ 0x00 ∷ []) (0x29 ∷ 0x23 ∷ 0x01 ∷ 0x22 ∷ 0x00 ∷ 0x29 ∷ 0x22 ∷ 0x00 ∷ []) templatesPart) programPart proposalPart;
-      numbers = prints 12 3 1 21;
+      numbers = prints 15 3 0 21;
     }
     -- Template 2 of blank text alone, where element 1 must hold an element 2.
     ∷ record {
       bytes = variant (exchanged (0x23 ∷ 0x02 ∷ 0x21 ∷ 0x26 ∷ []) (0x29 ∷ []) templatesPart) programPart proposalPart;
-      numbers = prints 12 3 1 20;
+      numbers = prints 15 3 1 20;
     }
     -- The same shown by itself: a page of blank text alone.
     ∷ record {

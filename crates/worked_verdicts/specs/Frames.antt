@@ -38,13 +38,13 @@ framedTable =
       numbers = prints 0 0 0 0;
     }
     -- The frame has no gap 1: it is shown alone, its gap 0 empty.
-    ∷ record { bytes = shownIn templatesPart 1 1 (0x41 ∷ 0x02 ∷ []); numbers = prints 12 1 1 20 }
+    ∷ record { bytes = shownIn templatesPart 1 1 (0x41 ∷ 0x02 ∷ []); numbers = prints 15 1 1 20 }
     -- x1 is gap 0 alone, which the show closes after the plug: element 1 is empty.
-    ∷ record { bytes = shownIn (withSecond (0x22 ∷ 0x00 ∷ [])) 1 0 (0x41 ∷ 0x02 ∷ 0x45 ∷ 0x00 ∷ 0x02 ∷ []); numbers = prints 12 1 1 20 }
+    ∷ record { bytes = shownIn (withSecond (0x22 ∷ 0x00 ∷ [])) 1 0 (0x41 ∷ 0x02 ∷ 0x45 ∷ 0x00 ∷ 0x02 ∷ []); numbers = prints 15 1 1 20 }
     -- x1 is gap 1 alone, which the show closes too.
-    ∷ record { bytes = shownIn (withSecond (0x22 ∷ 0x01 ∷ [])) 1 0 (0x41 ∷ 0x02 ∷ 0x45 ∷ 0x01 ∷ 0x02 ∷ []); numbers = prints 12 1 1 20 }
-    -- x1 is an element 2 around another, and an element 2 may hold text alone: 12 names template 2, and the offset of the outer `23`.
-    ∷ record { bytes = shownIn (withSecond (0x23 ∷ 0x02 ∷ 0x23 ∷ 0x02 ∷ 0x26 ∷ 0x26 ∷ [])) 1 0 (0x41 ∷ 0x02 ∷ []); numbers = prints 12 1 2 27 }
+    ∷ record { bytes = shownIn (withSecond (0x22 ∷ 0x01 ∷ [])) 1 0 (0x41 ∷ 0x02 ∷ 0x45 ∷ 0x01 ∷ 0x02 ∷ []); numbers = prints 15 1 1 20 }
+    -- x1 is an element 2 around another, and an element 2 may hold text alone: 14 names template 2, and the offset of the outer `23`.
+    ∷ record { bytes = shownIn (withSecond (0x23 ∷ 0x02 ∷ 0x23 ∷ 0x02 ∷ 0x26 ∷ 0x26 ∷ [])) 1 0 (0x41 ∷ 0x02 ∷ []); numbers = prints 14 1 2 27 }
     -- 11 names the frame, and not x1's template: the frame is gap 0 alone, and the page is element 2.
     ∷ record { bytes = shownIn (withFirst (0x22 ∷ 0x00 ∷ [])) 1 0 (0x41 ∷ 0x02 ∷ []); numbers = prints 11 1 1 0 }
     -- Template 0 as the frame: the page is empty.
@@ -52,11 +52,11 @@ framedTable =
     -- x0 has no root, and template 1 has gap 0: no page comes.
     ∷ record { bytes = unreached templatesPart []; numbers = prints 0 0 0 0 }
     -- The same, but x0's graph has template 1 as an origin of gap 0; or an edge from that gap to template 0.
-    ∷ record { bytes = unreached templatesPart (0x45 ∷ 0x00 ∷ 0x01 ∷ []); numbers = prints 12 1 1 20 }
-    ∷ record { bytes = unreached templatesPart (0x42 ∷ 0x01 ∷ 0x00 ∷ 0x00 ∷ []); numbers = prints 12 1 1 20 }
+    ∷ record { bytes = unreached templatesPart (0x45 ∷ 0x00 ∷ 0x01 ∷ []); numbers = prints 15 1 1 20 }
+    ∷ record { bytes = unreached templatesPart (0x42 ∷ 0x01 ∷ 0x00 ∷ 0x00 ∷ []); numbers = prints 15 1 1 20 }
     -- The frame lacks gap 0, and alone would be right; but the graphs join, and x0's has an edge from gap 1 of template 1 to template 2.
     ∷ record {
       bytes = unreached (withFirst (0x23 ∷ 0x01 ∷ 0x23 ∷ 0x02 ∷ 0x21 ∷ 0x26 ∷ 0x22 ∷ 0x01 ∷ 0x26 ∷ [])) (0x41 ∷ 0x02 ∷ 0x42 ∷ 0x01 ∷ 0x01 ∷ 0x02 ∷ []);
-      numbers = prints 12 1 1 20;
+      numbers = prints 15 1 0 20;
     }
     ∷ []

@@ -1,6 +1,6 @@
 -- The marked cases of document 01, "Job J1 and its variants", as a table: the bytes of a job, and the four numbers that document 01
--- prints for it. A variant is J1 cut, with a byte more, or with some bytes of its parts exchanged. One theorem, `rows-hold` in proofs/, is for all
--- rows.
+-- prints for it, two of them as document 02, F-6, changes them. A variant is J1 cut, with a byte more, or with some bytes of its parts
+-- exchanged. One theorem, `rows-hold` in proofs/, is for all rows.
 use Prim.Native.Nat.{ℕ}
 use mathlib.Core.List.{List, [], _∷_, _++_}
 use mathlib.Core.Bool.{Bool, true, false, cond, _&&_}
@@ -74,17 +74,17 @@ table =
       bytes = variant templatesPart programPart (withItems 3 shownItems (0x41 ∷ 0x01 ∷ []) proposalPart);
       numbers = prints 10 2 3 0;
     }
-    -- Point 2 made `30 00 00 03 03`, `45 00 01` added to variable 0 at points 3 and 4: 12 3 1 20, since the gap may stay empty.
+    -- Point 2 made `30 00 00 03 03`, `45 00 01` added to variable 0 at points 3 and 4: 15 3 1 20 (document 02), since the gap may stay empty.
     ∷ record {
       bytes = variant templatesPart
           (exchanged (0x35 ∷ 0x00 ∷ 0x00 ∷ 0x00 ∷ 0x01 ∷ 0x03 ∷ 0x03 ∷ []) (0x30 ∷ 0x00 ∷ 0x00 ∷ 0x03 ∷ 0x03 ∷ []) programPart)
           (withShown (0x41 ∷ 0x01 ∷ 0x42 ∷ 0x01 ∷ 0x00 ∷ 0x02 ∷ 0x45 ∷ 0x00 ∷ 0x01 ∷ []));
-      numbers = prints 12 3 1 20;
+      numbers = prints 15 3 1 20;
     }
-    -- Template 1 with `22 00` twice: 12 3 1 20.
+    -- Template 1 with `22 00` twice: 15 3 0 20 (document 02).
     ∷ record {
       bytes = variant (exchanged (0x22 ∷ 0x00 ∷ []) (0x22 ∷ 0x00 ∷ 0x22 ∷ 0x00 ∷ []) templatesPart) programPart proposalPart;
-      numbers = prints 12 3 1 20;
+      numbers = prints 15 3 0 20;
     }
     -- Show of variable 1: 11 3 2 0.
     ∷ record {

@@ -3,9 +3,9 @@
 //! show the same pages.
 
 use crate::check::shows;
-use crate::closing::Closing;
 use crate::damage::commands;
 use crate::job::Job;
+use crate::landed::Landed;
 use crate::least::{least, write};
 use crate::program::{Statement, VARIABLES};
 use crate::proposal::Entries;
@@ -28,10 +28,10 @@ impl Apart {
         let Statement::Framed(..) = job.program.points[point].statement else { return None };
         let variable = (0..VARIABLES).find(|variable| job.program.named >> variable & 1 == 0)?;
         let start = [&bytes[..job.program.points[0].at], &program(bytes, job, point, variable)].concat();
-        let held_nothing = Job::read_as(&[&start[..], &[0x4F]].concat(), job.closing).ok()?;
+        let held_nothing = Job::read_as(&[&start[..], &[0x4F]].concat(), job.landed).ok()?;
         let entries = least(&held_nothing.program, &held_nothing.templates, entries(job, point, variable));
         let bytes = [start, write(&entries, held_nothing.program.points.len())].concat();
-        let job = Job::read_as(&bytes, job.closing).ok()?;
+        let job = Job::read_as(&bytes, job.landed).ok()?;
         Some(Apart { bytes, job, point, variable })
     }
 
@@ -120,8 +120,8 @@ fn entries(job: &Job, point: usize, variable: u8) -> Entries {
 
 /// Takes each framed show of a job apart by itself, after what the job holds has grown until it covers; panics where
 /// something differs. Tells how many there were. Nothing is done where the job doesn't read.
-pub fn assert_alike(random: &mut Random, bytes: &[u8], closing: Closing) -> usize {
-    let Ok(mut job) = Job::read_as(bytes, closing) else { return 0 };
+pub fn assert_alike(random: &mut Random, bytes: &[u8], landed: Landed) -> usize {
+    let Ok(mut job) = Job::read_as(bytes, landed) else { return 0 };
     job.entries = least(&job.program, &job.templates, job.entries);
     let mut count = 0;
     for point in 0..job.program.points.len() {

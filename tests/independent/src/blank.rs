@@ -60,7 +60,8 @@ pub fn assert_only_moves(bytes: &[u8], verdict: Verdict, of: impl Fn(&[u8]) -> V
     if number != ACCEPTED[0] && number < START {
         return;
     }
-    let offset = if number == WRONG_ELEMENT { c as usize } else { 0 };
+    let wrong_element = matches!(number, WRONG_ATTRIBUTE | WRONG_CONTENT | WRONG_CLAUSE);
+    let offset = if wrong_element { c as usize } else { 0 };
     let before = commands(&bytes[..offset]).iter().filter(|command| command[0] == 0x29).count();
     assert_eq!(of(&without(bytes)), [number, a, b, c - before as u32], "{verdict:?} on {bytes:02X?}");
 }

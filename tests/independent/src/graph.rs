@@ -1,6 +1,6 @@
 //! The closed summary graph of a show, cut down to what takes part in whole pages.
 
-use crate::closing::Closing;
+use crate::landed::Landed;
 use crate::patterns::{Patterns, WordFacts};
 use crate::summary::*;
 use crate::templates::{AttributeValue, Items, Templates};
@@ -21,7 +21,7 @@ pub struct Graph<'a> {
 }
 
 impl<'a> Graph<'a> {
-    pub fn new(templates: &'a Templates, summary: &Summary, closing: Closing) -> Graph<'a> {
+    pub fn new(templates: &'a Templates, summary: &Summary, landed: Landed) -> Graph<'a> {
         let mut graph = Graph {
             templates,
             roots: summary.roots,
@@ -35,7 +35,7 @@ impl<'a> Graph<'a> {
             graph.edges[template] = *summary.edges(template);
             graph.strings[template] = *summary.strings(template);
         }
-        graph.close(summary, closing);
+        graph.close(summary, landed);
         graph.keep_ending();
         graph.find_live();
         graph.find_outer_contents();
@@ -43,13 +43,13 @@ impl<'a> Graph<'a> {
     }
 
     /// An open gap may get nothing; the attribute of an open attribute gap may go.
-    fn close(&mut self, summary: &Summary, closing: Closing) {
+    fn close(&mut self, summary: &Summary, landed: Landed) {
         for gap in 0..8 {
             for origin in members(summary.origins[gap]) {
                 self.edges[origin][gap] |= 1;
             }
             for origin in members(summary.attribute_origins[gap]) {
-                self.strings[origin][gap] |= closing.taken();
+                self.strings[origin][gap] |= landed.taken();
             }
         }
     }

@@ -1,8 +1,8 @@
 //! The smallest covering proposal of a job that ends with `3F`.
 
-use crate::closing::Closing;
 use crate::flow::*;
 use crate::held::held;
+use crate::landed::Landed;
 use crate::plugged::{strings, Plugged};
 use crate::program::{Program, VARIABLES};
 use crate::reader::*;
@@ -30,11 +30,11 @@ impl Inferred {
 /// with a refusal all of it. The work area is all zero after success and after a 13 about the buffer, whatever it held;
 /// any other refusal leaves it as it was.
 pub fn infer(job: &[u8], work: &mut [u64], buffer: &mut [u8], place: usize) -> Inferred {
-    infer_as(job, Closing::Absence, work, buffer, place)
+    infer_as(job, Landed::NOW, work, buffer, place)
 }
 
-pub fn infer_as(job: &[u8], closing: Closing, work: &mut [u64], buffer: &mut [u8], place: usize) -> Inferred {
-    let (templates, program) = match read(job, closing) {
+pub fn infer_as(job: &[u8], landed: Landed, work: &mut [u64], buffer: &mut [u8], place: usize) -> Inferred {
+    let (templates, program) = match read(job, landed) {
         Ok(read) => read,
         Err(fault) => return Inferred::refused(fault.verdict(0)),
     };
@@ -55,9 +55,9 @@ pub fn infer_as(job: &[u8], closing: Closing, work: &mut [u64], buffer: &mut [u8
     answer
 }
 
-fn read(job: &[u8], closing: Closing) -> Result<(Templates, Program), Fault> {
+fn read(job: &[u8], landed: Landed) -> Result<(Templates, Program), Fault> {
     let mut reader = Reader::new(job)?;
-    let vocabulary = Vocabulary::read(&mut reader, closing)?;
+    let vocabulary = Vocabulary::read(&mut reader, landed)?;
     let templates = Templates::read(&mut reader, &vocabulary)?;
     let program = Program::read(&mut reader, &templates)?;
     reader.end()?;

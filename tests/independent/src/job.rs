@@ -1,6 +1,6 @@
 //! A job as read: its four parts.
 
-use crate::closing::Closing;
+use crate::landed::Landed;
 use crate::program::Program;
 use crate::proposal::Entries;
 use crate::reader::*;
@@ -8,7 +8,7 @@ use crate::templates::Templates;
 use crate::vocabulary::Vocabulary;
 
 pub struct Job {
-    pub closing: Closing,
+    pub landed: Landed,
     pub vocabulary: Vocabulary,
     pub templates: Templates,
     pub program: Program,
@@ -21,29 +21,29 @@ pub struct Job {
 
 impl Job {
     pub fn read(bytes: &[u8]) -> Result<Job, Fault> {
-        Job::read_as(bytes, Closing::Absence)
+        Job::read_as(bytes, Landed::NOW)
     }
 
-    pub fn read_as(bytes: &[u8], closing: Closing) -> Result<Job, Fault> {
+    pub fn read_as(bytes: &[u8], landed: Landed) -> Result<Job, Fault> {
         let mut reader = Reader::new(bytes)?;
-        let vocabulary = Vocabulary::read(&mut reader, closing)?;
+        let vocabulary = Vocabulary::read(&mut reader, landed)?;
         let vocabulary_end = reader.at;
         let templates = Templates::read(&mut reader, &vocabulary)?;
         let program = Program::read(&mut reader, &templates)?;
         let program_end = reader.at;
         let entries = Entries::read(&mut reader, &templates, &program)?;
         reader.end()?;
-        Ok(Job { closing, vocabulary, templates, program, entries, vocabulary_end, program_end })
+        Ok(Job { landed, vocabulary, templates, program, entries, vocabulary_end, program_end })
     }
 }
 
 /// The verdict on reading alone.
 pub fn read_job(job: &[u8]) -> Verdict {
-    read_job_as(job, Closing::Absence)
+    read_job_as(job, Landed::NOW)
 }
 
-pub fn read_job_as(job: &[u8], closing: Closing) -> Verdict {
-    match Job::read_as(job, closing) {
+pub fn read_job_as(job: &[u8], landed: Landed) -> Verdict {
+    match Job::read_as(job, landed) {
         Ok(_) => ACCEPTED,
         Err(fault) => fault.verdict(0),
     }

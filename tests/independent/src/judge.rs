@@ -1,32 +1,33 @@
 //! Judging one page: reading and judging go over the page once, without recursion.
 
-use crate::closing::Closing;
+use crate::landed::Landed;
 use crate::reader::*;
 use crate::vocabulary::*;
+use crate::wrong::Wrong;
 
 const PAGE_NESTING: usize = 1024;
 
 /// The verdict on a page under a vocabulary.
 pub fn judge(vocabulary: &[u8], page: &[u8]) -> Verdict {
-    judge_as(vocabulary, page, Closing::Absence)
+    judge_as(vocabulary, page, Landed::NOW)
 }
 
-pub fn judge_as(vocabulary: &[u8], page: &[u8], closing: Closing) -> Verdict {
-    let vocabulary = match Vocabulary::read_whole(vocabulary, closing) {
+pub fn judge_as(vocabulary: &[u8], page: &[u8], landed: Landed) -> Verdict {
+    let vocabulary = match Vocabulary::read_whole(vocabulary, landed) {
         Ok(vocabulary) => vocabulary,
         Err(fault) => return fault.verdict(0),
     };
-    judge_page(&vocabulary, page)
+    judge_page(&vocabulary, page, landed)
 }
 
 /// The same for a vocabulary that has been read.
-pub fn judge_page(vocabulary: &Vocabulary, page: &[u8]) -> Verdict {
+pub fn judge_page(vocabulary: &Vocabulary, page: &[u8], landed: Landed) -> Verdict {
     let mut judge = Judge::new(vocabulary, page, PAGE_NESTING);
     match Reader::new(page).and_then(|mut reader| judge.read(&mut reader)) {
         Err(fault) => fault.verdict(1),
         Ok(()) if !judge.is_the_root() => [NOT_THE_ROOT, 0, 0, 0],
-        Ok(()) if judge.wrong < NONE_WRONG => [WRONG_ELEMENT, 0, 0, judge.wrong],
-        Ok(()) => ACCEPTED,
+        Ok(()) if judge.wrong == NONE_WRONG => ACCEPTED,
+        Ok(()) => judge.wrong.1.verdict(0, 0, judge.wrong.0, landed),
     }
 }
 
@@ -37,7 +38,7 @@ pub fn is_right(vocabulary: &Vocabulary, page: &[u8]) -> bool {
     read.is_ok() && judge.is_the_root() && judge.wrong == NONE_WRONG
 }
 
-const NONE_WRONG: u32 = u32::MAX;
+const NONE_WRONG: (u32, Wrong) = (u32::MAX, Wrong::Attribute);
 
 struct Open {
     at: u32,
@@ -64,8 +65,8 @@ struct Judge<'a> {
     /// Contents of the page itself, and how many of them are the root.
     outer: u32,
     outer_roots: u32,
-    /// Lowest offset of a wrong element.
-    wrong: u32,
+    /// The lowest offset of a wrong element, and what is wrong with that one.
+    wrong: (u32, Wrong),
 }
 
 impl<'a> Judge<'a> {
@@ -131,7 +132,7 @@ impl<'a> Judge<'a> {
         self.content(element);
         let attributes = attributes(reader)?;
         if attributes & !self.vocabulary.rules[element as usize].attributes != 0 {
-            self.wrong = self.wrong.min(at as u32);
+            self.note(at as u32, Wrong::Attribute);
         }
         let word = self.words.len() as u32;
         self.open.push(Open { at: at as u32, element, attributes, contents: 0, word });
@@ -154,14 +155,24 @@ impl<'a> Judge<'a> {
 
     fn close(&mut self, open: Open) {
         let rule = self.vocabulary.rules[open.element as usize];
-        let wrong = open.contents & !rule.contents != 0 || (rule.from < rule.to && !self.meets(&rule, &open));
-        if wrong {
-            self.wrong = self.wrong.min(open.at);
+        if open.contents & !rule.contents != 0 {
+            self.note(open.at, Wrong::Content);
+        } else if let Some(place) = self.failing(&rule, &open) {
+            self.note(open.at, Wrong::Clause(place));
         }
         self.words.truncate(open.word as usize);
     }
 
-    fn meets(&mut self, rule: &Rule, open: &Open) -> bool {
+    /// The lowest element counts, then what comes first of all that is wrong with it.
+    fn note(&mut self, at: u32, wrong: Wrong) {
+        self.wrong = self.wrong.min((at, wrong));
+    }
+
+    /// The lowest clause that fails. None is looked for where this element or one before it is known to be wrong.
+    fn failing(&mut self, rule: &Rule, open: &Open) -> Option<u32> {
+        if rule.clauses == 0 || self.wrong.0 <= open.at {
+            return None;
+        }
         if rule.has_order {
             self.note_places(open.word as usize);
         }
@@ -169,13 +180,13 @@ impl<'a> Judge<'a> {
             return self.clauses(rule, open);
         }
         self.note_strings(open.at as usize + 2);
-        let meets = self.clauses(rule, open);
+        let failing = self.clauses(rule, open);
         let mut left = open.attributes;
         while left != 0 {
             self.strings[left.trailing_zeros() as usize] = u64::MAX;
             left &= left - 1;
         }
-        meets
+        failing
     }
 
     fn note_places(&mut self, word: usize) {
@@ -207,12 +218,19 @@ impl<'a> Judge<'a> {
     }
 
     /// Prefix order taken from its end needs only a stack of truth values: bits, the top one lowest.
-    fn clauses(&self, rule: &Rule, open: &Open) -> bool {
+    fn clauses(&self, rule: &Rule, open: &Open) -> Option<u32> {
+        let mut failing = None;
+        let mut place = rule.clauses;
         let mut stack = 0u64;
         for node in self.vocabulary.nodes[rule.from as usize..rule.to as usize].iter().rev() {
             let holds = match *node {
-                Node::Clause if stack & 1 == 0 => return false,
-                Node::Clause => continue,
+                Node::Clause => {
+                    place -= 1;
+                    if stack & 1 == 0 {
+                        failing = Some(place);
+                    }
+                    continue;
+                }
                 Node::And => {
                     stack = stack >> 1 & (stack | !1);
                     continue;
@@ -237,7 +255,7 @@ impl<'a> Judge<'a> {
             };
             stack = stack << 1 | holds as u64;
         }
-        true
+        failing
     }
 }
 

@@ -31,7 +31,7 @@ pub fn closed(job: &Job, point: usize) -> Option<Summary> {
     };
     for gap in 0..8 {
         members(closed.origins[gap]).for_each(|origin| closed.add_edges(origin, gap, 1));
-        let taken = job.closing.taken();
+        let taken = job.landed.taken();
         members(closed.attribute_origins[gap]).for_each(|origin| closed.add_strings(origin, gap, taken));
     }
     Some(closed)

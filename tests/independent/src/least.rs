@@ -1,8 +1,8 @@
 //! The least covering proposal, and writing a proposal down.
 
-use crate::closing::Closing;
 use crate::cover::{named, transfer, Change};
 use crate::job::Job;
+use crate::landed::Landed;
 use crate::program::{Program, VARIABLES};
 use crate::proposal::Entries;
 use crate::summary::*;
@@ -52,7 +52,7 @@ fn step(before: &Entries, entries: &mut Entries, change: &Change, point: usize, 
 /// A job up to its `3F`, with the least proposal that holds all of `held`; nothing if it doesn't read, for any other
 /// reason than that `14` makes too many facts.
 pub fn with_least(start: &[u8], held: &[u8]) -> Option<Vec<u8>> {
-    let job = Job::read_as(&[start, held, &[0x4F]].concat(), Closing::StringZero).ok()?;
+    let job = Job::read_as(&[start, held, &[0x4F]].concat(), Landed::F4).ok()?;
     let entries = least(&job.program, &job.templates, job.entries);
     Some([start, &write(&entries, job.program.points.len())].concat())
 }

@@ -1,9 +1,10 @@
 //! What the programs that make records have in common: their arguments, and the two files that they write.
 
 use crate::absent_facts;
-use crate::closing::Closing;
+use crate::landed::Landed;
 use crate::random::Random;
 use crate::random_vocabulary::{formula, many_facts, RuleDraft};
+use crate::reader::TOO_MANY_FACTS;
 use crate::records::push;
 use std::io;
 
@@ -17,7 +18,12 @@ pub enum Much {
     Frames,
     /// Attributes that can be absent.
     Absent,
+    /// Elements that are wrong in several ways.
+    Kinds,
 }
+
+/// What records about wrong elements shall get.
+const KIND_AIMS: [(u32, usize); 5] = [(0, 8), (11, 7), (12, 27), (14, 27), (15, 31)];
 
 impl Much {
     /// The word that asks for it.
@@ -27,21 +33,34 @@ impl Much {
             Much::Blank => "blank",
             Much::Frames => "frames",
             Much::Absent => "absent",
+            Much::Kinds => "kinds",
         }
     }
 
-    /// How shows close in the verdicts that records are chosen by.
-    pub fn closing(self) -> Closing {
+    /// The last request landed in the verdicts that records are chosen by.
+    pub fn landed(self) -> Landed {
         match self {
-            Much::Absent => Closing::Absence,
-            _ => Closing::StringZero,
+            Much::Absent => Landed::F5,
+            Much::Kinds => Landed::F6,
+            _ => Landed::F4,
         }
+    }
+
+    /// A verdict number, out of those that records in general shall get, each with its share.
+    pub fn aim(self, random: &mut Random, general: &[(u32, usize)]) -> u32 {
+        let aims = match self {
+            Much::Kinds => &KIND_AIMS,
+            _ => general,
+        };
+        let more = |number: u32| if self == Much::Absent && number == TOO_MANY_FACTS { 6 } else { 0 };
+        let weights: Vec<usize> = aims.iter().map(|&(number, weight)| weight + more(number)).collect();
+        aims[random.weighted(&weights)].0
     }
 
     /// A formula about what `rule` allows, now and then about other things.
     pub fn formula(self, random: &mut Random, rule: &RuleDraft) -> Vec<u8> {
         match self {
-            Much::Absent => absent_facts::formula(random, rule),
+            Much::Absent | Much::Kinds => absent_facts::formula(random, rule),
             _ => formula(random, rule),
         }
     }
@@ -49,7 +68,7 @@ impl Much {
     /// A clause of so many facts or, where it is not about attributes that are there, perhaps one more.
     pub fn many_facts(self, random: &mut Random, rule: &RuleDraft, least: usize) -> Vec<u8> {
         match self {
-            Much::Absent => absent_facts::many_facts(random, rule, least),
+            Much::Absent | Much::Kinds => absent_facts::many_facts(random, rule, least),
             _ => many_facts(random, least),
         }
     }

@@ -2,7 +2,7 @@
 //! come the pairs that are out of order; then the attributes that are there, and those that are absent or whose string
 //! is of the set.
 
-use crate::closing::Closing;
+use crate::landed::Landed;
 use crate::summary::{StringSet, ABSENT, ANY_STRING};
 use crate::templates::GAP;
 use crate::vocabulary::Node;
@@ -175,6 +175,8 @@ impl WordFacts {
 /// One clause of a rule, with its facts in the order of the pattern's bits.
 pub struct Clause {
     pub element: u8,
+    /// Among the clauses of its rule, from 0.
+    pub place: u32,
     pub word: WordFacts,
     pairs: Vec<(u8, u8)>,
     /// Attributes with the strings, absence among them, for which a fact about them holds: rising, so that those of one
@@ -186,7 +188,7 @@ pub struct Clause {
 }
 
 impl Clause {
-    pub fn new(element: u8, all: &[Node], nodes: std::ops::Range<usize>, closing: Closing) -> Clause {
+    pub fn new(element: u8, place: u32, all: &[Node], nodes: std::ops::Range<usize>, landed: Landed) -> Clause {
         let mut hangs_on_element = false;
         let mut contents = 0u64;
         let mut pairs = Vec::new();
@@ -194,7 +196,7 @@ impl Clause {
         for node in &all[nodes.clone()] {
             match *node {
                 Node::Clause | Node::And | Node::Or | Node::Not | Node::True => {}
-                Node::Attribute(_) if closing == Closing::StringZero => hangs_on_element = true,
+                Node::Attribute(_) if landed == Landed::F4 => hangs_on_element = true,
                 Node::Attribute(attribute) => attributes.push((attribute, ANY_STRING)),
                 Node::Content(content) => contents |= 1 << content,
                 Node::Order(later, earlier) => {
@@ -209,7 +211,7 @@ impl Clause {
         attributes.sort_unstable();
         attributes.dedup();
         let word = WordFacts::new(contents, &pairs);
-        let mut clause = Clause { element, word, pairs, attributes, nodes, holds: None };
+        let mut clause = Clause { element, place, word, pairs, attributes, nodes, holds: None };
         if !hangs_on_element {
             clause.holds = Some(clause.evaluate(all, 0));
         }

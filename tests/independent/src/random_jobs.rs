@@ -4,10 +4,11 @@ use crate::absent_jobs;
 use crate::blank::misplace;
 use crate::blank_jobs;
 use crate::check::check_as;
-use crate::closing::Closing;
 use crate::damage::{any_command, commands, damage};
 use crate::frame_jobs;
 use crate::job::Job;
+use crate::kind_jobs;
+use crate::landed::Landed;
 use crate::least::{least, with_least, write};
 use crate::making::Much;
 use crate::program::Statement;
@@ -30,16 +31,19 @@ pub fn job(random: &mut Random, much: Much) -> Vec<u8> {
         let count = random.below(30);
         return (0..count).flat_map(|_| any_command(random, &COMMANDS)).collect();
     }
-    let more = |number: u32| if much == Much::Absent && number == TOO_MANY_FACTS { 6 } else { 0 };
-    let (number, _) = AIMS[random.weighted(&AIMS.map(|(number, weight)| weight + more(number)))];
+    let number = much.aim(random, &AIMS);
     // Left to chance, most accepted jobs would plug nothing in.
     let plugs = number == 0 && random.percent(60);
+    let mixed = much == Much::Kinds && number > NOT_THE_ROOT && random.percent(90);
+    let by_pages = mixed && random.percent(50);
     let mut tries = 0;
     loop {
         let job = attempt(random, much, number);
         tries += 1;
-        let fits = check_as(&job, much.closing())[0] == number
-            && (!plugs || commands(&job).iter().any(|command| command[0] == 0x42));
+        let verdict = check_as(&job, much.landed());
+        let fits = verdict[0] == number
+            && (!plugs || commands(&job).iter().any(|command| command[0] == 0x42))
+            && (!mixed || kind_jobs::is_mixed(&job, verdict[1], by_pages));
         if fits || tries == 300 {
             return job;
         }
@@ -50,7 +54,7 @@ fn attempt(random: &mut Random, much: Much, number: u32) -> Vec<u8> {
     let mut parts = Parts::random(random, much);
     match number {
         0 => {
-            if check_as(&parts.with_proposal(random), much.closing()) == ACCEPTED {
+            if check_as(&parts.with_proposal(random), much.landed()) == ACCEPTED {
                 parts.add_clauses(random);
             }
             parts.with_proposal(random)
@@ -78,6 +82,7 @@ fn attempt(random: &mut Random, much: Much, number: u32) -> Vec<u8> {
             rule.clauses.push(clause);
             parts.with_proposal(random)
         }
+        11..=15 if much == Much::Kinds => parts.with_proposal(random),
         9..=12 if random.percent(50) => {
             parts.add_random_clauses(random);
             let job = parts.with_proposal(random);
@@ -98,7 +103,7 @@ fn attempt(random: &mut Random, much: Much, number: u32) -> Vec<u8> {
 
 /// One command or operand of the proposal at fault.
 fn damaged_proposal(random: &mut Random, job: &[u8]) -> Vec<u8> {
-    let Ok(read) = Job::read_as(job, Closing::StringZero) else { return job.to_vec() };
+    let Ok(read) = Job::read_as(job, Landed::F4) else { return job.to_vec() };
     let (start, proposal) = job.split_at(read.program_end);
     [start, &damage(random, proposal, &[0x40, 0x41, 0x42, 0x43, 0x44, 0x45, 0x46, 0x47, 0x48])].concat()
 }
@@ -116,6 +121,7 @@ impl Parts {
             Much::Blank if random.percent(40) => blank_jobs::parts(random),
             Much::Frames if random.percent(85) => frame_jobs::parts(random),
             Much::Absent if random.percent(92) => absent_jobs::parts(random),
+            Much::Kinds => kind_jobs::parts(random),
             _ => any_parts(random),
         };
         Parts { much, draft, templates: much.scatter(random, &templates), program }
@@ -128,12 +134,12 @@ impl Parts {
     /// The whole job. Where its start doesn't read, the proposal is empty.
     fn with_proposal(&self, random: &mut Random) -> Vec<u8> {
         let start = self.start();
-        let Ok(mut job) = Job::read_as(&[&start[..], &[0x4F]].concat(), Closing::StringZero) else {
+        let Ok(mut job) = Job::read_as(&[&start[..], &[0x4F]].concat(), Landed::F4) else {
             return [&start[..], &[0x4F]].concat();
         };
         if random.percent(30) {
             match self.much {
-                Much::Absent => absent_jobs::enlarge(random, &mut job),
+                Much::Absent | Much::Kinds => absent_jobs::enlarge(random, &mut job),
                 _ => enlarge(random, &mut job),
             }
         }
@@ -150,7 +156,7 @@ impl Parts {
             for clause in [formula, negation] {
                 self.draft.rules[index].clauses.push(clause);
                 let start = self.start();
-                if with_least(&start, &[]).is_some_and(|job| check_as(&job, self.much.closing()) == ACCEPTED) {
+                if with_least(&start, &[]).is_some_and(|job| check_as(&job, self.much.landed()) == ACCEPTED) {
                     break;
                 }
                 self.draft.rules[index].clauses.pop();

@@ -3,6 +3,7 @@
 use crate::blank::misplace;
 use crate::damage::{any_command, damage};
 use crate::judge::{judge, judge_as};
+use crate::kind_pages;
 use crate::making::Much;
 use crate::random::Random;
 use crate::random_vocabulary::*;
@@ -30,20 +31,25 @@ pub fn record(random: &mut Random, much: Much) -> Record {
     if random.percent(1) {
         return bytes(random, much);
     }
-    let more = |number: u32| if much == Much::Absent && number == TOO_MANY_FACTS { 6 } else { 0 };
-    let (number, _) = AIMS[random.weighted(&AIMS.map(|(number, weight)| weight + more(number)))];
+    let number = much.aim(random, &AIMS);
+    let mixed = much == Much::Kinds && number > NOT_THE_ROOT && random.percent(90);
     let mut tries = 0;
     loop {
         let record = attempt(random, much, number);
         tries += 1;
+        let fits = judge_as(&record.vocabulary, &record.page, much.landed())[0] == number
+            && (!mixed || kind_pages::is_mixed(&record));
         // An aim that is missed for long is given up, so that every seed comes to an end.
-        if judge_as(&record.vocabulary, &record.page, much.closing())[0] == number || tries == 500 {
+        if fits || tries == 500 {
             return record;
         }
     }
 }
 
 fn attempt(random: &mut Random, much: Much, number: u32) -> Record {
+    if much == Much::Kinds {
+        return kind_pages::attempt(random, number == NOT_THE_ROOT);
+    }
     let (draft, page) = right(random, much);
     match number {
         0 => Record { vocabulary: draft.bytes(), page },
@@ -127,7 +133,7 @@ fn add_clause(random: &mut Random, much: Much, draft: &mut Draft, page: &[u8]) {
     let negation = [vec![0x12], formula.clone()].concat();
     for clause in [formula, negation] {
         draft.rules[index].clauses.push(clause);
-        if judge_as(&draft.bytes(), page, much.closing()) == ACCEPTED {
+        if judge_as(&draft.bytes(), page, much.landed()) == ACCEPTED {
             return;
         }
         draft.rules[index].clauses.pop();

@@ -53,7 +53,7 @@ pub fn whole(random: &mut Random, much: Much) -> [Vec<u8>; 3] {
         let clause = much.formula(random, &draft.rules[index]);
         draft.rules[index].clauses.push(clause);
         // It may have too many facts.
-        if Vocabulary::read_whole(&draft.bytes(), much.closing()).is_err() {
+        if Vocabulary::read_whole(&draft.bytes(), much.landed()).is_err() {
             draft.rules[index].clauses.pop();
         }
     }

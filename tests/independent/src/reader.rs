@@ -16,8 +16,11 @@ pub const NOT_THERE: u32 = 8;
 pub const START: u32 = 9;
 pub const STEP: u32 = 10;
 pub const NOT_THE_ROOT: u32 = 11;
-pub const WRONG_ELEMENT: u32 = 12;
+/// Before F-6 whatever is wrong with an element.
+pub const WRONG_ATTRIBUTE: u32 = 12;
 pub const NO_ROOM: u32 = 13;
+pub const WRONG_CONTENT: u32 = 14;
+pub const WRONG_CLAUSE: u32 = 15;
 
 /// Most bytes of a job, a vocabulary or a page.
 pub const LONGEST: usize = 65_535;

@@ -1,10 +1,10 @@
 //! Records: slices one after another, each behind a 32-bit length, lowest byte first.
 
-use crate::closing::Closing;
 use crate::damage::commands;
 use crate::infer::{infer_as, WORK};
 use crate::job::Job;
 use crate::judge::is_right;
+use crate::landed::Landed;
 use crate::reader::{Verdict, ACCEPTED, NO_ROOM};
 use crate::run::{Choice, Run};
 use std::fmt::Write as _;
@@ -64,51 +64,51 @@ fn print(out: &mut impl Write, [n, a, b, c]: Verdict) -> io::Result<()> {
 }
 
 /// Prints the verdict on each job of standard input.
-pub fn print_jobs(verdict: fn(&[u8], Closing) -> Verdict) -> io::Result<()> {
-    let closing = Closing::from_arguments();
+pub fn print_jobs(verdict: fn(&[u8], Landed) -> Verdict) -> io::Result<()> {
+    let landed = Landed::from_arguments();
     let mut records = Records::from_stdin()?;
     let mut out = BufWriter::new(io::stdout().lock());
     while let Some(job) = records.slice() {
-        print(&mut out, verdict(job, closing))?;
+        print(&mut out, verdict(job, landed))?;
     }
     out.flush()
 }
 
 /// Prints the verdict on each vocabulary and page of standard input.
-pub fn print_pages(verdict: fn(&[u8], &[u8], Closing) -> Verdict) -> io::Result<()> {
-    let closing = Closing::from_arguments();
+pub fn print_pages(verdict: fn(&[u8], &[u8], Landed) -> Verdict) -> io::Result<()> {
+    let landed = Landed::from_arguments();
     let mut records = Records::from_stdin()?;
     let mut out = BufWriter::new(io::stdout().lock());
     while let Some((vocabulary, page)) = records.two_slices() {
-        print(&mut out, verdict(vocabulary, page, closing))?;
+        print(&mut out, verdict(vocabulary, page, landed))?;
     }
     out.flush()
 }
 
 /// What a call of `infer` needs besides the job. The buffer grows as answers need.
 pub struct Lent {
-    closing: Closing,
+    landed: Landed,
     work: Vec<u64>,
     buffer: Vec<u8>,
 }
 
 impl Default for Lent {
     fn default() -> Lent {
-        Lent::of(Closing::Absence)
+        Lent::of(Landed::NOW)
     }
 }
 
 impl Lent {
-    pub fn of(closing: Closing) -> Lent {
-        Lent { closing, work: vec![0; WORK], buffer: Vec::new() }
+    pub fn of(landed: Landed) -> Lent {
+        Lent { landed, work: vec![0; WORK], buffer: Vec::new() }
     }
 
     /// The proposal, or the refusal.
     pub fn infer(&mut self, job: &[u8]) -> Result<&[u8], Verdict> {
-        let mut answer = infer_as(job, self.closing, &mut self.work, &mut self.buffer, 0);
+        let mut answer = infer_as(job, self.landed, &mut self.work, &mut self.buffer, 0);
         if answer.verdict[0] == NO_ROOM {
             self.buffer.resize(answer.verdict[1] as usize, 0);
-            answer = infer_as(job, self.closing, &mut self.work, &mut self.buffer, 0);
+            answer = infer_as(job, self.landed, &mut self.work, &mut self.buffer, 0);
         }
         match answer.verdict {
             ACCEPTED => Ok(&self.buffer[..answer.written]),
@@ -134,7 +134,7 @@ impl Lent {
 pub fn print_inferred() -> io::Result<()> {
     let mut records = Records::from_stdin()?;
     let mut out = BufWriter::new(io::stdout().lock());
-    let mut lent = Lent::of(Closing::from_arguments());
+    let mut lent = Lent::of(Landed::from_arguments());
     while let Some(job) = records.slice() {
         out.write_all(lent.line(job).as_bytes())?;
     }
@@ -158,11 +158,11 @@ pub fn refused_at(commands: &[u8], records: &mut Records, slices: usize, lines: 
 
 /// Prints a line on each job and list of choices of standard input.
 pub fn print_runs() -> io::Result<()> {
-    let closing = Closing::from_arguments();
+    let landed = Landed::from_arguments();
     let mut records = Records::from_stdin()?;
     let mut out = BufWriter::new(io::stdout().lock());
     while let Some((job, choices)) = records.two_slices() {
-        out.write_all(run_line(job, choices, closing).as_bytes())?;
+        out.write_all(run_line(job, choices, landed).as_bytes())?;
     }
     out.flush()
 }
@@ -181,8 +181,8 @@ fn is_big(value: &[u8]) -> bool {
 
 /// `shown COUNT` and for each page `R` if it is right, `W` if it is wrong; `big` where a value outgrows that; `N A B C`
 /// for a job that doesn't read. A choice is two bytes: the next point, and the string.
-fn run_line(bytes: &[u8], choices: &[u8], closing: Closing) -> String {
-    let job = match Job::read_as(bytes, closing) {
+fn run_line(bytes: &[u8], choices: &[u8], landed: Landed) -> String {
+    let job = match Job::read_as(bytes, landed) {
         Ok(job) => job,
         Err(fault) => return line(fault.verdict(0)),
     };

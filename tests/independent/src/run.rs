@@ -1,9 +1,9 @@
 //! Runs: the statements of a job over a list of choices, and the pages shown. Values are items as in a template's
 //! bytes, with `28` for a string outside 0-63.
 
-use crate::closing::Closing;
 use crate::damage::operands;
 use crate::job::Job;
+use crate::landed::Landed;
 use crate::program::Statement;
 use crate::random::Random;
 
@@ -55,10 +55,10 @@ impl<'a> Run<'a> {
                     _ => None,
                 });
             }
-            Statement::Show(x) => self.pages.push(page(&self.values[x as usize], self.job.closing)),
+            Statement::Show(x) => self.pages.push(page(&self.values[x as usize], self.job.landed)),
             Statement::Framed(x, template, gap) => {
                 let framed = plug(self.template(template), gap, &self.values[x as usize]);
-                self.pages.push(page(&framed, self.job.closing));
+                self.pages.push(page(&framed, self.job.landed));
             }
             Statement::Stop => return,
         }
@@ -88,10 +88,10 @@ fn attribute_with(attribute: u8, string: u8) -> Vec<u8> {
 }
 
 /// What is shown: nothing in each open gap, no attribute where its gap is open.
-fn page(items: &[u8], closing: Closing) -> Vec<u8> {
+fn page(items: &[u8], landed: Landed) -> Vec<u8> {
     let mut page = replace(items, |command| match command {
         [0x22, _] => Some(Vec::new()),
-        [0x25, attribute, _] if closing == Closing::StringZero => Some(attribute_with(*attribute, 0)),
+        [0x25, attribute, _] if landed == Landed::F4 => Some(attribute_with(*attribute, 0)),
         [0x25, ..] => Some(Vec::new()),
         _ => None,
     });

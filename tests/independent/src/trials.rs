@@ -3,10 +3,10 @@
 
 use crate::apart;
 use crate::check::{check_as, shows};
-use crate::closing::Closing;
 use crate::exhaustive;
 use crate::job::Job;
 use crate::judge::is_right;
+use crate::landed::Landed;
 use crate::making::Making;
 use crate::random::Random;
 use crate::reader::ACCEPTED;
@@ -27,17 +27,17 @@ pub struct Trials {
 impl Trials {
     /// Records chosen by older verdicts are tried out by those too, since the choices that follow hang on it.
     pub fn of_job(&mut self, making: &mut Making, job: &[u8]) {
-        if making.much.closing() == Closing::StringZero {
-            Trials::default().of_closing(&mut making.random, job, Closing::StringZero);
+        if making.much.landed() == Landed::F4 {
+            Trials::default().of_answers(&mut making.random, job, Landed::F4);
         }
-        self.of_closing(&mut making.trials, job, Closing::Absence);
+        self.of_answers(&mut making.trials, job, Landed::NOW);
         self.of_languages(job);
     }
 
-    fn of_closing(&mut self, random: &mut Random, bytes: &[u8], closing: Closing) {
-        self.apart += apart::assert_alike(random, bytes, closing);
-        if check_as(bytes, closing) == ACCEPTED {
-            self.shown += (0..8).map(|_| run(random, bytes, closing)).sum::<usize>();
+    fn of_answers(&mut self, random: &mut Random, bytes: &[u8], landed: Landed) {
+        self.apart += apart::assert_alike(random, bytes, landed);
+        if check_as(bytes, landed) == ACCEPTED {
+            self.shown += (0..8).map(|_| run(random, bytes, landed)).sum::<usize>();
         }
     }
 
@@ -63,8 +63,8 @@ impl fmt::Display for Trials {
 }
 
 /// Runs over choices at random; panics at a page that is not right. Tells how many pages were shown.
-fn run(random: &mut Random, bytes: &[u8], closing: Closing) -> usize {
-    let job = Job::read_as(bytes, closing).unwrap_or_else(|_| unreachable!());
+fn run(random: &mut Random, bytes: &[u8], landed: Landed) -> usize {
+    let job = Job::read_as(bytes, landed).unwrap_or_else(|_| unreachable!());
     let mut run = Run::new(&job, bytes);
     for _ in 0..60 {
         // Values that double at each step would fill the memory.

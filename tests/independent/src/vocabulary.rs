@@ -1,6 +1,6 @@
 //! Reading a vocabulary: one rule for an element, clauses as formulas in prefix order.
 
-use crate::closing::Closing;
+use crate::landed::Landed;
 use crate::reader::*;
 
 pub const ATTRIBUTES: u8 = 32;
@@ -30,11 +30,13 @@ pub struct Rule {
     /// The clauses are the nodes from `from` to before `to`.
     pub from: u32,
     pub to: u32,
+    pub clauses: u32,
     pub has_order: bool,
     pub has_value: bool,
 }
 
-const NO_RULE: Rule = Rule { attributes: 0, contents: 0, from: 0, to: 0, has_order: false, has_value: false };
+const NO_RULE: Rule =
+    Rule { attributes: 0, contents: 0, from: 0, to: 0, clauses: 0, has_order: false, has_value: false };
 
 pub struct Vocabulary {
     pub rules: [Rule; 64],
@@ -50,14 +52,14 @@ impl Vocabulary {
     }
 
     /// A vocabulary that stands alone.
-    pub fn read_whole(bytes: &[u8], closing: Closing) -> Result<Vocabulary, Fault> {
+    pub fn read_whole(bytes: &[u8], landed: Landed) -> Result<Vocabulary, Fault> {
         let mut reader = Reader::new(bytes)?;
-        let vocabulary = Vocabulary::read(&mut reader, closing)?;
+        let vocabulary = Vocabulary::read(&mut reader, landed)?;
         reader.end()?;
         Ok(vocabulary)
     }
 
-    pub fn read(reader: &mut Reader, closing: Closing) -> Result<Vocabulary, Fault> {
+    pub fn read(reader: &mut Reader, landed: Landed) -> Result<Vocabulary, Fault> {
         let mut vocabulary = Vocabulary { rules: [NO_RULE; 64], given: 0, root: 0, nodes: Vec::with_capacity(32) };
         let mut stage = Stage::NoRule;
         let mut element = 0;
@@ -92,7 +94,7 @@ impl Vocabulary {
                     stage = Stage::Contents;
                 }
                 0x04 if stage != Stage::NoRule => {
-                    vocabulary.clause(reader, element, closing)?;
+                    vocabulary.clause(reader, element, landed)?;
                     stage = Stage::Clauses;
                 }
                 0x05 => {
@@ -125,17 +127,18 @@ impl Vocabulary {
         Ok(element as usize)
     }
 
-    fn clause(&mut self, reader: &mut Reader, element: usize, closing: Closing) -> Result<(), Fault> {
+    fn clause(&mut self, reader: &mut Reader, element: usize, landed: Landed) -> Result<(), Fault> {
         let at = reader.at;
         reader.operands::<0>()?;
         self.nodes.push(Node::Clause);
         let mut facts = Facts::new();
         self.formula(reader, 0, &mut facts)?;
-        if facts.count(closing) > FACTS {
+        if facts.count(landed) > FACTS {
             return Err(Fault::new(TOO_MANY_FACTS, at));
         }
         let rule = &mut self.rules[element];
         rule.to = self.nodes.len() as u32;
+        rule.clauses += 1;
         rule.has_order |= facts.orders > 0;
         rule.has_value |= facts.values > 0;
         Ok(())
@@ -245,10 +248,10 @@ impl Facts {
         }
     }
 
-    fn count(&self, closing: Closing) -> u32 {
-        let attributes = match closing {
-            Closing::StringZero => 0,
-            Closing::Absence => self.attributes.count_ones(),
+    fn count(&self, landed: Landed) -> u32 {
+        let attributes = match landed {
+            Landed::F4 => 0,
+            _ => self.attributes.count_ones(),
         };
         attributes + self.contents.count_ones() + self.orders as u32 + self.values as u32
     }

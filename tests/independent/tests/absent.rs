@@ -1,9 +1,9 @@
 //! Request F-5: an attribute gap still open at a show takes its whole attribute away.
 
 use independent::check::shows;
-use independent::closing::Closing;
 use independent::damage::commands;
 use independent::job::Job;
+use independent::landed::Landed;
 use independent::language::closed;
 use independent::least::with_least;
 use independent::making::Much;
@@ -56,36 +56,36 @@ fn string_0_comes_only_where_it_is_held() {
     }
     // With string 5, or absent.
     assert_eq!(verdict(ONLY_5, open, EITHER), [0, 0, 0, 0]);
-    assert_eq!(verdict(ONLY_6, open, EITHER)[..2], [12, 3]);
-    assert_eq!(verdict(ONLY_0, open, EITHER)[..2], [12, 3]);
+    assert_eq!(verdict(ONLY_6, open, EITHER)[..3], [15, 3, 0]);
+    assert_eq!(verdict(ONLY_0, open, EITHER)[..3], [15, 3, 0]);
     // A string variable that no statement has set holds string 0.
     let plugs_0 = "31 00 01 01 01 36 00 00 00 03 02 02 37 00 03 03 38";
     assert_eq!(verdict(ONLY_0, open, plugs_0), [0, 0, 0, 0]);
-    assert_eq!(verdict(ONLY_5, open, plugs_0)[..2], [12, 2]);
+    assert_eq!(verdict(ONLY_5, open, plugs_0)[..3], [15, 2, 0]);
     // The proposal holds string 0 beside absence.
     let start = start(ONLY_5, &[open], OPEN);
     assert_eq!(holding("40 01 00 43 01 00 05", &start), [0, 0, 0, 0]);
-    assert_eq!(holding("40 01 00 43 01 00 00", &start), [12, 1, 1, 26]);
-    assert_eq!(holding("40 01 00 44 01 00", &start), [12, 1, 1, 26]);
+    assert_eq!(holding("40 01 00 43 01 00 00", &start), [15, 1, 0, 26]);
+    assert_eq!(holding("40 01 00 44 01 00", &start), [15, 1, 0, 26]);
 }
 
 #[test]
 fn presence_is_a_fact() {
     let open = "23 01 25 00 00 26";
     for (clause, when_open, when_plugged, when_either) in [
-        ("14 00", 12, 0, 12),
-        ("12 14 00", 0, 12, 12),
+        ("14 00", 15, 0, 15),
+        ("12 14 00", 0, 15, 15),
         ("11 14 00 12 14 00", 0, 0, 0),
         // Absence makes every set test true.
         (&format!("11 14 00 {ONLY_6}"), 0, 0, 0),
         (&format!("11 12 14 00 {ONLY_5}"), 0, 0, 0),
-        (&format!("10 {ONLY_5} {ONLY_6}"), 0, 12, 12),
+        (&format!("10 {ONLY_5} {ONLY_6}"), 0, 15, 15),
         (&format!("11 10 14 00 12 {ONLY_6} 10 12 14 00 {ONLY_6}"), 0, 0, 0),
-        (&format!("10 14 00 {ONLY_5}"), 12, 0, 12),
+        (&format!("10 14 00 {ONLY_5}"), 15, 0, 15),
         (&format!("12 10 14 00 {ONLY_6}"), 0, 0, 0),
         // Another attribute stays absent.
-        ("14 01", 12, 12, 12),
-        ("11 12 14 00 14 01", 0, 12, 12),
+        ("14 01", 15, 15, 15),
+        ("11 12 14 00 14 01", 0, 15, 15),
     ] {
         let numbers = [OPEN, PLUGGED, EITHER].map(|program| verdict(clause, open, program)[0]);
         assert_eq!(numbers, [when_open, when_plugged, when_either], "{clause}");
@@ -101,9 +101,9 @@ fn presence_and_contents() {
     for (clause, number) in [
         ("11 14 00 12 14 00", 0),
         ("11 15 00 12 15 00", 0),
-        ("11 14 00 15 00", 12),
-        ("11 14 00 12 15 00", 12),
-        ("11 12 14 00 12 15 00", 12),
+        ("11 14 00 15 00", 15),
+        ("11 14 00 12 15 00", 15),
+        ("11 12 14 00 12 15 00", 15),
         (&format!("11 10 14 00 {ONLY_0} 12 14 00"), 0),
         ("16 00 00", 0),
     ] {
@@ -121,10 +121,10 @@ fn each_attribute_by_itself() {
     // Both open, or both plugged: no page has one alone. Perhaps plugged: one may go without the other.
     assert_eq!(verdict(same, shared, OPEN), [0, 0, 0, 0]);
     assert_eq!(verdict(same, shared, PLUGGED), [0, 0, 0, 0]);
-    assert_eq!(verdict(same, shared, EITHER), [12, 3, 1, 29]);
+    assert_eq!(verdict(same, shared, EITHER), [15, 3, 0, 29]);
     // Each alone, and its negation, is met somewhere.
     for clause in ["10 14 00 14 01", "10 14 00 12 14 01", "10 12 14 00 14 01", "10 12 14 00 12 14 01"] {
-        assert_eq!(verdict(&format!("12 {clause}"), shared, EITHER)[0], 12, "{clause}");
+        assert_eq!(verdict(&format!("12 {clause}"), shared, EITHER)[0], 15, "{clause}");
     }
 }
 
@@ -136,7 +136,7 @@ fn not_allowed() {
     assert_eq!(verdict("13", open, PLUGGED), [12, 3, 1, 17]);
     assert_eq!(verdict("13", open, EITHER), [12, 3, 1, 17]);
     assert_eq!(verdict("12 14 02", open, OPEN), [0, 0, 0, 0]);
-    assert_eq!(verdict("14 02", open, OPEN), [12, 1, 1, 18]);
+    assert_eq!(verdict("14 02", open, OPEN), [15, 1, 0, 18]);
     assert_eq!(verdict("13", "23 01 24 02 00 26", OPEN), [12, 1, 1, 17]);
     // Of two on one gap one is allowed.
     assert_eq!(verdict("13", "23 01 25 00 00 25 02 00 26", OPEN), [0, 0, 0, 0]);
@@ -173,8 +173,8 @@ fn framed_shows() {
         ("13", [0, 0, 0, 0]),
         ("10 12 14 00 15 02", [0, 0, 0, 0]),
         (ONLY_6, [0, 0, 0, 0]),
-        ("14 00", [12, 1, 1, 18]),
-        ("10 14 00 14 00", [12, 1, 1, 21]),
+        ("14 00", [15, 1, 0, 18]),
+        ("10 14 00 14 00", [15, 1, 0, 21]),
     ] {
         assert_eq!(holding("", &start(clause, &templates, program)), expected, "{clause}");
     }
@@ -263,7 +263,7 @@ fn eight_facts_together() {
         some[index] = text(fact);
         let number = verdict(&conjunction(&some), template, EITHER)[0];
         // String 5 passes its set, and no second text comes.
-        assert_eq!(number, if [2, 4, 7].contains(&index) { 0 } else { 12 }, "{fact:02X?}");
+        assert_eq!(number, if [2, 4, 7].contains(&index) { 0 } else { 15 }, "{fact:02X?}");
     }
 }
 
@@ -271,7 +271,7 @@ fn eight_facts_together() {
 #[test]
 fn proposals_are_the_same() {
     let mut random = Random::new(41);
-    let (mut now, mut before) = (Lent::default(), Lent::of(Closing::StringZero));
+    let (mut now, mut before) = (Lent::default(), Lent::of(Landed::F4));
     let mut moved = 0;
     for _ in 0..3000 {
         let script = script(&mut random, Much::Absent);
@@ -333,7 +333,7 @@ impl Met {
             }
         }
         let passed = number == 0;
-        if !passed && number != 12 {
+        if !passed && number < 12 {
             return;
         }
         let [mixed, eight] = clauses(&job.vocabulary);
@@ -417,7 +417,8 @@ fn made_jobs_have_absence_of_every_kind() {
         let verdict = check(&job);
         trials.of_languages(&job);
         met.note(&job, verdict[0]);
-        numbers[verdict[0] as usize] += 1;
+        // Whatever is wrong with an element.
+        numbers[verdict[0].min(12) as usize] += 1;
     }
     println!("{met:?}, verdicts {numbers:?}\n{trials}");
     assert!(met.least() > 20);
@@ -432,9 +433,9 @@ fn made_pages_ask_for_attributes() {
     let [mut mixed, mut eight, mut nine] = [[0; 2]; 3];
     for _ in 0..4000 {
         let record = random_pages::record(&mut random, Much::Absent);
-        let number = record.verdict()[0];
+        let number = record.verdict()[0].min(12);
         numbers[number as usize] += 1;
-        let Ok(vocabulary) = Vocabulary::read_whole(&record.vocabulary, Closing::StringZero) else { continue };
+        let Ok(vocabulary) = Vocabulary::read_whole(&record.vocabulary, Landed::F4) else { continue };
         if number == 7 {
             let one_more = vocabulary.nodes.split(|node| *node == Node::Clause).any(|clause| facts(clause) == 9);
             nine[0] += one_more as usize;
@@ -457,8 +458,7 @@ fn other_words_keep_their_records() {
     for (much, moved_at_least) in [(Much::Nothing, 10), (Much::Frames, 10)] {
         let mut random = Random::new(44);
         let jobs: Vec<_> = (0..600).map(|_| random_jobs::job(&mut random, much)).collect();
-        let moved =
-            jobs.iter().filter(|job| check(job) != independent::check::check_as(job, Closing::StringZero)).count();
+        let moved = jobs.iter().filter(|job| check(job) != independent::check::check_as(job, Landed::F4)).count();
         println!("{moved} of 600 jobs have another verdict by F-5");
         assert!(moved >= moved_at_least);
     }

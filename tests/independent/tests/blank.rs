@@ -23,22 +23,22 @@ fn page(clause: &str, page: &str) -> [u32; 4] {
 fn no_content_of_an_element() {
     // Text may not stand in element 2, blank text may.
     assert_eq!(page("13", "23 01 23 02 29 29 26 26 27"), [0, 0, 0, 0]);
-    assert_eq!(page("13", "23 01 23 02 29 21 26 26 27"), [12, 0, 0, 2]);
+    assert_eq!(page("13", "23 01 23 02 29 21 26 26 27"), [14, 0, 0, 2]);
     // Text there, and not there.
-    assert_eq!(page("15 00", "23 01 29 26 27"), [12, 0, 0, 0]);
+    assert_eq!(page("15 00", "23 01 29 26 27"), [15, 0, 0, 0]);
     assert_eq!(page("12 15 00", "23 01 29 26 27"), [0, 0, 0, 0]);
     // At most one text: blank text does not join two, nor count as one.
-    assert_eq!(page("16 00 00", "23 01 21 29 21 26 27"), [12, 0, 0, 0]);
+    assert_eq!(page("16 00 00", "23 01 21 29 21 26 27"), [15, 0, 0, 0]);
     assert_eq!(page("16 00 00", "23 01 29 21 29 29 26 27"), [0, 0, 0, 0]);
     // No text before an element 2.
     assert_eq!(page("16 02 00", "23 01 29 23 02 26 29 21 26 27"), [0, 0, 0, 0]);
-    assert_eq!(page("16 02 00", "23 01 21 29 23 02 26 26 27"), [12, 0, 0, 0]);
+    assert_eq!(page("16 02 00", "23 01 21 29 23 02 26 26 27"), [15, 0, 0, 0]);
 }
 
 #[test]
 fn nothing_beside_the_root() {
     assert_eq!(page("13", "29 23 01 26 29 29 27"), [0, 0, 0, 0]);
-    assert_eq!(page("15 00", "29 23 01 26 29 27"), [12, 0, 0, 1]);
+    assert_eq!(page("15 00", "29 23 01 26 29 27"), [15, 0, 0, 1]);
     for wrong in ["29 27", "29 29 29 27", "27", "29 21 27", "29 23 02 26 27", "23 01 26 29 23 01 26 27"] {
         assert_eq!(page("13", wrong), [11, 0, 0, 0], "{wrong}");
     }
@@ -73,14 +73,14 @@ fn templates() {
     let empty = "12 15 00";
     // In an element that must be empty, and beside the root.
     assert_eq!(job(empty, "23 01 22 00 26", "29 29"), [0, 0, 0, 0]);
-    assert_eq!(job(empty, "23 01 29 22 00 29 26", "29 21"), [12, 3, 1, 11]);
-    assert_eq!(job("15 00", "29 23 01 22 00 26", "29"), [12, 3, 1, 11]);
+    assert_eq!(job(empty, "23 01 29 22 00 29 26", "29 21"), [15, 3, 0, 11]);
+    assert_eq!(job("15 00", "29 23 01 22 00 26", "29"), [15, 3, 0, 11]);
     assert_eq!(job(empty, "22 00 29 23 01 26 29 22 00", "29"), [0, 0, 0, 0]);
     assert_eq!(job(empty, "22 00 29 23 01 26 29 22 00", "29 21"), [11, 3, 1, 0]);
     assert_eq!(job(empty, "29", "29"), [11, 3, 1, 0]);
     assert_eq!(job(empty, "22 00", "29 23 01 29 26 29"), [0, 0, 0, 0]);
     // Blank text does not join two texts.
-    assert_eq!(job("16 00 00", "23 01 22 00 29 22 00 26", "29 21 29"), [12, 3, 1, 11]);
+    assert_eq!(job("16 00 00", "23 01 22 00 29 22 00 26", "29 21 29"), [15, 3, 0, 11]);
     // It ends the attributes.
     assert_eq!(job("13", "23 01 29 24 00 00 26", ""), [3, 12, 0, 0]);
     assert_eq!(job("13", "23 01 24 00 00 29 25 01 00 26", ""), [3, 15, 0, 0]);
@@ -196,7 +196,7 @@ fn made_records_have_it_everywhere() {
 #[derive(Default)]
 struct Seen {
     places: [usize; 8],
-    /// Records with blank text, by verdict number.
+    /// Records with blank text, by verdict number: 12 whatever is wrong with an element.
     numbers: [usize; 13],
 }
 
@@ -205,6 +205,6 @@ impl Seen {
         let met = places(bytes);
         self.places.iter_mut().zip(met).for_each(|(count, met)| *count += met as usize);
         let blank = commands(bytes).iter().any(|command| command[0] == 0x29);
-        self.numbers[verdict[0] as usize] += blank as usize;
+        self.numbers[verdict[0].min(12) as usize] += blank as usize;
     }
 }

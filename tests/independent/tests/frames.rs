@@ -2,9 +2,9 @@
 
 use independent::apart;
 use independent::check::shows;
-use independent::closing::Closing;
 use independent::damage::commands;
 use independent::job::Job;
+use independent::landed::Landed;
 use independent::least::with_least;
 use independent::making::Much;
 use independent::program::Statement;
@@ -109,14 +109,14 @@ fn the_frame_takes_the_value() {
     // At most one element 2, and one at least.
     let clause = "10 16 02 02 15 02";
     assert_eq!(verdict(clause, &["23 01 22 00 26", "23 02 21 26"], FRAMED), [0, 0, 0, 0]);
-    assert_eq!(verdict(clause, &["23 01 22 00 22 00 26", "23 02 21 26"], FRAMED), [12, 1, 1, 24]);
-    assert_eq!(verdict(clause, &["23 01 22 00 26", "23 02 23 02 26 26"], FRAMED), [12, 1, 2, 31]);
+    assert_eq!(verdict(clause, &["23 01 22 00 22 00 26", "23 02 21 26"], FRAMED), [15, 1, 0, 24]);
+    assert_eq!(verdict(clause, &["23 01 22 00 26", "23 02 23 02 26 26"], FRAMED), [14, 1, 2, 31]);
     // Any depth, and both the frame and the value.
     let nested = "23 01 23 01 22 00 26 23 02 26 26";
     assert_eq!(verdict(clause, &[nested, "23 02 21 26"], FRAMED), [0, 0, 0, 0]);
-    assert_eq!(verdict(clause, &[nested, "21"], FRAMED), [12, 1, 1, 26]);
+    assert_eq!(verdict(clause, &[nested, "21"], FRAMED), [15, 1, 0, 26]);
     // A gap of another number gets nothing.
-    assert_eq!(verdict(clause, &["23 01 22 01 26", "23 02 21 26"], FRAMED), [12, 1, 1, 24]);
+    assert_eq!(verdict(clause, &["23 01 22 01 26", "23 02 21 26"], FRAMED), [15, 1, 0, 24]);
     assert_eq!(verdict("13", &["23 01 22 01 22 00 26", "23 02 22 01 26"], FRAMED), [0, 0, 0, 0]);
 }
 
@@ -127,14 +127,14 @@ fn gaps_of_the_value_are_closed() {
     for value in ["22 00 23 02 22 00 26", "23 02 26 22 01", "22 00 23 02 22 01 26"] {
         assert_eq!(verdict(clause, &["23 01 22 00 26", value], FRAMED), [0, 0, 0, 0], "{value}");
     }
-    assert_eq!(verdict(clause, &["23 01 22 00 26", "22 00"], FRAMED), [12, 1, 1, 24]);
+    assert_eq!(verdict(clause, &["23 01 22 00 26", "22 00"], FRAMED), [15, 1, 0, 24]);
     // Attributes of the frame and of the value go where their gaps are open.
     let templates = ["23 01 25 00 00 22 00 26", "23 01 25 00 03 26"];
     for clause in ["17 00 00 00 00 00 00 00 00 01", "17 00 00 00 00 00 00 00 00 02", "12 14 00"] {
         assert_eq!(verdict(clause, &templates, FRAMED), [0, 0, 0, 0]);
     }
-    assert_eq!(verdict("14 00", &templates, FRAMED), [12, 1, 1, 20]);
-    assert_eq!(verdict("14 00", &["23 01 24 00 01 22 00 26", templates[1]], FRAMED), [12, 1, 2, 30]);
+    assert_eq!(verdict("14 00", &templates, FRAMED), [15, 1, 0, 20]);
+    assert_eq!(verdict("14 00", &["23 01 24 00 01 22 00 26", templates[1]], FRAMED), [15, 1, 0, 30]);
 }
 
 #[test]
@@ -151,7 +151,7 @@ fn not_exactly_the_root() {
     // 11 before 12, and the lowest show first.
     assert_eq!(verdict("15 02", &["22 00", "23 01 26 21"], FRAMED), [11, 1, 1, 0]);
     let two = "39 00 02 00 01 01 39 00 01 00 02 02 38";
-    assert_eq!(verdict("15 02", &["21", "23 01 26"], two), [12, 0, 2, 23]);
+    assert_eq!(verdict("15 02", &["21", "23 01 26"], two), [15, 0, 0, 23]);
 }
 
 /// Template 2 has gap 1 plugged with a text, template 3, before it is shown in template 1 or in itself.
@@ -167,7 +167,7 @@ fn a_frame_inside_itself() {
     let page = "23 01 22 00 22 01 26";
     let templates = [page, page, "21"];
     assert_eq!(verdict(clause, &templates, &plugged("01", "00")), [0, 0, 0, 0]);
-    assert_eq!(verdict(clause, &templates, &plugged("02", "00")), [12, 3, 2, 33]);
+    assert_eq!(verdict(clause, &templates, &plugged("02", "00")), [15, 3, 0, 33]);
     // Not so in the run.
     assert_eq!(pages(clause, &templates, &plugged("02", "00")), [bytes("23 01 23 01 21 26 26 27")]);
 }
@@ -179,16 +179,16 @@ fn a_frame_that_lacks_the_gap() {
     let page = "23 01 22 01 26";
     let templates = [page, page, "21"];
     assert_eq!(verdict(clause, &templates, &plugged("01", "00")), [0, 0, 0, 0]);
-    assert_eq!(verdict(clause, &templates, &plugged("02", "00")), [12, 3, 2, 28]);
+    assert_eq!(verdict(clause, &templates, &plugged("02", "00")), [15, 3, 0, 28]);
     assert_eq!(pages(clause, &templates, &plugged("02", "00")), [bytes("23 01 26 27")]);
     // Else it hangs on the frame alone, whatever is wrong in the value.
     assert_eq!(verdict(clause, &["23 01 26", "23 02 23 01 21 26 26"], FRAMED), [0, 0, 0, 0]);
-    assert_eq!(verdict(clause, &["23 01 21 26", "23 02 26"], FRAMED), [12, 1, 1, 21]);
+    assert_eq!(verdict(clause, &["23 01 21 26", "23 02 26"], FRAMED), [15, 1, 0, 21]);
     // Its other gaps are open, as are those that the value brings.
     let origins = "40 01 00 46 00 01";
     let page = start("14 00", &["23 01 25 00 00 26", ""], FRAMED);
-    assert_eq!(holding("40 01 00 43 01 00 01", &page), [12, 1, 1, 20]);
-    assert_eq!(holding(origins, &page), [12, 1, 1, 20]);
+    assert_eq!(holding("40 01 00 43 01 00 01", &page), [15, 1, 0, 20]);
+    assert_eq!(holding(origins, &page), [15, 1, 0, 20]);
 }
 
 #[test]
@@ -250,8 +250,7 @@ fn runs() {
 #[test]
 fn limits_are_alike_taken_apart() {
     let mut random = Random::new(31);
-    let apart: usize =
-        job_limits::all().iter().map(|job| apart::assert_alike(&mut random, job, Closing::Absence)).sum();
+    let apart: usize = job_limits::all().iter().map(|job| apart::assert_alike(&mut random, job, Landed::NOW)).sum();
     println!("{apart} framed shows taken apart");
     assert!(apart > 100);
 }
@@ -272,7 +271,7 @@ struct Met {
     plugged: usize,
     no_root: usize,
     no_root_but_origin: usize,
-    /// Passed, 11, and 12 in the frame and in the value.
+    /// Passed, 11, and a wrong element in the frame and in the value.
     passed: usize,
     not_the_root: usize,
     wrong_frame: usize,
@@ -281,9 +280,9 @@ struct Met {
 }
 
 impl Met {
-    /// A job whose proposal covers.
+    /// A job whose proposal covers. Before F-6 every wrong element is a 12 with its template.
     fn note(&mut self, bytes: &[u8]) {
-        let Ok(job) = &Job::read(bytes) else { unreachable!() };
+        let Ok(job) = &Job::read_as(bytes, Landed::F5) else { unreachable!() };
         let mut count = 0;
         for (point, verdict) in shows(job) {
             let [number, _, wrong, _] = verdict;
@@ -327,7 +326,7 @@ impl Met {
 
 /// The verdict on a show if nothing is held of its variable.
 fn alone(bytes: &[u8], point: usize, x: u8) -> [u32; 4] {
-    let Ok(mut job) = Job::read(bytes) else { unreachable!() };
+    let Ok(mut job) = Job::read_as(bytes, Landed::F5) else { unreachable!() };
     *job.entries.summary_mut(point, x) = Summary::default();
     let verdict = shows(&job).find(|show| show.0 == point).unwrap().1;
     verdict
@@ -347,11 +346,11 @@ fn made_jobs_have_frames_of_every_kind() {
     for _ in 0..4000 {
         let bytes = random_jobs::job(&mut random, Much::Frames);
         let verdict = check(&bytes);
-        apart += apart::assert_alike(&mut random, &bytes, Closing::Absence);
+        apart += apart::assert_alike(&mut random, &bytes, Landed::NOW);
         let reads = read_job(&bytes) == [0; 4];
         let framed = reads && commands(&bytes).iter().any(|command| command[0] == 0x39);
-        numbers[verdict[0] as usize] += (framed || at_a_frame(&bytes, verdict)) as usize;
-        if matches!(verdict[0], 0 | 11 | 12) {
+        numbers[verdict[0].min(12) as usize] += (framed || at_a_frame(&bytes, verdict)) as usize;
+        if verdict[0] == 0 || verdict[0] > 10 {
             met.note(&bytes);
         }
     }

@@ -19,31 +19,36 @@ fn wrong_page(random: &mut Random, job: &Job, bytes: &[u8], point: usize) -> Opt
 
 #[test]
 fn shows_are_judged_as_their_pages() {
-    judged_as_their_pages(7, Much::Nothing);
+    judged_as_their_pages(7, Much::Nothing, JOBS / 4);
 }
 
 #[test]
 fn with_much_blank_text_too() {
-    judged_as_their_pages(8, Much::Blank);
+    judged_as_their_pages(8, Much::Blank, JOBS / 4);
 }
 
 #[test]
 fn with_many_framed_shows_too() {
-    judged_as_their_pages(9, Much::Frames);
+    judged_as_their_pages(9, Much::Frames, JOBS / 4);
 }
 
 #[test]
 fn with_absent_attributes_too() {
-    judged_as_their_pages(10, Much::Absent);
+    judged_as_their_pages(10, Much::Absent, JOBS / 4);
 }
 
-fn judged_as_their_pages(seed: u64, much: Much) {
+#[test]
+fn with_elements_wrong_in_several_ways_too() {
+    judged_as_their_pages(11, Much::Kinds, JOBS / 20);
+}
+
+fn judged_as_their_pages(seed: u64, much: Much, least_accepted: usize) {
     let mut random = Random::new(seed);
     let (mut accepted, mut refused, mut unseen) = (0, 0, 0);
     for _ in 0..JOBS {
         let bytes = random_jobs::job(&mut random, much);
         let verdict = check(&bytes);
-        if !matches!(verdict[0], 0 | 11 | 12) {
+        if (1..11).contains(&verdict[0]) {
             continue;
         }
         let Ok(job) = Job::read(&bytes) else { unreachable!() };
@@ -62,7 +67,7 @@ fn judged_as_their_pages(seed: u64, much: Much) {
         }
     }
     println!("{accepted} shows passed, {refused} refused, of these {unseen} without a wrong page drawn");
-    assert!(accepted > JOBS / 4 && refused > JOBS / 8);
+    assert!(accepted > least_accepted && refused > JOBS / 8);
     // A wrong page may be rare, but not often.
     assert!(unseen * 50 < refused, "{unseen} of {refused}");
 }

@@ -4,11 +4,11 @@ use mathlib.Core.Path.{_≡_}
 use mathlib.Core.List.{List}
 use mathlib.Core.Bool.{Bool, true, false}
 use mathlib.Core.Option.{some}
-use Rattle.verdicts.specs.declared.Fault.the-variants.{WrongElement}
 use Rattle.verdicts.specs.declared.Fault.the-variants as Faults
 use Rattle.verdicts.specs.declared.Refusal.the-variants as Refusals
 use Rattle.verdicts.specs.declared.Verdict.{Verdict}
 use Rattle.verdicts.specs.declared.Verdict.the-variants.{Accepted, Refused}
+use Rattle.verdicts.specs.Printed.{elementFault}
 use Rattle.commands.specs.Reading.{whole}
 use Rattle.vocabularies.specs.declared.Tables as Vocabularies
 use Rattle.vocabularies.specs.Vocabulary.{declared}
@@ -25,11 +25,11 @@ use Rattle.shows.specs.declared.Shown.{Shown}
 use Rattle.shows.specs.declared.Shown.the-variants.{Right, NotRoot, Wrong}
 use Rattle.shows.specs.contracts.Promises.{PointStands, shownAt, TablesOf}
 
--- 11 or 12 at a point, or no refusal.
+-- 11, 12, 14 or 15 at a point, or no refusal.
 abbrev pub faultAt : ℕ → Shown → Verdict
 faultAt p Right = Accepted
 faultAt p (NotRoot t) = Refused (Refusals.Page (Faults.NotRoot p t))
-faultAt p (Wrong t at) = Refused (Refusals.Page (WrongElement p t at))
+faultAt p (Wrong t at b) = Refused (Refusals.Page (elementFault p t at b))
 
 -- What is known where the shows of a job are looked at: it was read from these bytes, and the tables say where its parts stand.
 pub record ReadAt (s : List ℕ) (rules : Vocabularies.Tables) (templates : TemplateTables) (count : ℕ) (starts : List ℕ) (points : ℕ) (places heads : List ℕ) (j : Job) : Type 0 where

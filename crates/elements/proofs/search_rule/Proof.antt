@@ -23,7 +23,7 @@ abbrev μ-loop : tie.MeasureT-loop
 returns : tie.Need-returns Inv-loop μ-loop
 returns c =
     let args = c .before .before .args in
-    rule-nowhere (args .s .now) (args .e) (args .graph .now) (args .starts .now) (args .count) (args .chosen) (args .from) (c .if1 .taken)
+    rule-nowhere (args .s .now) (args .e) (args .graph .now) (args .starts .now) (args .count) (args .chosen) (args .from) 0 (c .if1 .taken)
 
 new-requires : tie.Need-new-requires Inv-loop μ-loop
 new-requires c κs = search needs
@@ -52,7 +52,7 @@ returns-2 c =
     let l = c .before .before .before .loop in
     let past = c .before .before .past in
     ruling-ends _ _ _ _ _ _ _ _ _ _ (l .inv .0)
-    (rule-ends (args .s .now) (args .e) (args .graph .now) (args .starts .now) (args .count) (args .chosen) (l .here .at)
+    (rule-ends (args .s .now) (args .e) (args .graph .now) (args .starts .now) (args .count) (args .chosen) (l .here .at) (l .place)
     (past-other (args .s .now) (l .here .at) 0x04 (past .result) (past .ensures) (c .enum-told .given .1) (λ z. absurd (omega arith))))
 
 read-formula-requires : tie.Need-read-formula-requires Inv-loop μ-loop
@@ -72,7 +72,7 @@ returns-3 c =
     let over = past-over (args .s .now) (l .here .at) 0x04 (past .result) _ (past .ensures) (c .before .before .before .before .begins .given .1) in
     let read = c .before .before .read-formula in
     ruling-ends _ _ _ _ _ _ _ _ _ _ (l .inv .0)
-    (rule-unread (args .s .now) (args .e) (args .graph .now) (args .starts .now) (args .count) (args .chosen) (l .here .at) (c .before .before .before .before .begins .given .0 .0) (over .2)
+    (rule-unread (args .s .now) (args .e) (args .graph .now) (args .starts .now) (args .count) (args .chosen) (l .here .at) (l .place) (c .before .before .before .before .begins .given .0 .0) (over .2)
     (read .result) (read .ensures) _ _ (c .enum-told2 .given .1) (over .1))
 
 facts-of-requires : tie.Need-facts-of-requires Inv-loop μ-loop
@@ -119,8 +119,8 @@ loop-again c =
     let found = c .before .search-clause in (
       ruling-more (args .s .now) (args .e) (args .graph .now) (args .starts .now) (args .count) (args .chosen) (args .from) (l .here .at) (l .place) _ (l .lowest)
           (found .result) (c .lower .result) (c .lower .ensures) (omega (arith, over .2, moves .0)) (l .inv .0)
-          (λ r later. rule-goes (args .s .now) (args .e) (args .graph .now) (args .starts .now) (args .count) (args .chosen) (l .here .at) (c .before .before .before .before .before .before .before .before .before .before .before .before .begins .given .0 .0) (over .2)
-          (read .result) (read .ensures) _ ended (facts .result) (facts .ensures) (scheme .result) (scheme .ensures) (l .place) (over .1) (found .result) (found .ensures) r later),
+          (λ r later. rule-goes (args .s .now) (args .e) (args .graph .now) (args .starts .now) (args .count) (args .chosen) (l .here .at) (l .place) (c .before .before .before .before .before .before .before .before .before .before .before .before .begins .given .0 .0) (over .2)
+          (read .result) (read .ensures) _ ended (facts .result) (facts .ensures) (scheme .result) (scheme .ensures) (over .1) (found .result) (found .ensures) r later),
       λ known. rw (settled .ensures .0) (settled .ensures .1),
     )
 

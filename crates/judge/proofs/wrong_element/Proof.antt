@@ -12,8 +12,12 @@ enum-told c = search needs
 returns : tie.Need-returns
 returns c = rw (c .enum-told .given .1)
 
+element-fault-requires : tie.Need-element-fault-requires
+element-fault-requires c κs = search needs
+
 returns-2 : tie.Need-returns-2
-returns-2 c = rw (c .before .wrong .given .1)
+returns-2 c = rw (c .before .before .wrong .given .1, c .element-fault .ensures)
 
 pub wrong-element-spec : {M : Type 1} → statement M
-wrong-element-spec = tie.close (tie.spec enum-known-wrong enum-told returns returns-2)
+wrong-element-spec =
+    tie.close (tie.spec enum-known-wrong enum-told returns element-fault-requires returns-2)

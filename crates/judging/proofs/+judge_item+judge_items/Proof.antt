@@ -1,7 +1,6 @@
 -- An element's contents are judged, then the element by its rule; a list's items one after the other. The measure is twice the unread
 -- bytes, and one more for a list, which begins with an item at the same offset.
 use Prim.Native.Nat.{ℕ, _<_, _+_, _-_}
-use mathlib.Core.Logic.{_⊎_, inl, inr}
 use native.Mathlib.Omega.{arith}
 use lib.ListN.{length}
 use borrow.Author.Needs.{needs}
@@ -19,7 +18,7 @@ use Rattle.judging.proofs.+judge_item+judge_items.Lts-judge_items as it
 use Rattle.judging.proofs.FirstWrong.of_element.Reads as of-element
 use Rattle.judging.proofs.FirstWrong.or.Reads as or
 use Rattle.judging.proofs.add_content.Reads as add-content
-use Rattle.judging.proofs.is_right.Reads as is-right
+use Rattle.judging.proofs.outcome_of.Reads as outcome-of
 use Rattle.judging.proofs.judge_leaf.Reads as judge-leaf
 use Rattle.judging.proofs.read_attributes.Reads as read-attributes
 use Rattle.judging.proofs.rule_of.Reads as rule-of
@@ -40,7 +39,7 @@ abbrev items-given : ℕ → In 7 items-kinds.ps
 items-given t = and 7 items-kinds.ps (is 7 items-kinds.ps μ-items t) items.Pre
 
 abbrev item-claims : ℕ → item-lts.Claims
-item-claims t = (item-here.Asked, item-here.Learnt, judge-leaf.Asked, judge-leaf.Learnt, read-attributes.Asked, read-attributes.Learnt, and 7 items-kinds.ps (falls 7 items-kinds.ps _<_ μ-items t) items.Pre, items.Post, rule-of.Asked, rule-of.Learnt, is-right.Asked, is-right.Learnt, of-element.Asked, of-element.Learnt)
+item-claims t = (item-here.Asked, item-here.Learnt, judge-leaf.Asked, judge-leaf.Learnt, read-attributes.Asked, read-attributes.Learnt, and 7 items-kinds.ps (falls 7 items-kinds.ps _<_ μ-items t) items.Pre, items.Post, rule-of.Asked, rule-of.Learnt, outcome-of.Asked, outcome-of.Learnt, of-element.Asked, of-element.Learnt)
 
 abbrev items-claims : ℕ → items-lts.Claims
 items-claims t = (item-here.Asked, item-here.Learnt, add-content.Asked, add-content.Learnt, and 6 item-kinds.ps (falls 6 item-kinds.ps _<_ μ-item t) item.Pre, item.Post, or.Asked, or.Learnt)
@@ -81,8 +80,8 @@ module _ (t : ℕ) where
   item-rule-of-requires : item-lts.Need-rule-of-requires (item-claims t) (item-given t) item.Post
   item-rule-of-requires c κs = element-moves _ _ _ (c .before .before .before .before .before .before .before .before .before .item-here .ensures .1) _ _ (c .before .before .before .before .before .before .before .item .given .1) .1
 
-  item-is-right-requires : item-lts.Need-is-right-requires (item-claims t) (item-given t) item.Post
-  item-is-right-requires c κs = c .before .before .before .before .judge-items .ensures .0
+  item-outcome-of-requires : item-lts.Need-outcome-of-requires (item-claims t) (item-given t) item.Post
+  item-outcome-of-requires c κs = c .before .before .before .before .judge-items .ensures .0
 
   item-of-element-requires : item-lts.Need-of-element-requires (item-claims t) (item-given t) item.Post
   item-of-element-requires c κs = search needs
@@ -93,7 +92,7 @@ module _ (t : ℕ) where
       let g = c .before .before .before .before .before .before .before .before .before .before .before .before .before .before .item .given in
       let a = c .before .before .before .before .before .before .before .before .before .before .before .read-attributes in
       let l = c .before .before .before .before .before .before .before .judge-items in
-      let r = c .before .before .is-right in
+      let r = c .before .before .outcome-of in
       let s = c .before .before .before .before .before .before .before .before .before .before .before .before .before .before .before .before .before .before .before .args in (
         r .ensures .1,
         (
@@ -233,7 +232,7 @@ pub +judge-item+judge-items-spec : {M : Type 1} → statement M
     (item-read-attributes-requires t)
     (item-judge-items-requires t)
     (item-rule-of-requires t)
-    (item-is-right-requires t)
+    (item-outcome-of-requires t)
     (item-of-element-requires t)
     (item-returns-2 t))
     λ t. items-lts.spec (items-claims t) (items-given t) items.Post Inv-loop μ-loop

@@ -1,16 +1,19 @@
 -- The judgement of a page, computed: section 6 of source 000 as tests. That it agrees with the relation of `RightPages`, and with
 -- `PageVerdict`, is proved, both ways.
-use Prim.Native.Nat.{ℕ}
+use Prim.Native.Nat.{ℕ, suc}
 use mathlib.Core.List.{List, [], _∷_}
 use mathlib.Core.Bool.{Bool, true, false, cond, not, _&&_, _||_}
 use mathlib.Core.Option.{Option, some, none}
 use lib.Dec.{eqb}
 use Rattle.sets.specs.Sets.{member}
 use Rattle.verdicts.specs.declared.Form.{Form}
-use Rattle.verdicts.specs.declared.Fault.the-variants.{NotRoot, WrongElement}
+use Rattle.verdicts.specs.declared.Breach.{Breach}
+use Rattle.verdicts.specs.declared.Breach.the-variants as Breaches
+use Rattle.verdicts.specs.declared.Fault.the-variants.{NotRoot}
 use Rattle.verdicts.specs.declared.Refusal.the-variants as Refusals
 use Rattle.verdicts.specs.declared.Verdict.{Verdict}
 use Rattle.verdicts.specs.declared.Verdict.the-variants.{Accepted, Refused}
+use Rattle.verdicts.specs.Printed.{elementFault}
 use Rattle.commands.specs.Reading.{Read, whole, refused, unfinished}
 use Rattle.vocabularies.specs.Vocabulary.{Formula, conj, disj, neg, truth, attr, content, order, value, Rule, Vocabulary, ruleOf, isIn}
 use Rattle.vocabularies.specs.VocabularyReading.{vocabularySlice}
@@ -18,6 +21,8 @@ use Rattle.pages.specs.Items.{Value, string, open-gap, Attribute, Item, text, b
 use Rattle.pages.specs.Items as Items
 use Rattle.pages.specs.ItemReading.{pageSlice}
 use Rattle.pages.specs.RightPages.{names, word}
+use Rattle.judging.specs.declared.FirstWrong.{FirstWrong}
+use Rattle.judging.specs.declared.FirstWrong.the-variants.{Nowhere, At}
 
 -- The truth of a formula's atoms, from which the formula's follows.
 pub record Atoms : Type 0 where
@@ -66,37 +71,57 @@ unfolding isIn
 allIn [] allowed = true
 allIn (n ∷ ns) allowed = isIn n allowed && allIn ns allowed
 
-unfoldable pub allTrue : Atoms → List Formula → Bool
-unfolding truthOf
-allTrue A [] = true
-allTrue A (ψ ∷ ψs) = truthOf A ψ && allTrue A ψs
+-- What is broken, if the test tells so; and the first of two.
+abbrev pub brokenIf : Bool → Breach → Option Breach
+brokenIf t b = cond t (some b) none
 
--- An element with these attributes and this word of contents is right under a rule.
-unfoldable pub rightUnder : Rule → List Attribute → List ℕ → Bool
-unfolding allIn allTrue atomsOf
-rightUnder r δ w = allIn (names δ) (r .attributes) && allIn w (r .contents) && allTrue (atomsOf δ w) (r .clauses)
+abbrev pub orFirst : Option Breach → Option Breach → Option Breach
+orFirst (some b) o = some b
+orFirst none o = o
 
-abbrev pub rightBy : Option Rule → List Attribute → List ℕ → Bool
-rightBy none δ w = false
-rightBy (some r) δ w = rightUnder r δ w
+-- The first of the clauses, the places of which count from k, that fails by a test.
+unfoldable pub firstFailing : (Formula → Bool) → ℕ → List Formula → Option Breach
+firstFailing fails k [] = none
+firstFailing fails k (ψ ∷ ψs) = orFirst (brokenIf (fails ψ) (Breaches.Clause k)) (firstFailing fails (suc k) ψs)
 
-abbrev pub orElse : Option ℕ → Option ℕ → Option ℕ
-orElse (some n) m = some n
-orElse none m = m
+-- By these atoms a formula is not true.
+abbrev pub isFalse : Atoms → Formula → Bool
+isFalse A ψ = not (truthOf A ψ)
 
--- The mark of the first wrong element, an element before those in it. Marks rise in that order, so it is the lowest.
+-- What an element with these attributes and this word of contents breaks of a rule: an attribute, else a content, else a clause.
+unfoldable pub breachUnder : Rule → List Attribute → List ℕ → Option Breach
+unfolding allIn firstFailing truthOf atomsOf
+breachUnder r δ w = orFirst
+    (orFirst (brokenIf (not (allIn (names δ) (r .attributes))) Breaches.Attribute) (brokenIf (not (allIn w (r .contents))) Breaches.Content))
+    (firstFailing (isFalse (atomsOf δ w)) 0 (r .clauses))
+
+-- Every element that is read has a rule.
+abbrev pub breachBy : Option Rule → List Attribute → List ℕ → Option Breach
+breachBy none δ w = none
+breachBy (some r) δ w = breachUnder r δ w
+
+-- The first of two parts, one after the other; and that of an element at a mark: itself, or what is wrong inside it.
+abbrev pub orElse : FirstWrong → FirstWrong → FirstWrong
+orElse (At at b) later = At at b
+orElse Nowhere later = later
+
+abbrev pub ofElement : Option Breach → ℕ → FirstWrong → FirstWrong
+ofElement (some b) mark inside = At mark b
+ofElement none mark inside = inside
+
+-- The first wrong element, an element before those in it. Marks rise in that order, so it is the lowest.
 unfoldable mutual
-  unfolding rightUnder word
+  unfolding breachUnder word
 
-  pub firstWrong : Vocabulary → Items → Option ℕ
-  firstWrong D Items.none = none
+  pub firstWrong : Vocabulary → Items → FirstWrong
+  firstWrong D Items.none = Nowhere
   firstWrong D (more i φ) = orElse (firstWrongItem D i) (firstWrong D φ)
 
-  pub firstWrongItem : Vocabulary → Item → Option ℕ
-  firstWrongItem D text = none
-  firstWrongItem D blank = none
-  firstWrongItem D (gap g) = none
-  firstWrongItem D (element e mark δ φ) = cond (rightBy (ruleOf (D .rules) e) δ (word φ)) (firstWrong D φ) (some mark)
+  pub firstWrongItem : Vocabulary → Item → FirstWrong
+  firstWrongItem D text = Nowhere
+  firstWrongItem D blank = Nowhere
+  firstWrongItem D (gap g) = Nowhere
+  firstWrongItem D (element e mark δ φ) = ofElement (breachBy (ruleOf (D .rules) e) δ (word φ)) mark (firstWrong D φ)
 
 abbrev pub isElement : ℕ → Item → Bool
 isElement e text = false
@@ -116,9 +141,9 @@ isOnly e (more i φ) = isElement e i && isNone φ
 abbrev pub isAlone : ℕ → Items → Bool
 isAlone e φ = isOnly e (withoutBlank φ)
 
-abbrev pub wrongVerdict : Option ℕ → Verdict
-wrongVerdict none = Accepted
-wrongVerdict (some at) = Refused (Refusals.Page (WrongElement 0 0 at))
+abbrev pub wrongVerdict : FirstWrong → Verdict
+wrongVerdict Nowhere = Accepted
+wrongVerdict (At at b) = Refused (Refusals.Page (elementFault 0 0 at b))
 
 -- The verdict of a page that was read under a vocabulary that was read. Reading never ends unfinished (`agreement`, Ends); if it did,
 -- nothing would be accepted.

@@ -1,14 +1,15 @@
 -- What the code that judges promises, in terms of the definitions that read and judge. Each promise is about bytes that read; what
 -- the code answers on others is free, and no public call hands it others.
-use Prim.Native.Nat.{ℕ, zero, suc, _%_, _≤_, _<_}
+use Prim.Native.Nat.{ℕ, _%_, _≤_, _<_}
 use mathlib.Core.Path.{_≡_}
 use mathlib.Core.List.{List, []}
-use mathlib.Core.Bool.{Bool, true, false, cond, not, _&&_, _||_}
+use mathlib.Core.Bool.{Bool, true, false, not, _&&_, _||_}
 use mathlib.Core.Option.{Option, some, none}
 use lib.ListN.{length, getD}
 use lib.Dec.{ltb}
 use Rattle.sets.specs.Sets.{member}
 use Rattle.sets.specs.contracts.Promises.{wordSize, countBelow}
+use Rattle.verdicts.specs.declared.Breach.{Breach}
 use Rattle.commands.specs.declared.Position.{Position}
 use Rattle.commands.specs.Reading.{whole}
 use Rattle.vocabularies.specs.Vocabulary.{Formula, Vocabulary, ruleOf, declared, isIn}
@@ -27,11 +28,11 @@ use Rattle.judging.specs.declared.Shape.{Shape}
 use Rattle.judging.specs.declared.Rule.{Rule}
 use Rattle.judging.specs.declared.Named.{Named}
 use Rattle.judging.specs.declared.Contents.{Contents}
-use Rattle.judging.specs.declared.FirstWrong.{FirstWrong}
-use Rattle.judging.specs.declared.FirstWrong.the-variants.{Nowhere, At}
+use Rattle.judging.specs.declared.Outcome.{Outcome}
+use Rattle.judging.specs.declared.Outcome.the-variants.{Right, Breaks}
 use Rattle.judging.specs.declared.Judged.{Judged}
 use Rattle.judging.specs.declared.Listed.{Listed}
-use Rattle.judging.specs.contracts.Judgement.{Atoms, truthOf, allTrue, precedes, holdsValue, rightUnder, firstWrong, firstWrongItem}
+use Rattle.judging.specs.contracts.Judgement.{Atoms, truthOf, precedes, holdsValue, firstFailing, isFalse, breachUnder, firstWrong, firstWrongItem}
 
 -- The table of an element's order. A place is a number of different contents: so many stand before the first of a kind, and before
 -- the last.
@@ -70,13 +71,22 @@ Decided shape ψ = (A B : Atoms) → Shaped shape A → Shaped shape B → truth
 abbrev pub Decides : Shape → List ℕ → ℕ → Bool → ℕ → Type 0
 Decides shape v at b next = Walks (λ ψ. b ≡ true → Decided shape ψ) v at next
 
--- Whether all clauses that stand from an offset on are met.
-abbrev pub AllHold : Atoms → List ℕ → ℕ → Bool → Type 0
-AllHold A v at b = (f end : ℕ) (ψs : List Formula) → clauses f v at ≡ whole ψs end → b ≡ allTrue A ψs
+-- What an outcome tells of an element's rule.
+abbrev pub breachOf : Outcome → Option Breach
+breachOf Right = none
+breachOf (Breaks b) = some b
+
+-- The first that fails of the clauses that stand from an offset on, the places of which count from k.
+abbrev pub FirstFails : Atoms → List ℕ → ℕ → ℕ → Option Breach → Type 0
+FirstFails A v at k o = (f end : ℕ) (ψs : List Formula) → clauses f v at ≡ whole ψs end → o ≡ firstFailing (isFalse A) k ψs
+
+-- No clause that stands from an offset on fails.
+abbrev pub NoneFails : Atoms → List ℕ → ℕ → Type 0
+NoneFails A v at = (k : ℕ) → FirstFails A v at k none
 
 -- All clauses from an offset on are met by every element of a shape.
 pub record Settled (v : List ℕ) (shape : Shape) (to : ℕ) : Type 0 where
-  pub met : (A : Atoms) → Shaped shape A → AllHold A v to true
+  pub met : (A : Atoms) → Shaped shape A → NoneFails A v to
 
 -- A row of the table of shapes: attributes and contents, and an offset from which on all elements of that shape meet all clauses. Its last
 -- number tells for which rule the row was made; the row holds of any.
@@ -107,11 +117,11 @@ abbrev pub Names : List ℕ → ℕ → Named → List ℕ → Type 0
 Names p at r strings = (f end : ℕ) (δ : List Attribute) → attributes f Page p [] at ≡ whole δ end → attributeHere p end ≡ Done
     → (r .next .at ≡ end) × Naming δ (r .names) strings
 
--- Whether an element is right under a rule.
-abbrev pub IsRight : List ℕ → Rule → Shape → List ℕ → List (List ℕ) → Bool → Type 0
-IsRight v rule shape strings order b = (R : Vocabularies.Rule) (δ : List Attribute) (w : List ℕ) (count : ℕ)
+-- What an element breaks of a rule.
+abbrev pub TellsOutcome : List ℕ → Rule → Shape → List ℕ → List (List ℕ) → Outcome → Type 0
+TellsOutcome v rule shape strings order r = (R : Vocabularies.Rule) (δ : List Attribute) (w : List ℕ) (count : ℕ)
     → RuleTables v R (rule .attributes) (rule .contents) (rule .clauses .at) → Naming δ (shape .names) strings
-    → Containing w (shape .contents) order count → b ≡ rightUnder R δ w
+    → Containing w (shape .contents) order count → breachOf r ≡ breachUnder R δ w
 
 -- The rules of a vocabulary, each at its element's number.
 abbrev pub ruleAt : List ℕ → List ℕ → List ℕ → ℕ → Rule
@@ -120,19 +130,6 @@ ruleAt allowed held from e = record { attributes = getD allowed e 0; contents = 
 abbrev pub Tabled : List ℕ → Vocabulary → List ℕ → List ℕ → List ℕ → Type 0
 Tabled v D allowed held from = (e : ℕ) (R : Vocabularies.Rule) → ruleOf (D .rules) e ≡ some R
     → RuleTables v R (getD allowed e 0) (getD held e 0) (getD from e 0)
-
--- The first wrong element as the definition has it.
-abbrev pub markOf : FirstWrong → Option ℕ
-markOf Nowhere = none
-markOf (At at) = some at
-
--- That of two parts, and that of an element.
-abbrev pub firstMark : FirstWrong → FirstWrong → FirstWrong
-firstMark Nowhere later = later
-firstMark (At at) later = At at
-
-abbrev pub elementMark : Bool → ℕ → FirstWrong → FirstWrong
-elementMark right at inside = cond right inside (At at)
 
 -- The position after a step.
 abbrev pub stepNext : ItemHere → Position
@@ -145,7 +142,7 @@ stepNext (Here.End next) = next
 -- The end of an item, and its first wrong element.
 pub record ItemJudged (D : Vocabulary) (i : Item) (end : ℕ) (r : Judged) : Type 0 where
   pub ends : r .next .at ≡ end
-  pub finds : markOf (r .wrong) ≡ firstWrongItem D i
+  pub finds : r .wrong ≡ firstWrongItem D i
 
 abbrev pub JudgesItem : Vocabulary → List ℕ → ℕ → Judged → Type 0
 JudgesItem D p at r = (f depth end : ℕ) (i : Item) → item f Page (declared (D .rules)) p depth at ≡ whole i end → ItemJudged D i end r
@@ -155,13 +152,8 @@ pub record ItemsJudged (D : Vocabulary) (φ : Items) (end : ℕ) (r : Listed) (o
   pub count : ℕ
   pub contains : Containing (word φ) (r .contents) order count
   pub ends : r .next .at ≡ end
-  pub finds : markOf (r .wrong) ≡ firstWrong D φ
+  pub finds : r .wrong ≡ firstWrong D φ
 
 abbrev pub JudgesItems : Vocabulary → List ℕ → ℕ → Listed → List (List ℕ) → Type 0
 JudgesItems D p at r order = (f depth end : ℕ) (φ : Items) → items f Page (declared (D .rules)) p depth at ≡ whole φ end
     → ItemsJudged D φ end r order
-
--- An offset and 1, or 0 for none, as other layers have a wrong element.
-abbrev pub wrongOf : ℕ → Option ℕ
-wrongOf zero = none
-wrongOf (suc at) = some at

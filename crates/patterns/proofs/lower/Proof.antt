@@ -23,7 +23,7 @@ enum-known-b-2 : tie.Need-enum-known-b-2
 enum-known-b-2 c = search needs
 
 returns : tie.Need-returns
-returns c = lower-first _ _ _ _ _ _ (c .before .before .before .before .before .a .given .1) (c .before .before .b2 .given .1) (c .if1 .taken)
+returns c = lower-first _ _ _ _ _ _ _ _ (c .before .before .before .before .before .a .given .1) (c .before .before .b2 .given .1) (c .if1 .taken)
 
 returns-2 : tie.Need-returns-2
 returns-2 c = search needs
@@ -32,10 +32,10 @@ returns-3 : tie.Need-returns-3
 returns-3 c = rw (c .before .before .before .enum-told .given .1, c .before .b .given .1)
 
 returns-4 : tie.Need-returns-4
-returns-4 c = lower-alone _ _ _ _ (c .before .before .before .a .given .1) (c .enum-told3 .given .1)
+returns-4 c = lower-alone _ _ _ _ _ (c .before .before .before .a .given .1) (c .enum-told3 .given .1)
 
 returns-5 : tie.Need-returns-5
-returns-5 c = lower-second _ _ _ _ _ _ (c .before .before .before .before .before .a .given .1) (c .before .before .b2 .given .1) (c .if1 .left)
+returns-5 c = lower-second _ _ _ _ _ _ _ _ (c .before .before .before .before .before .a .given .1) (c .before .before .b2 .given .1) (c .if1 .left)
 
 pub lower-spec : {M : Type 1} → statement M
 lower-spec =

@@ -1,15 +1,18 @@
--- An element that is wrong in some page (document 01, verdict 12; document 02, F-5): it can carry an attribute that is not allowed, or can get
--- a content that is not allowed, or some clause fails for a choice of its attributes' strings, or of absence, and a pattern of its
--- contents. Each attribute gap takes a string or absence by itself. All of this is said of items of a template of which pages come.
+-- What an element breaks of its rule in some page (document 01, verdict 12; document 02, F-5 and F-6): it can carry an attribute that is not
+-- allowed; else, it can get a content that is not allowed; else, a clause fails for a choice of its attributes' strings, or of absence,
+-- and a pattern of its contents. Each attribute gap takes a string or absence by itself. All of this is said of items of a template of
+-- which pages come.
 use Prim.Native.Nat.{ℕ, _^_}
 use mathlib.Core.List.{List, [], _∷_}
-use mathlib.Core.Bool.{Bool, true, false, cond, not, _&&_, _||_}
+use mathlib.Core.Bool.{Bool, cond, not, _&&_, _||_}
 use mathlib.Core.Option.{Option, some, none}
 use lib.ListN.{length}
+use Rattle.verdicts.specs.declared.Breach.{Breach}
+use Rattle.verdicts.specs.declared.Breach.the-variants as Breaches
 use Rattle.vocabularies.specs.Vocabulary.{Formula, Rule, Vocabulary, ruleOf, isIn}
 use Rattle.vocabularies.specs.Facts.{Fact, factsOf}
 use Rattle.pages.specs.Items.{Value, string, open-gap, Attribute, Items}
-use Rattle.judging.specs.contracts.Judgement.{truthOf, allIn}
+use Rattle.judging.specs.contracts.Judgement.{truthOf, allIn, brokenIf, orFirst, firstFailing}
 use Rattle.summaries.specs.Summaries.{Summary}
 use Rattle.summaries.specs.Languages.{takes}
 use Rattle.patterns.specs.contracts.Patterns.{patternOf, atomsBy}
@@ -62,26 +65,30 @@ module _ (φs : List Items) (G : Summary) where
   clauseFails ψ X n δ φ = anyBelow (2 ^ length (factsOf ψ))
       (λ x. elementPatterns (factsOf ψ) X n δ φ x && not (truthOf (atomsBy (factsOf ψ) x) ψ))
 
-  -- X has the pattern sets of each clause.
-  unfoldable pub someClauseFails : (Formula → Sets) → List Formula → ℕ → List Attribute → Items → Bool
-  unfolding clauseFails
-  someClauseFails X [] n δ φ = false
-  someClauseFails X (ψ ∷ ψs) n δ φ = clauseFails ψ (X ψ) n δ φ || someClauseFails X ψs n δ φ
+  -- The first of the clauses, the places of which count from k, that fails. X has the pattern sets of each clause.
+  abbrev pub firstClause : (Formula → Sets) → ℕ → List Formula → ℕ → List Attribute → Items → Option Breach
+  firstClause X k ψs n δ φ = firstFailing (λ ψ. clauseFails ψ (X ψ) n δ φ) k ψs
 
   -- C has the contents that can stand in the pages of each template.
   unfoldable pub contentOutside : Sets → List ℕ → ℕ → Items → Bool
   unfolding anyBelow contentsOf isIn
   contentOutside C allowed n φ = anyBelow contents (λ c. contentsOf φs G C n φ c && not (isIn c allowed))
 
-  unfoldable pub wrongUnder : (Formula → Sets) → Sets → Rule → ℕ → List Attribute → Items → Bool
-  unfolding allIn carriableNames contentOutside someClauseFails
-  wrongUnder X C r n δ φ =
-      not (allIn (carriableNames G n δ) (r .attributes)) || contentOutside C (r .contents) n φ || someClauseFails X (r .clauses) n δ φ
+  -- An attribute, else a content, whatever the clauses say.
+  unfoldable pub plainBreach : Sets → Rule → ℕ → List Attribute → Items → Option Breach
+  unfolding allIn carriableNames contentOutside
+  plainBreach C r n δ φ = orFirst (brokenIf (not (allIn (carriableNames G n δ) (r .attributes))) Breaches.Attribute)
+      (brokenIf (contentOutside C (r .contents) n φ) Breaches.Content)
 
-  abbrev pub wrongBy : (Formula → Sets) → Sets → Option Rule → ℕ → List Attribute → Items → Bool
-  wrongBy X C none n δ φ = true
-  wrongBy X C (some r) n δ φ = wrongUnder X C r n δ φ
+  unfoldable pub breachUnder : (Formula → Sets) → Sets → Rule → ℕ → List Attribute → Items → Option Breach
+  unfolding plainBreach firstFailing clauseFails
+  breachUnder X C r n δ φ = orFirst (plainBreach C r n δ φ) (firstClause X 0 (r .clauses) n δ φ)
 
-  -- The element e of template n with these attributes and contents is wrong in some page, if it stands in one.
-  abbrev pub wrongElement : (Formula → Sets) → Sets → Vocabulary → ℕ → ℕ → List Attribute → Items → Bool
-  wrongElement X C D n e δ φ = wrongBy X C (ruleOf (D .rules) e) n δ φ
+  -- Every element that is read has a rule.
+  abbrev pub breachBy : (Formula → Sets) → Sets → Option Rule → ℕ → List Attribute → Items → Option Breach
+  breachBy X C none n δ φ = none
+  breachBy X C (some r) n δ φ = breachUnder X C r n δ φ
+
+  -- What the element e of template n with these attributes and contents breaks in some page, if it stands in one.
+  abbrev pub breachOf : (Formula → Sets) → Sets → Vocabulary → ℕ → ℕ → List Attribute → Items → Option Breach
+  breachOf X C D n e δ φ = breachBy X C (ruleOf (D .rules) e) n δ φ

@@ -4,7 +4,7 @@
 use Prim.Native.Nat.{ℕ, _≤_, _<_}
 use mathlib.Core.Path.{_≡_}
 use mathlib.Core.List.{List}
-use mathlib.Core.Bool.{true, false}
+use mathlib.Core.Bool.{Bool, true, false}
 use mathlib.Core.Option.{some}
 use lib.ListN.{length}
 use Rattle.sets.specs.Sets.{member}
@@ -30,9 +30,10 @@ contents = 64
 abbrev pub NamesInRange : List Items → Type 0
 NamesInRange φs = (n c : ℕ) → SomeElement (λ e mark δ φ. e ≡ c) (templateAt φs n) → c < contents
 
--- Elements are in range, and none has an attribute twice.
-pub record SoundTemplates (φs : List Items) : Type 0 where
+-- Elements are in range and have a rule, and none has an attribute twice.
+pub record SoundTemplates (ruled : ℕ → Bool) (φs : List Items) : Type 0 where
   pub in-range : NamesInRange φs
+  pub have-rules : (n c : ℕ) → SomeElement (λ e mark δ φ. e ≡ c) (templateAt φs n) → ruled c ≡ true
   pub once : (n : ℕ) (δ : List Attribute) → SomeElement (λ e mark ε φ. ε ≡ δ) (templateAt φs n) → Distinct (names δ)
 
 -- The sets of a clause hold named strings alone.

@@ -1,5 +1,5 @@
--- The decision of a show (document 01, "Verdicts", 11 and 12), from tables worked out for its graph: the lowest root template with a
--- page that is not exactly the root element, and the lowest offset of an element that is wrong in some page.
+-- The decision of a show (document 01, "Verdicts", 11 and 12; document 02, F-6), from tables worked out for its graph: the lowest root
+-- template with a page that is not exactly the root element, and the lowest element that is wrong in some page, with what it breaks.
 use Prim.Native.Nat.{ℕ, zero, suc, _≤_}
 use mathlib.Core.Path.{_≡_}
 use mathlib.Core.List.{List}
@@ -9,8 +9,7 @@ use lib.ListN.{length}
 use lib.Dec.{leb}
 use Rattle.vocabularies.specs.Vocabulary.{Formula, Rule, Vocabulary, ruleOf}
 use Rattle.vocabularies.specs.Facts.{factsOf}
-use Rattle.pages.specs.Items.{Attribute, Item, text, blank, gap, element, Items, more}
-use Rattle.pages.specs.Items as Items
+use Rattle.pages.specs.Items.{Items}
 use Rattle.pages.specs.RightPages.{_∈_}
 use Rattle.programs.specs.Program.{templateAt}
 use Rattle.summaries.specs.Proposal.{root}
@@ -18,7 +17,10 @@ use Rattle.summaries.specs.Summaries.{Summary}
 use Rattle.patterns.specs.contracts.Morphisms.{empty, other, rootMorphism, factMorphism}
 use Rattle.patterns.specs.contracts.Rounds.{Set, Sets}
 use Rattle.patterns.specs.contracts.Exactness.{Exact, ContentsExact, ReachedExact}
-use Rattle.patterns.specs.contracts.Elements.{wrongElement}
+use Rattle.patterns.specs.declared.Wrong.{Wrong}
+use Rattle.patterns.specs.declared.Wrong.the-variants.{Nowhere}
+use Rattle.patterns.specs.contracts.Elements.{breachOf}
+use Rattle.patterns.specs.contracts.LowestWrong.{Test, lowestIn, lowestBelow}
 
 -- The least number of which P holds, or none if there is none.
 pub data Least (P : ℕ → Type 0) : Option ℕ → Type 0 where
@@ -38,18 +40,6 @@ onlyIf b n = cond b (some n) none
 unfoldable pub lowestOver : ℕ → (ℕ → Option ℕ) → Option ℕ
 lowestOver zero f = none
 lowestOver (suc n) f = lower (lowestOver n f) (f n)
-
--- The lowest mark of an element, at any depth, that passes a test.
-unfoldable mutual
-  pub lowestMark : (ℕ → ℕ → List Attribute → Items → Bool) → Items → Option ℕ
-  lowestMark p Items.none = none
-  lowestMark p (more i φ) = lower (lowestMarkIn p i) (lowestMark p φ)
-
-  pub lowestMarkIn : (ℕ → ℕ → List Attribute → Items → Bool) → Item → Option ℕ
-  lowestMarkIn p text = none
-  lowestMarkIn p blank = none
-  lowestMarkIn p (gap g) = none
-  lowestMarkIn p (element e mark δ φ) = lower (onlyIf (p e mark δ φ) mark) (lowestMark p φ)
 
 -- What is worked out for a graph: the classes of the pages of each template, the templates that are reached, the contents that can
 -- stand in the pages of each, and the pattern sets of each clause.
@@ -77,14 +67,11 @@ module _ (φs : List Items) (G : Summary) (D : Vocabulary) (T : Tables) where
   unfolding lowestOver
   lowestRoot = lowestOver (suc (length φs)) (λ r. onlyIf (notRoot G (T .classes) r) r)
 
-  -- The lowest element of template n that is wrong in some page.
-  unfoldable pub lowestWrongIn : ℕ → Option ℕ
-  unfolding lowestMark
-  lowestWrongIn n = cond (T .reached n)
-      (lowestMark (λ e mark δ φ. wrongElement φs G (T .clauses) (T .contents) D n e δ φ) (templateAt φs n))
-      none
+  -- What an element of template n breaks in some page.
+  abbrev pub tested : ℕ → Test
+  tested n e mark δ φ = breachOf φs G (T .clauses) (T .contents) D n e δ φ
 
-  -- Verdict 12.
-  unfoldable pub lowestWrong : Option ℕ
-  unfolding lowestOver lowestWrongIn
-  lowestWrong = lowestOver (suc (length φs)) lowestWrongIn
+  -- Verdicts 12, 14 and 15: the lowest wrong element of the templates that are reached.
+  unfoldable pub lowestWrong : Wrong
+  unfolding lowestBelow lowestIn
+  lowestWrong = lowestBelow (suc (length φs)) (λ n. cond (T .reached n) (lowestIn n (tested n) (templateAt φs n)) Nowhere)

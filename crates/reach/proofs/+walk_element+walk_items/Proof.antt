@@ -24,7 +24,7 @@ use Rattle.reach.proofs.+walk_element+walk_items.{statement}
 use Rattle.reach.proofs.+walk_element+walk_items.Tie.{close}
 
 abbrev μ-walk-element : Measures 5 walk-element-kinds.ps ℕ
-μ-walk-element κs a = (length (a .0 .now) - a .1 .1 .1 .1 .1 .1 .1 .1 .0 .at) + (length (a .0 .now) - a .1 .1 .1 .1 .1 .1 .1 .1 .0 .at) + 2
+μ-walk-element κs a = (length (a .0 .now) - a .1 .1 .1 .1 .1 .1 .0 .at) + (length (a .0 .now) - a .1 .1 .1 .1 .1 .1 .0 .at) + 2
 
 abbrev μ-walk-items : Measures 5 walk-items-kinds.ps ℕ
 μ-walk-items κs a = (length (a .0 .now) - a .1 .1 .1 .1 .1 .1 .0 .at) + (length (a .0 .now) - a .1 .1 .1 .1 .1 .1 .0 .at) + 1
@@ -50,10 +50,10 @@ walk-items-below t =
     and 5 walk-items-kinds.ps (falls 5 walk-items-kinds.ps _<_ μ-walk-items t) walk-items.Pre
 
 abbrev element-told : ℕ → walk-element-lts.Claims
-element-told t = (carriable-names-reads.Asked, carriable-names-reads.Learnt, walk-items-below t, walk-items.Post, union-of-reads.Asked, union-of-reads.Learnt, outside-at-reads.Asked, outside-at-reads.Learnt, lower-reads.Asked, lower-reads.Learnt)
+element-told t = (carriable-names-reads.Asked, carriable-names-reads.Learnt, walk-items-below t, walk-items.Post, union-of-reads.Asked, union-of-reads.Learnt)
 
 abbrev items-told : ℕ → walk-items-lts.Claims
-items-told t = (item-here-reads.Asked, item-here-reads.Learnt, with-reads.Asked, with-reads.Learnt, walk-element-below t, walk-element.Post, lower-reads.Asked, lower-reads.Learnt)
+items-told t = (item-here-reads.Asked, item-here-reads.Learnt, with-reads.Asked, with-reads.Learnt, walk-element-below t, walk-element.Post, outside-at-reads.Asked, outside-at-reads.Learnt, lower-reads.Asked, lower-reads.Learnt)
 
 walk-element-carriable-names-requires : (t : ℕ) → walk-element-lts.Need-carriable-names-requires (element-told t) (walk-element-at t) walk-element.Post
 walk-element-carriable-names-requires t c κs = search needs
@@ -64,35 +64,14 @@ walk-element-walk-items-requires t c κs = (omega (arith, c .before .carriable-n
 walk-element-union-of-requires : (t : ℕ) → walk-element-lts.Need-union-of-requires (element-told t) (walk-element-at t) walk-element.Post
 walk-element-union-of-requires t c κs = search needs
 
-walk-element-mul-outside-at : (t : ℕ) → walk-element-lts.Need-mul-outside-at (element-told t) (walk-element-at t) walk-element.Post
-walk-element-mul-outside-at t c = search needs
-
-walk-element-element-copy-out-outside-at : (t : ℕ) → walk-element-lts.Need-element-copy-out-outside-at (element-told t) (walk-element-at t) walk-element.Post
-walk-element-element-copy-out-outside-at t c = search needs
-
-walk-element-mul-outside-at-2 : (t : ℕ) → walk-element-lts.Need-mul-outside-at-2 (element-told t) (walk-element-at t) walk-element.Post
-walk-element-mul-outside-at-2 t c = search needs
-
-walk-element-element-copy-out-outside-at-2 : (t : ℕ) → walk-element-lts.Need-element-copy-out-outside-at-2 (element-told t) (walk-element-at t) walk-element.Post
-walk-element-element-copy-out-outside-at-2 t c = search needs
-
-walk-element-outside-at-requires : (t : ℕ) → walk-element-lts.Need-outside-at-requires (element-told t) (walk-element-at t) walk-element.Post
-walk-element-outside-at-requires t c κs = tt
-
-walk-element-lower-requires : (t : ℕ) → walk-element-lts.Need-lower-requires (element-told t) (walk-element-at t) walk-element.Post
-walk-element-lower-requires t c κs = tt
-
 walk-element-returns : (t : ℕ) → walk-element-lts.Need-returns (element-told t) (walk-element-at t) walk-element.Post
 walk-element-returns t c =
-    let a = c .before .before .before .before .before .before .before .before .before .before .before .args in
-    let n = c .before .before .before .before .before .before .before .before .before .carriable-names in
-    let l = c .before .before .before .before .before .before .before .walk-items in
-    let u = c .before .before .before .before .before .union-of in
-    let o = c .before .before .outside-at in (
+    let a = c .before .before .before .before .before .before .before .args in
+    let n = c .before .before .before .before .before .carriable-names in
+    let l = c .before .before .before .walk-items in (
       omega (arith, l .ensures .0, n .ensures .0),
-      element-walked (a .s .now) (a .attributes .now) (a .contents .now) (a .graph .now) (a .brings .now) (a .n) (a .here .at) (a .e) (a .start) (n .result) (n .ensures .1)
-          (l .result) (l .ensures .1) (u .result) (omega (arith, c .before .before .before .before .before .before .union-of-arg .given)) (u .ensures)
-          (o .result) (o .ensures) (c .lower .result) (c .lower .ensures),
+      element-walked (a .s .now) (a .attributes .now) (a .contents .now) (a .graph .now) (a .brings .now) (a .n) (a .start) (n .result) (n .ensures .1)
+          (l .result) (l .ensures .1) (c .union-of .result) (omega (arith, c .before .union-of-arg .given)) (c .union-of .ensures),
     )
 
 abbrev walk-items-Inv-loop : walk-items-lts.InvT-loop
@@ -160,27 +139,49 @@ walk-items-with-requires-3 t c κs = element-moves _ _ _ (c .before .before .bef
 walk-items-walk-element-requires : (t : ℕ) → walk-items-lts.Need-walk-element-requires (items-told t) (walk-items-at t) walk-items.Post walk-items-Inv-loop walk-items-μ-loop
 walk-items-walk-element-requires t c κs =
     let m = element-moves _ _ _ (c .before .before .before .before .item-here .ensures .1) _ _ (c .before .before .e .given .1) in
-    (omega (arith, m .0 .inside, m .0 .forward, c .before .before .before .before .before .loop .inv .forward), (m .1, search needs))
+    (omega (arith, m .0 .inside, m .0 .forward, c .before .before .before .before .before .loop .inv .forward), search needs)
+
+walk-items-cast-i : (t : ℕ) → walk-items-lts.Need-cast-i (items-told t) (walk-items-at t) walk-items.Post walk-items-Inv-loop walk-items-μ-loop
+walk-items-cast-i t c = search needs
+
+walk-items-mul-outside-at : (t : ℕ) → walk-items-lts.Need-mul-outside-at (items-told t) (walk-items-at t) walk-items.Post walk-items-Inv-loop walk-items-μ-loop
+walk-items-mul-outside-at t c = omega (arith, element-moves _ _ _ (c .before .before .before .before .before .item-here .ensures .1) _ _ (c .before .before .before .e .given .1) .1)
+
+walk-items-element-copy-out-outside-at : (t : ℕ) → walk-items-lts.Need-element-copy-out-outside-at (items-told t) (walk-items-at t) walk-items.Post walk-items-Inv-loop walk-items-μ-loop
+walk-items-element-copy-out-outside-at t c = omega (arith, element-moves _ _ _ (c .before .before .before .before .before .item-here .ensures .1) _ _ (c .before .before .before .e .given .1) .1)
+
+walk-items-mul-outside-at-2 : (t : ℕ) → walk-items-lts.Need-mul-outside-at-2 (items-told t) (walk-items-at t) walk-items.Post walk-items-Inv-loop walk-items-μ-loop
+walk-items-mul-outside-at-2 t c = omega (arith, element-moves _ _ _ (c .before .before .before .before .before .before .item-here .ensures .1) _ _ (c .before .before .before .before .e .given .1) .1)
+
+walk-items-element-copy-out-outside-at-2 : (t : ℕ) → walk-items-lts.Need-element-copy-out-outside-at-2 (items-told t) (walk-items-at t) walk-items.Post walk-items-Inv-loop walk-items-μ-loop
+walk-items-element-copy-out-outside-at-2 t c = omega (arith, element-moves _ _ _ (c .before .before .before .before .before .before .item-here .ensures .1) _ _ (c .before .before .before .before .e .given .1) .1)
+
+walk-items-outside-at-requires : (t : ℕ) → walk-items-lts.Need-outside-at-requires (items-told t) (walk-items-at t) walk-items.Post walk-items-Inv-loop walk-items-μ-loop
+walk-items-outside-at-requires t c κs = tt
 
 walk-items-lower-requires : (t : ℕ) → walk-items-lts.Need-lower-requires (items-told t) (walk-items-at t) walk-items.Post walk-items-Inv-loop walk-items-μ-loop
 walk-items-lower-requires t c κs = tt
 
+walk-items-lower-requires-2 : (t : ℕ) → walk-items-lts.Need-lower-requires-2 (items-told t) (walk-items-at t) walk-items.Post walk-items-Inv-loop walk-items-μ-loop
+walk-items-lower-requires-2 t c κs = tt
+
 walk-items-loop-less-3 : (t : ℕ) → walk-items-lts.Need-loop-less-3 (items-told t) (walk-items-at t) walk-items.Post walk-items-Inv-loop walk-items-μ-loop
 walk-items-loop-less-3 t c =
-    let m = element-moves _ _ _ (c .before .before .before .before .before .before .before .item-here .ensures .1) _ _ (c .before .before .before .before .before .e .given .1) in
-    omega (arith, m .0 .inside, m .0 .forward, c .before .before .walk-element .ensures .0)
+    let m = element-moves _ _ _ (c .before .before .before .before .before .before .before .before .before .before .before .item-here .ensures .1) _ _ (c .before .before .before .before .before .before .before .before .before .e .given .1) in
+    omega (arith, m .0 .inside, m .0 .forward, c .before .before .before .before .before .before .walk-element .ensures .0)
 
 walk-items-loop-again-3 : (t : ℕ) → walk-items-lts.Need-loop-again-3 (items-told t) (walk-items-at t) walk-items.Post walk-items-Inv-loop walk-items-μ-loop
 walk-items-loop-again-3 t c =
-    let l = c .before .before .before .before .before .before .before .before .loop in
-    let h = c .before .before .before .before .before .before .before .item-here in
-    let is-element = c .before .before .before .before .before .e .given .1 in
+    let l = c .before .before .before .before .before .before .before .before .before .before .before .before .loop in
+    let h = c .before .before .before .before .before .before .before .before .before .before .before .item-here in
+    let is-element = c .before .before .before .before .before .before .before .before .before .e .given .1 in
     let m = element-moves _ _ _ (h .ensures .1) _ _ is-element in
-    let own = c .before .before .walk-element in
+    let walked = c .before .before .before .before .before .before .walk-element in
+    let own = c .before .before .before .outside-at in
     record {
-      forward = omega (arith, l .inv .forward, m .0 .forward, own .ensures .0);
-      goes = λ r A. l .inv .goes r (list-element _ _ _ _ _ _ _ _ _ _ (h .result) (h .ensures .0) _ _ is-element _ (c .before .before .before .with3 .ensures)
-          (own .result) (own .ensures .1) (c .before .lower .result) (c .before .lower .ensures) r A);
+      forward = omega (arith, l .inv .forward, m .0 .forward, walked .ensures .0);
+      goes = λ r A. l .inv .goes r (list-element _ _ _ _ _ _ _ _ _ _ (h .result) (h .ensures .0) _ _ is-element _ (c .before .before .before .before .before .before .before .with3 .ensures)
+          (walked .result) (walked .ensures .1) (own .result) (own .ensures) (c .before .before .lower .result) (c .before .before .lower .ensures) (c .before .lower2 .result) (c .before .lower2 .ensures) r A);
     }
 
 walk-items-enum-known-next-2 : (t : ℕ) → walk-items-lts.Need-enum-known-next-2 (items-told t) (walk-items-at t) walk-items.Post walk-items-Inv-loop walk-items-μ-loop
@@ -219,12 +220,6 @@ pub +walk-element+walk-items-spec : {M : Type 1} → statement M
     (walk-element-carriable-names-requires t)
     (walk-element-walk-items-requires t)
     (walk-element-union-of-requires t)
-    (walk-element-mul-outside-at t)
-    (walk-element-element-copy-out-outside-at t)
-    (walk-element-mul-outside-at-2 t)
-    (walk-element-element-copy-out-outside-at-2 t)
-    (walk-element-outside-at-requires t)
-    (walk-element-lower-requires t)
     (walk-element-returns t))
     λ t. walk-items-lts.spec (items-told t)
     (walk-items-at t)
@@ -244,7 +239,14 @@ pub +walk-element+walk-items-spec : {M : Type 1} → statement M
     (walk-items-enum-known-e t)
     (walk-items-with-requires-3 t)
     (walk-items-walk-element-requires t)
+    (walk-items-cast-i t)
+    (walk-items-mul-outside-at t)
+    (walk-items-element-copy-out-outside-at t)
+    (walk-items-mul-outside-at-2 t)
+    (walk-items-element-copy-out-outside-at-2 t)
+    (walk-items-outside-at-requires t)
     (walk-items-lower-requires t)
+    (walk-items-lower-requires-2 t)
     (walk-items-loop-less-3 t)
     (walk-items-loop-again-3 t)
     (walk-items-enum-known-next-2 t)

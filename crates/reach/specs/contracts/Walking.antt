@@ -2,36 +2,33 @@
 -- plainly wrong. Each promise is about bytes that read.
 use Prim.Native.Nat.{ℕ, _≤_, _<_}
 use mathlib.Core.Path.{_≡_}
-use mathlib.Core.List.{List}
+use mathlib.Core.List.{List, []}
 use mathlib.Core.Bool.{Bool, true, _&&_}
 use mathlib.Core.Option.{some}
 use lib.ListN.{length, getD}
 use Rattle.sets.specs.Sets.{member}
-use Rattle.commands.specs.declared.Position.{Position}
 use Rattle.commands.specs.Reading.{whole}
 use Rattle.vocabularies.specs.Vocabulary.{Rule, Vocabulary, ruleOf, declared, isIn}
 use Rattle.pages.specs.declared.Kind.the-variants.{Template}
-use Rattle.pages.specs.declared.ItemHere.the-variants.{Element}
 use Rattle.pages.specs.declared.AttributeHere.the-variants.{Done}
-use Rattle.pages.specs.Items.{Attribute, Item, Items, one}
-use Rattle.pages.specs.ItemReading.{attributes, item, items}
+use Rattle.pages.specs.Items.{Attribute, Items}
+use Rattle.pages.specs.ItemReading.{attributes, items}
 use Rattle.pages.specs.contracts.Promises.{Located}
-use Rattle.pages.specs.contracts.Steps.{itemHere, attributeHere}
+use Rattle.pages.specs.contracts.Steps.{attributeHere}
 use Rattle.summaries.specs.Proposal.{edge}
 use Rattle.summaries.specs.Summaries.{Summary}
 use Rattle.patterns.specs.contracts.Given.{contents}
 use Rattle.patterns.specs.contracts.Rounds.{Sets, anyTemplate}
 use Rattle.patterns.specs.contracts.Reached.{contentsOf}
-use Rattle.patterns.specs.contracts.Elements.{carriableNames}
+use Rattle.patterns.specs.contracts.Elements.{carriableNames, plainBreach}
 use Rattle.patterns.specs.declared.Wrong.{Wrong}
-use Rattle.patterns.specs.contracts.Shows.{onlyIf, lowestMark}
-use Rattle.patterns.specs.contracts.LowestWrong.{wrongIn, LowestWrong, Passing}
+use Rattle.patterns.specs.contracts.LowestWrong.{wrongAt, lowestIn, LowestWrong, Passing}
 use Rattle.graphs.specs.contracts.Graphs.{Keeps}
 use Rattle.reach.specs.declared.Carriable.{Carriable}
 use Rattle.reach.specs.declared.WalkedElement.{WalkedElement}
 use Rattle.reach.specs.declared.WalkedItems.{WalkedItems}
 use Rattle.reach.specs.contracts.Outlines.{Outline}
-use Rattle.reach.specs.contracts.PlainlyWrong.{plainlyUnder, plainlyWrong}
+use Rattle.reach.specs.contracts.PlainlyWrong.{plainlyWrong}
 use Rattle.reach.specs.contracts.Promises.{GraphKept}
 
 -- The allowed attributes and contents of each element that has a rule, as sets.
@@ -64,27 +61,30 @@ module _ (φs : List Items) (G : Summary) (C : Sets) (n : ℕ) where
 -- The element at an offset of template n, if it is plainly wrong.
 abbrev pub TellsOutside : ℕ → ℕ → ℕ → ℕ → ℕ → ℕ → Wrong → Type 0
 TellsOutside n at named allowed inside held r = (φs : List Items) (G : Summary) (C : Sets) (R : Rule) (δ : List Attribute) (φ : Items)
-    → Compared φs G C n R δ φ named allowed inside held → r ≡ wrongIn n (onlyIf (plainlyUnder φs G C R n δ φ) at)
+    → Compared φs G C n R δ φ named allowed inside held → r ≡ wrongAt n at (plainBreach φs G C R n δ φ)
 
 -- The lowest element of some items of template n that is plainly wrong, where elements that have a rule are read alone.
 abbrev pub FindsWrong : (ℕ → Bool) → List ℕ → List ℕ → List ℕ → List ℕ → ℕ → Items → Wrong → Type 0
 FindsWrong ruled allowed held graph brings n φ wrong = (φs : List Items) (G : Summary) (C : Sets) (D : Vocabulary) → RulesKept D allowed held
     → GraphTold φs G C n graph brings → ((e : ℕ) → ruled e ≡ true → declared (D .rules) e ≡ true)
-    → wrong ≡ wrongIn n (lowestMark (λ e mark δ χ. plainlyWrong φs G C D n e δ χ) φ)
+    → wrong ≡ lowestIn n (λ e mark δ χ. plainlyWrong φs G C D n e δ χ) φ
 
--- What is told of an element, and of a list of items.
-pub record ElementWalked (ruled : ℕ → Bool) (allowed held graph brings : List ℕ) (n : ℕ) (i : Item) (end : ℕ) (r : WalkedElement) : Type 0 where
+-- What is told of an element with these attributes and contents, and of a list of items.
+pub record ElementWalked (ruled : ℕ → Bool) (allowed held graph brings : List ℕ) (n : ℕ) (δ : List Attribute) (φ : Items) (end : ℕ) (r : WalkedElement) : Type 0 where
   pub ends : r .next .at ≡ end
-  pub finds : FindsWrong ruled allowed held graph brings n (one i) (r .wrong)
+  pub carries : (G : Summary) → Keeps graph G → (a : ℕ) → member (r .names) a ≡ isIn a (carriableNames G n δ)
+  pub contains : (φs : List Items) (G : Summary) (C : Sets) → GraphTold φs G C n graph brings → (c : ℕ) → c < contents → member (r .inside) c ≡ contentsOf φs G C n φ c
+  pub finds : FindsWrong ruled allowed held graph brings n φ (r .wrong)
 
 pub record ItemsWalked (ruled : ℕ → Bool) (allowed held graph brings : List ℕ) (n : ℕ) (φ : Items) (end : ℕ) (r : WalkedItems) : Type 0 where
   pub ends : r .next .at ≡ end
   pub outline : Outline φ (r .inside) (r .gaps)
   pub finds : FindsWrong ruled allowed held graph brings n φ (r .wrong)
 
-abbrev pub WalksElement : List ℕ → List ℕ → List ℕ → List ℕ → List ℕ → ℕ → ℕ → ℕ → Position → WalkedElement → Type 0
-WalksElement s allowed held graph brings n at e start r = (ruled : ℕ → Bool) (f depth end : ℕ) (i : Item) → item f Template ruled s depth at ≡ whole i end
-    → Element e start ≡ itemHere s at → ElementWalked ruled allowed held graph brings n i end r
+abbrev pub WalksElement : List ℕ → List ℕ → List ℕ → List ℕ → List ℕ → ℕ → ℕ → WalkedElement → Type 0
+WalksElement s allowed held graph brings n start r = (ruled : ℕ → Bool) (f depth inside end : ℕ) (δ : List Attribute) (φ : Items)
+    → attributes f Template s [] start ≡ whole δ inside → attributeHere s inside ≡ Done → items f Template ruled s depth inside ≡ whole φ end
+    → ElementWalked ruled allowed held graph brings n δ φ end r
 
 abbrev pub WalksItems : List ℕ → List ℕ → List ℕ → List ℕ → List ℕ → ℕ → ℕ → WalkedItems → Type 0
 WalksItems s allowed held graph brings n at r = (ruled : ℕ → Bool) (f depth end : ℕ) (φ : Items) → items f Template ruled s depth at ≡ whole φ end
@@ -103,7 +103,7 @@ abbrev pub TellsWrongIn : List ℕ → List ℕ → List ℕ → ℕ → List �
 TellsWrongIn s allowed held at graph n within r = (φs : List Items) (G : Summary) (C : Sets) (D : Vocabulary) (count : ℕ)
     → GraphKept φs G graph count → RulesKept D allowed held → ContentsKept φs C within
     → (f end : ℕ) (φ : Items) → items f Template (declared (D .rules)) s 0 at ≡ whole φ end
-    → r ≡ wrongIn n (lowestMark (λ e mark δ χ. plainlyWrong φs G C D n e δ χ) φ)
+    → r ≡ lowestIn n (λ e mark δ χ. plainlyWrong φs G C D n e δ χ) φ
 
 -- The lowest element of the templates of a set that is plainly wrong.
 abbrev pub TellsPlainlyWrong : List ℕ → List ℕ → List ℕ → List ℕ → ℕ → List ℕ → List ℕ → ℕ → Wrong → Type 0

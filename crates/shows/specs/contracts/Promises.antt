@@ -1,4 +1,4 @@
--- What the decision of a show promises (document 01, "Verdicts", 11 and 12).
+-- What the decision of a show promises (document 01, "Verdicts", 11 and 12; document 02, F-6).
 use Prim.Native.Nat.{ℕ, _≤_, _<_}
 use mathlib.Core.Path.{_≡_}
 use mathlib.Core.List.{List, []}
@@ -6,11 +6,13 @@ use mathlib.Core.Bool.{Bool, true, _&&_, _||_}
 use mathlib.Core.Option.{Option, some, none}
 use lib.ListN.{length, getD}
 use Rattle.sets.specs.Sets.{member}
+use Rattle.verdicts.specs.declared.Breach.{Breach}
 use Rattle.commands.specs.Reading.{whole}
 use Rattle.vocabularies.specs.declared.Tables.{Tables}
 use Rattle.vocabularies.specs.Vocabulary.{declared}
 use Rattle.vocabularies.specs.contracts.Promises.{Describes}
 use Rattle.pages.specs.Items.{Items}
+use Rattle.pages.specs.RightPages.{FirstBreach}
 use Rattle.pages.specs.contracts.Gaps.{StartsAt, GapsTable}
 use Rattle.pages.specs.contracts.Promises.{Located}
 use Rattle.programs.specs.Program.{statementAt, templateAt}
@@ -28,7 +30,7 @@ use Rattle.patterns.specs.contracts.Morphisms.{empty, other, rootMorphism}
 use Rattle.patterns.specs.declared.Wrong as Wrongs
 use Rattle.patterns.specs.contracts.Shows.{Least, ExactTables}
 use Rattle.patterns.specs.contracts.Shows as Decided
-use Rattle.patterns.specs.contracts.LowestWrong.{LowestWrong}
+use Rattle.patterns.specs.contracts.LowestWrong.{LowestBreach}
 use Rattle.languages.specs.contracts.Tables.{SetsAre}
 use Rattle.shows.specs.declared.TemplateTables.{TemplateTables}
 use Rattle.shows.specs.declared.Showing.{Showing}
@@ -46,17 +48,17 @@ module _ (π : Script) (E : ℕ → Environment) (p : ℕ) where
     pub at : NotRootAt π E p t
     pub lowest : (t′ : ℕ) → NotRootAt π E p t′ → t ≤ t′
 
-  -- 12: there is no such root, and this is the lowest element that is wrong in some page.
-  pub record FoundWrong (t at : ℕ) : Type 0 where
+  -- 12, 14 or 15: there is no such root, and this is the lowest element that is wrong in some page, with the breach that is told.
+  pub record FoundWrong (t at : ℕ) (b : Breach) : Type 0 where
     pub no-root : (t′ : ℕ) → NotRootAt π E p t′ → ⊥
-    pub wrong : WrongIn π E p t at
-    pub lowest : (t′ at′ : ℕ) → WrongIn π E p t′ at′ → at ≤ at′
+    pub told : FirstBreach (WrongIn π E p t at) b
+    pub lowest : (t′ at′ : ℕ) (b′ : Breach) → WrongIn π E p t′ at′ b′ → at ≤ at′
 
   -- What is found at a point.
   abbrev pub ShowFound : Shown → Type 0
   ShowFound Right = ShowHolds π E p
   ShowFound (NotRoot t) = FoundNotRoot t
-  ShowFound (Wrong t at) = FoundWrong t at
+  ShowFound (Wrong t at b) = FoundWrong t at b
 
 -- What is known at a point of a job: where its entries stand, and the gaps of all templates.
 pub record PointKept (s heads gaps : List ℕ) (p : ℕ) (j : Job) : Type 0 where
@@ -140,10 +142,10 @@ LowestRoot roots classes count r = Least (λ n. (n ≤ count) × (isOther roots 
 
 abbrev pub shownOf : Wrongs.Wrong → Shown
 shownOf Wrongs.the-variants.Nowhere = Right
-shownOf (Wrongs.the-variants.At t at) = Wrong t at
+shownOf (Wrongs.the-variants.At t at b) = Wrong t at b
 
 -- The lowest element that is wrong in some page, where the classes of the pages of each template are given.
 abbrev pub WrongElements : List ℕ → Tables → TemplateTables → ℕ → List ℕ → List ℕ → List (List ℕ) → Wrongs.Wrong → Type 0
 WrongElements s rules templates count starts graph classes r = (j : Job) (p : ℕ) (A : ShowAt s rules templates count starts graph j p)
     (T : Decided.Tables) → ExactTables (j .script .templates) (A .shown) (j .script .vocabulary) T → SetsAre (j .script .templates) (rootMorphism (j .script .vocabulary .root)) (T .classes) classes
-    → LowestWrong (WrongIn (j .script) (entries (j .proposal)) p) r
+    → LowestBreach (WrongIn (j .script) (entries (j .proposal)) p) r

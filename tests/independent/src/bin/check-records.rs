@@ -1,4 +1,4 @@
-//! check-records [before-F-5]
+//! check-records [before-F-5|before-F-6]
 //!
 //! Job records from standard input, a verdict a line.
 

@@ -2,7 +2,7 @@
 
 use independent::apart;
 use independent::blank::assert_only_moves;
-use independent::closing::Closing;
+use independent::landed::Landed;
 use independent::random::Random;
 use independent::records::{line, push};
 use independent::{check, job_limits};
@@ -19,7 +19,7 @@ fn main() -> std::io::Result<()> {
         push(&mut records, &job);
         let verdict = check(&job);
         assert_only_moves(&job, verdict, check);
-        apart::assert_alike(&mut random, &job, Closing::Absence);
+        apart::assert_alike(&mut random, &job, Landed::NOW);
         verdicts.push_str(&line(verdict));
     }
     std::fs::write(records_path, records)?;

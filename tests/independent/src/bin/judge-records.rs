@@ -1,4 +1,4 @@
-//! judge-records [before-F-5]
+//! judge-records [before-F-5|before-F-6]
 //!
 //! Page records from standard input, a verdict a line.
 

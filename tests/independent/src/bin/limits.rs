@@ -1,6 +1,7 @@
 //! limits OUT.bin OUT.verdicts
 
 use independent::blank::assert_only_moves;
+use independent::exhaustive::assert_page;
 use independent::records::{line, push};
 use independent::{judge, page_limits};
 
@@ -16,6 +17,7 @@ fn main() -> std::io::Result<()> {
         push(&mut records, &record.page);
         let verdict = record.verdict();
         assert_only_moves(&record.page, verdict, |page| judge(&record.vocabulary, page));
+        assert_page(&record.vocabulary, &record.page, verdict);
         verdicts.push_str(&line(verdict));
     }
     std::fs::write(records_path, records)?;

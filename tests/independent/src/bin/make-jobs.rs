@@ -1,4 +1,4 @@
-//! make-jobs SEED COUNT OUT.bin OUT.verdicts [blank|frames|absent]
+//! make-jobs SEED COUNT OUT.bin OUT.verdicts [blank|frames|absent|kinds]
 //!
 //! Each job that reads is checked without its blank text besides, with each of its framed shows taken apart, and each of
 //! its shows by the pages of its language. Accepted jobs are run, and every page that they show is judged.
@@ -11,10 +11,10 @@ use independent::reader::LONGEST;
 use independent::records::line;
 use independent::trials::Trials;
 
-const USAGE: &str = "make-jobs SEED COUNT OUT.bin OUT.verdicts [blank|frames|absent]";
+const USAGE: &str = "make-jobs SEED COUNT OUT.bin OUT.verdicts [blank|frames|absent|kinds]";
 
 fn main() -> std::io::Result<()> {
-    let mut making = Making::from_arguments(USAGE, &[Much::Blank, Much::Frames, Much::Absent]);
+    let mut making = Making::from_arguments(USAGE, &[Much::Blank, Much::Frames, Much::Absent, Much::Kinds]);
     let mut trials = Trials::default();
     for index in 0..making.count {
         let job = match index {

@@ -5,8 +5,8 @@
 
 use independent::apart::Apart;
 use independent::blank::without;
-use independent::closing::Closing;
 use independent::job::Job;
+use independent::landed::Landed;
 use independent::making::{Making, Much};
 use independent::random::Random;
 use independent::random_scripts::{of_length, script};
@@ -18,7 +18,7 @@ const USAGE: &str = "make-scripts SEED COUNT OUT.bin OUT.lines [blank|frames|abs
 fn main() -> std::io::Result<()> {
     let mut making = Making::from_arguments(USAGE, &[Much::Blank, Much::Frames, Much::Absent]);
     let mut lent = Lent::default();
-    let mut older = Lent::of(Closing::StringZero);
+    let mut older = Lent::of(Landed::F4);
     let mut apart = 0;
     for index in 0..making.count {
         // One as long as can be and one too long; more of them would fill the file.
@@ -29,11 +29,11 @@ fn main() -> std::io::Result<()> {
         let line = lent.line(&script);
         if line.starts_with("ok") {
             assert_eq!(lent.line(&without(&script)), line, "{script:02X?}");
-            apart += take_apart(&mut making.trials, &mut lent, Closing::Absence, &script);
+            apart += take_apart(&mut making.trials, &mut lent, Landed::NOW, &script);
         }
         // The choices that follow hang on it.
-        if making.much.closing() == Closing::StringZero && older.infer(&script).is_ok() {
-            take_apart(&mut making.random, &mut older, Closing::StringZero, &script);
+        if making.much.landed() == Landed::F4 && older.infer(&script).is_ok() {
+            take_apart(&mut making.random, &mut older, Landed::F4, &script);
         }
         making.add(&[&script], &line);
     }
@@ -42,10 +42,10 @@ fn main() -> std::io::Result<()> {
 }
 
 /// Panics where the proposal, a show or a page differs once a framed show is taken apart. Tells how many there were.
-fn take_apart(random: &mut Random, lent: &mut Lent, closing: Closing, script: &[u8]) -> usize {
+fn take_apart(random: &mut Random, lent: &mut Lent, landed: Landed, script: &[u8]) -> usize {
     let bytes = [script, lent.infer(script).unwrap()].concat();
     // Together they may be too long.
-    let Ok(job) = Job::read_as(&bytes, closing) else { return 0 };
+    let Ok(job) = Job::read_as(&bytes, landed) else { return 0 };
     let mut count = 0;
     for point in 0..job.program.points.len() {
         let Some(apart) = Apart::new(&bytes, &job, point) else { continue };

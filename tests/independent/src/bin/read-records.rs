@@ -1,4 +1,4 @@
-//! read-records [before-F-5]
+//! read-records [before-F-5|before-F-6]
 //!
 //! Job records from standard input, the verdict on reading a line.
 

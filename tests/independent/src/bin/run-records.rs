@@ -1,4 +1,4 @@
-//! run-records [before-F-5]
+//! run-records [before-F-5|before-F-6]
 //!
 //! Records of a job and a list of choices from standard input, the pages that the run shows a line.
 

@@ -7,17 +7,17 @@ use borrow.Author.Tests.{not-true, not-false}
 use Rattle.commands.proofs.Laws.{past-over, past-other}
 use Rattle.judging.specs.contracts.Promises.{tableAtoms}
 use Rattle.judging.proofs.Shapes.{table-shaped, Meeting, all-met, none-more, one-fails, one-more, one-settled, end-settled}
-use Rattle.judging.proofs.all_hold.Statement.{statement}
-use Rattle.judging.proofs.all_hold.Tie as tie
+use Rattle.judging.proofs.first_failing.Statement.{statement}
+use Rattle.judging.proofs.first_failing.Tie as tie
 
 abbrev Inv-loop : tie.InvT-loop
-Inv-loop v to shape strings order place₀ settled₀ place settled = Meeting (tableAtoms shape strings order) shape v (place₀ .at) (place .at) settled
+Inv-loop v to shape strings order here₀ place₀ settled₀ here place settled = Meeting (tableAtoms shape strings order) shape v (here₀ .at) (here .at) place settled
 
 abbrev μ-loop : tie.MeasureT-loop
-μ-loop v to shape strings order place₀ settled₀ place settled = length v - place .at
+μ-loop v to shape strings order here₀ place₀ settled₀ here place settled = length v - here .at
 
 loop-holds : tie.Need-loop-holds Inv-loop μ-loop
-loop-holds c = record { left = λ b h. h; settles = λ B S h. h }
+loop-holds c = record { few = omega arith; left = λ o h. h; settles = λ B S h. h }
 
 past-requires : tie.Need-past-requires Inv-loop μ-loop
 past-requires c κs = search needs
@@ -45,6 +45,11 @@ returns-2 c =
     let h = c .before .before .holds in
     (one-fails (l .inv) S (o .1) (o .2) (h .ensures .1) (not-true _ (c .if2 .taken)), end-settled _ _ _ (omega arith))
 
+add-place : tie.Need-add-place Inv-loop μ-loop
+add-place c =
+    let o = past-over _ _ _ _ _ (c .before .before .before .before .before .before .before .past .ensures) (c .before .before .before .before .before .past2 .given .1) in
+    omega (arith, o .0, c .before .before .before .before .before .before .before .before .before .before .loop .inv .few, c .before .before .before .before .before .before .before .before .before .before .before .before .good .0 .1)
+
 loop-less : tie.Need-loop-less Inv-loop μ-loop
 loop-less c =
     let o = past-over _ _ _ _ _ (c .before .before .before .before .before .before .before .before .past .ensures) (c .before .before .before .before .before .before .past2 .given .1) in
@@ -55,7 +60,7 @@ loop-again c =
     let a = c .before .before .before .before .before .before .before .before .before .before .before .before .before .args in
     let o = past-over _ _ _ _ _ (c .before .before .before .before .before .before .before .before .past .ensures) (c .before .before .before .before .before .before .past2 .given .1) in
     let S = table-shaped (a .shape) (a .strings .now) (a .order .now) in
-    one-more (c .before .before .before .before .before .before .before .before .before .before .before .loop .inv) S (o .1) (o .2) (c .before .before .before .before .holds .ensures .1) (not-false _ (c .before .before .if2 .left))
+    one-more (c .before .before .before .before .before .before .before .before .before .before .before .loop .inv) S (o .1) (o .2) (c .before .before .before .before .holds .ensures .1) (not-false _ (c .before .before .if2 .left)) (omega (arith, o .0, o .2, c .before .before .before .before .holds .ensures .0))
 
 is-settled-requires : tie.Need-is-settled-requires Inv-loop μ-loop
 is-settled-requires c κs = search needs
@@ -70,7 +75,7 @@ loop-again-2 c =
     let a = c .before .before .before .before .before .before .before .before .before .before .before .before .before .before .before .before .args in
     let o = past-over _ _ _ _ _ (c .before .before .before .before .before .before .before .before .before .before .before .past .ensures) (c .before .before .before .before .before .before .before .before .before .past2 .given .1) in
     let S = table-shaped (a .shape) (a .strings .now) (a .order .now) in
-    one-more (c .before .before .before .before .before .before .before .before .before .before .before .before .before .before .loop .inv) S (o .1) (o .2) (c .before .before .before .before .before .before .before .holds .ensures .1) (not-false _ (c .before .before .before .before .before .if2 .left))
+    one-more (c .before .before .before .before .before .before .before .before .before .before .before .before .before .before .loop .inv) S (o .1) (o .2) (c .before .before .before .before .before .before .before .holds .ensures .1) (not-false _ (c .before .before .before .before .before .if2 .left)) (omega (arith, o .0, o .2, c .before .before .before .before .before .before .before .holds .ensures .0))
 
 loop-less-3 : tie.Need-loop-less-3 Inv-loop μ-loop
 loop-less-3 c =
@@ -82,15 +87,15 @@ loop-again-3 c =
     let a = c .before .before .before .before .before .before .before .before .before .before .before .before .before .before .before .before .args in
     let o = past-over _ _ _ _ _ (c .before .before .before .before .before .before .before .before .before .before .before .past .ensures) (c .before .before .before .before .before .before .before .before .before .past2 .given .1) in
     let S = table-shaped (a .shape) (a .strings .now) (a .order .now) in
-    one-settled (c .before .before .before .before .before .before .before .before .before .before .before .before .before .before .loop .inv) S (o .1) (o .2) (c .before .before .before .before .before .before .before .holds .ensures .1) (not-false _ (c .before .before .before .before .before .if2 .left)) (c .before .before .is-settled .ensures .1) (not-false _ (c .if4 .left))
+    one-settled (c .before .before .before .before .before .before .before .before .before .before .before .before .before .before .loop .inv) S (o .1) (o .2) (c .before .before .before .before .before .before .before .holds .ensures .1) (not-false _ (c .before .before .before .before .before .if2 .left)) (omega (arith, o .0, o .2, c .before .before .before .before .before .before .before .holds .ensures .0)) (c .before .before .is-settled .ensures .1) (not-false _ (c .if4 .left))
 
 returns-3 : tie.Need-returns-3 Inv-loop μ-loop
 returns-3 c =
     let a = c .before .before .before .before .args in
     all-met (c .before .before .loop .inv) (table-shaped (a .shape) (a .strings .now) (a .order .now)) (rw (c .if1 .left) (c .before .before .before .before .pre))
 
-pub all-hold-spec : {M : Type 1} → statement M
-all-hold-spec =
+pub first-failing-spec : {M : Type 1} → statement M
+first-failing-spec =
     tie.close
     (tie.spec
     Inv-loop
@@ -102,6 +107,7 @@ all-hold-spec =
     returns
     holds-requires
     returns-2
+    add-place
     loop-less
     loop-again
     is-settled-requires

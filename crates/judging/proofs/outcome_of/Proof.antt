@@ -2,8 +2,8 @@
 use Rattle.judging.proofs.Rules.{names-fail, contents-fail, clauses-decide}
 use borrow.Author.Needs.{needs}
 use borrow.Author.Tests.{not-true, not-false}
-use Rattle.judging.proofs.is_right.Statement.{statement}
-use Rattle.judging.proofs.is_right.Tie as tie
+use Rattle.judging.proofs.outcome_of.Statement.{statement}
+use Rattle.judging.proofs.outcome_of.Tie as tie
 
 is-within-requires : tie.Need-is-within-requires
 is-within-requires c κs = search needs
@@ -28,23 +28,23 @@ shape-place-requires c κs = search needs
 settled-from-requires : tie.Need-settled-from-requires
 settled-from-requires c κs = (c .before .shape-place .ensures, c .before .before .before .before .before .before .before .before .pre)
 
-all-hold-requires : tie.Need-all-hold-requires
-all-hold-requires c κs = c .settled-from .ensures
+first-failing-requires : tie.Need-first-failing-requires
+first-failing-requires c κs = c .settled-from .ensures
 
 remember-requires : tie.Need-remember-requires
-remember-requires c κs = (c .before .before .before .before .shape-place .ensures, c .before .before .before .before .before .before .before .before .before .before .before .pre, c .before .all-hold .ensures .1)
+remember-requires c κs = (c .before .before .before .before .shape-place .ensures, c .before .before .before .before .before .before .before .before .before .before .before .pre, c .before .first-failing .ensures .1)
 
 returns-3 : tie.Need-returns-3
 returns-3 c =
     let w = c .before .before .before .before .before .before .before .before .before .before .is-within in
     let u = c .before .before .before .before .before .before .before .before .is-within2 in (
-      clauses-decide _ _ _ _ _ _ _ (w .ensures) (not-false (w .result) (c .before .before .before .before .before .before .before .before .before .if1 .left)) (u .ensures) (not-false (u .result) (c .before .before .before .before .before .before .before .if2 .left)) _
-          (c .before .before .all-hold .ensures .0),
+      clauses-decide _ _ _ _ _ _ _ (w .ensures) (not-false (w .result) (c .before .before .before .before .before .before .before .before .before .if1 .left)) (u .ensures) (not-false (u .result) (c .before .before .before .before .before .before .before .if2 .left))
+          (c .before .before .first-failing .result .outcome) (c .before .before .first-failing .ensures .0),
       c .remember .ensures,
     )
 
-pub is-right-spec : {M : Type 1} → statement M
-is-right-spec =
+pub outcome-of-spec : {M : Type 1} → statement M
+outcome-of-spec =
     tie.close
     (tie.spec
     is-within-requires
@@ -53,6 +53,6 @@ is-right-spec =
     returns-2
     shape-place-requires
     settled-from-requires
-    all-hold-requires
+    first-failing-requires
     remember-requires
     returns-3)
