@@ -13,8 +13,8 @@
 #include <stdint.h>
 
 /* Bytes of stack that are enough for each call, whatever is lent: measured with some to spare, not proved. */
-#define PAGE_CHECK_JOB_STACK 65536
-#define PAGE_CHECK_JUDGE_STACK 458752
+#define PAGE_CHECK_JOB_STACK 81920
+#define PAGE_CHECK_JUDGE_STACK 622592
 #define PAGE_CHECK_INFER_STACK 65536
 
 #ifdef __cplusplus

@@ -124,10 +124,6 @@ module _ (k : Kind) (ruled : ℕ → Bool) (s : List ℕ) where
   pub marks-rise : (f depth at end : ℕ) (φ : Items) → items f k ruled s depth at ≡ whole φ end → Rises at φ end
   marks-rise f depth at end φ = given (items-rise f depth at)
 
-  pub marks-within : (f depth at end mark : ℕ) (φ : Items) → items f k ruled s depth at ≡ whole φ end → Stands mark φ
-      → (at ≤ mark) × (mark < end)
-  marks-within f depth at end mark φ e = within φ at end mark (marks-rise f depth at end φ e)
-
 pub page-marks-rise : (D : Vocabulary) (p : List ℕ) (φ : Items) (end : ℕ) → pageSlice D p ≡ whole φ end → Rises 0 φ end
 unfolding pageSlice
 page-marks-rise D p φ end = given (gives-alone p (items-rise Page (declared (D .rules)) p (enough p) 0 0))
@@ -148,9 +144,6 @@ module _ (ruled : ℕ → Bool) (s : List ℕ) where
       (λ _ _. gives-then (items-rise Template ruled s f 0 next) λ φ after m. gives-then (templates-rise f (count + 1) after) λ φs end n.
       gives (after, rises-from φ at next after (omega arith) m, n))
       (λ _ _. refuses))
-
-  pub template-marks-rise : (f count at end : ℕ) (φs : List Items) → templates f ruled s count at ≡ whole φs end → AllRise at φs end
-  template-marks-rise f count at end φs = given (templates-rise f count at)
 
 all-rise-le : (φs : List Items) (low high : ℕ) → AllRise low φs high → low ≤ high
 unfolding AllRise

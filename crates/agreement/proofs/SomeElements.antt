@@ -1,7 +1,7 @@
 -- Some element of items, at any depth, as P says.
 use Prim.Native.Nat.{ℕ, _+_}
 use native.Mathlib.Omega.{arith}
-use mathlib.Core.Path.{_≡_}
+use mathlib.Core.Path.{_≡_, refl}
 use mathlib.Core.List.{List}
 use mathlib.Core.Logic.{inl, inr}
 use Rattle.pages.specs.Items.{Attribute, Item, text, blank, gap, element, Items, none, more}
@@ -45,6 +45,23 @@ module _ (P : Saying) {Q : Type 0} (to : (e mark : ℕ) (δ : List Attribute) (�
     item-some-then (gap g) s = absurd s
     item-some-then (element e mark δ φ) (inl p) = to e mark δ φ p
     item-some-then (element e mark δ φ) (inr s) = some-then φ s
+
+-- What follows for it where something is said of all names.
+module _ (ruled : ℕ → Type 0) (P : Saying) where
+  mutual
+    unfolding SomeElement
+
+    pub some-named : (φ : Items) → ((e : ℕ) → SomeElement (λ e′ mark δ χ. e′ ≡ e) φ → ruled e) → SomeElement P φ → SomeElement (λ e mark δ χ. ruled e × P e mark δ χ) φ
+    some-named none h s = absurd s
+    some-named (more i φ) h (inl s) = inl (item-some-named i (λ e t. h e (inl t)) s)
+    some-named (more i φ) h (inr s) = inr (some-named φ (λ e t. h e (inr t)) s)
+
+    item-some-named : (i : Item) → ((e : ℕ) → SomeElementOf (λ e′ mark δ χ. e′ ≡ e) i → ruled e) → SomeElementOf P i → SomeElementOf (λ e mark δ χ. ruled e × P e mark δ χ) i
+    item-some-named text h s = absurd s
+    item-some-named blank h s = absurd s
+    item-some-named (gap g) h s = absurd s
+    item-some-named (element e mark δ φ) h (inl p) = inl (h e (inl refl), p)
+    item-some-named (element e mark δ φ) h (inr s) = inr (some-named φ (λ c t. h c (inr t)) s)
 
 -- One of which this is said for some a.
 module _ {A : Type 0} (P : A → Saying) where

@@ -20,7 +20,7 @@ use Rattle.patterns.proofs.ReadVocabularies.{Bytes}
 use Rattle.patterns.proofs.ReadJobs.{GivenShows, job-given}
 use Rattle.as_before.specs.Before.{PageVerdictBefore, ScriptVerdictBefore, JobVerdictBefore, OfElement, SameButElements}
 use Rattle.as_before.specs.Before as Before
-use Rattle.as_before.proofs.Elements.{form-other, no-element, of-element, told-in-page, told-at-show}
+use Rattle.as_before.proofs.Elements.{form-other, no-element, of-element, wrong-not-right-at, below-in-page, lowest-in-page, told-in-page, was-at-show, below-at-show, lowest-at-show, told-at-show}
 
 -- What one verdict is now: the same, or a wrong element at the same point and offset.
 data NowOf (Is : Numbers → Type 0) (v : Numbers) : Type 0 where
@@ -78,16 +78,17 @@ module _ (v p : List ℕ) where
   page-to _ (Before.unreadable-vocabulary {f = f} e) = unmoved (form-other f) (NowPage.unreadable-vocabulary e)
   page-to _ (Before.unreadable-page {f = f} e e′) = unmoved (form-other f) (NowPage.unreadable-page e e′)
   page-to _ (Before.not-root R n) = unmoved (no-element 11 (λ e. omega arith) (λ e. omega arith) (λ e. omega arith)) (NowPage.not-root R n)
-  page-to _ (Before.wrong-element {at = at} b R a w l) =
-      let (c, f) = told-in-page at b R w l in
-      moved c 0 refl (NowPage.wrong-element R a f l)
+  page-to _ (Before.wrong-element {at = at} R a w l) =
+      let (c, f) = told-in-page R at w l in
+      moved c 0 refl (NowPage.wrong-element R a f (below-in-page R at l))
   page-to _ (Before.accepted R r) = unmoved (no-element 0 (λ e. omega arith) (λ e. omega arith) (λ e. omega arith)) (NowPage.accepted R r)
 
   page-back : (n : Numbers) → PageVerdict v p n → BeforeOf (PageVerdictBefore v p) n
   page-back _ (NowPage.unreadable-vocabulary {f = f} e) = unmoved-since (form-other f) (Before.unreadable-vocabulary e)
   page-back _ (NowPage.unreadable-page {f = f} e e′) = unmoved-since (form-other f) (Before.unreadable-page e e′)
   page-back _ (NowPage.not-root R n) = unmoved-since (no-element 11 (λ e. omega arith) (λ e. omega arith) (λ e. omega arith)) (Before.not-root R n)
-  page-back _ (NowPage.wrong-element {at = at} {b = b} R a f l) = was 0 0 at b (Before.wrong-element b R a (first-told f) l)
+  page-back _ (NowPage.wrong-element {D = D} {page = page} {at = at} {b = b} R a f l) =
+      was 0 0 at b (Before.wrong-element R a (wrong-not-right-at D page at b (first-told f)) (lowest-in-page R at l))
   page-back _ (NowPage.accepted R r) = unmoved-since (no-element 0 (λ e. omega arith) (λ e. omega arith) (λ e. omega arith)) (Before.accepted R r)
 
   -- Of pages.
@@ -101,16 +102,17 @@ module _ (π : Script) (E : ℕ → Environment) (read : GivenShows π E) where
   script-to _ (Before.start-uncovered h n b) = unmoved (no-element 9 (λ e. omega arith) (λ e. omega arith) (λ e. omega arith)) (Now.start-uncovered h n b)
   script-to _ (Before.step-uncovered second starts h n b) = unmoved (no-element 10 (λ e. omega arith) (λ e. omega arith) (λ e. omega arith)) (Now.step-uncovered second starts h n b)
   script-to _ (Before.not-root c shows n l) = unmoved (no-element 11 (λ e. omega arith) (λ e. omega arith) (λ e. omega arith)) (Now.not-root c shows n l)
-  script-to _ (Before.wrong-element {p = p} {t = t} {at = at} b c shows n w l) =
-      let (u, k, f) = told-at-show π E read p t at b n w l in
-      moved k u refl (Now.wrong-element c shows n f l)
+  script-to _ (Before.wrong-element {p = p} {t = t} {at = at} c shows n w l) =
+      let (u, k, f) = told-at-show π E read p t at n w l in
+      moved k u refl (Now.wrong-element c shows n f (below-at-show π E read p at l))
   script-to _ (Before.accepted c shows) = unmoved (no-element 0 (λ e. omega arith) (λ e. omega arith) (λ e. omega arith)) (Now.accepted c shows)
 
   script-back : (n : Numbers) → ScriptVerdict π E n → BeforeOf (ScriptVerdictBefore π E) n
   script-back _ (Now.start-uncovered h n b) = unmoved-since (no-element 9 (λ e. omega arith) (λ e. omega arith) (λ e. omega arith)) (Before.start-uncovered h n b)
   script-back _ (Now.step-uncovered second starts h n b) = unmoved-since (no-element 10 (λ e. omega arith) (λ e. omega arith) (λ e. omega arith)) (Before.step-uncovered second starts h n b)
   script-back _ (Now.not-root c shows n l) = unmoved-since (no-element 11 (λ e. omega arith) (λ e. omega arith) (λ e. omega arith)) (Before.not-root c shows n l)
-  script-back _ (Now.wrong-element {p = p} {t = t} {at = at} {b = b} c shows n f l) = was p t at b (Before.wrong-element b c shows n (first-told f) l)
+  script-back _ (Now.wrong-element {p = p} {t = t} {at = at} {b = b} c shows n f l) =
+      was p t at b (Before.wrong-element c shows n (was-at-show π E read p t at b (first-told f)) (lowest-at-show π E read p at l))
   script-back _ (Now.accepted c shows) = unmoved-since (no-element 0 (λ e. omega arith) (λ e. omega arith) (λ e. omega arith)) (Before.accepted c shows)
 
 module _ (s : List ℕ) where

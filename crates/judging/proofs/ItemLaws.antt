@@ -28,7 +28,7 @@ use Rattle.judging.specs.declared.Judged.{Judged}
 use Rattle.judging.specs.declared.Listed.{Listed}
 use Rattle.judging.specs.declared.Named.{Named}
 use Rattle.judging.specs.contracts.Judgement.{breachUnder, orElse, ofElement, firstWrong, firstWrongItem}
-use Rattle.judging.specs.contracts.Promises.{breachOf, stepNext, Counted, Containing, Remembered, Names, TellsOutcome, ruleAt, Tabled, ItemJudged, JudgesItem, ItemsJudged, JudgesItems}
+use Rattle.judging.specs.contracts.Promises.{brokenBy, stepNext, Counted, Containing, Remembered, Names, TellsOutcome, ruleAt, Tabled, ItemJudged, JudgesItem, ItemsJudged, JudgesItems}
 use Rattle.judging.proofs.AttributeLaws.{no-template}
 
 pub or-none : (w : FirstWrong) → orElse w Nowhere ≡ w
@@ -74,7 +74,7 @@ module _ (D : Vocabulary) (p : List ℕ) where
         (named : Named) (strings : List ℕ) (N : Names p (start .at) named strings)
         (list : Listed) (order : List (List ℕ)) (L : JudgesItems D p (named .next .at) list order)
         (outcome : Outcome) (R : TellsOutcome v (ruleAt allowed held from e) (record { names = named .names; contents = list .contents }) strings order outcome) where
-      pub element-judged : JudgesItem D p at (record { next = list .next; wrong = ofElement (breachOf outcome) at (list .wrong) })
+      pub element-judged : JudgesItem D p at (record { next = list .next; wrong = ofElement (brokenBy outcome) at (list .wrong) })
       unfolding firstWrongItem
       element-judged f depth end i reads =
           let P = element-item f Page ruled p depth at i end reads h is e start opens in
@@ -82,7 +82,7 @@ module _ (D : Vocabulary) (p : List ℕ) where
           let n = N (P .fuel) (P .inside) (P .named) (P .reads-attributes) done in
           let l = L (P .fuel) (depth + 1) end (P .contents) (subst (λ (m : ℕ). items (P .fuel) Page ruled p (depth + 1) m ≡ whole (P .contents) end) (sym (n .0)) (P .reads-contents)) in
           let rule = rule-found (ruleOf (D .rules) e) (P .has-rule) in
-          let r : breachOf outcome ≡ breachUnder (rule .0) (P .named) (word (P .contents)) = R (rule .0) (P .named) (word (P .contents)) (l .count) (T e (rule .0) (rule .1)) (n .1) (l .contains) in
+          let r : brokenBy outcome ≡ breachUnder (rule .0) (P .named) (word (P .contents)) = R (rule .0) (P .named) (word (P .contents)) (l .count) (T e (rule .0) (rule .1)) (n .1) (l .contains) in
           rw (P .is-it) (record {
             ends = l .ends;
             finds = rw (rule .1, ← r, l .finds);

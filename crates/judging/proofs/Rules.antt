@@ -24,7 +24,7 @@ use Rattle.judging.specs.declared.Outcome.the-variants.{Breaks}
 use Rattle.judging.specs.declared.Shape.{Shape}
 use Rattle.judging.specs.declared.Rule.{Rule}
 use Rattle.judging.specs.contracts.Judgement.{Atoms, truthOf, atomsOf, allIn, brokenIf, orFirst, firstFailing, isFalse, breachUnder, precedes, holdsValue}
-use Rattle.judging.specs.contracts.Promises.{firstPlace, lastPlace, tableAtoms, breachOf, FirstFails, Naming, Containing, TellsOutcome}
+use Rattle.judging.specs.contracts.Promises.{firstPlace, lastPlace, tableAtoms, brokenBy, FirstFails, Naming, Containing, TellsOutcome}
 use Rattle.judging.proofs.Booleans.{by-test, or-then-right}
 use Rattle.judging.proofs.WordLaws.{none-precedes, precedes-none}
 
@@ -136,6 +136,6 @@ module _ (v : List ℕ) (rule : Rule) (shape : Shape) (strings : List ℕ) (orde
     contents-fail e′ R δ w count T N C =
         contents-wrong δ w shape strings order count N C v R _ _ _ T (subst (MembersWithin (shape .names) (rule .attributes)) e h) (subst (MembersWithin (shape .contents) (rule .contents)) e′ h′)
 
-    pub clauses-decide : u ≡ true → (r : Outcome) → FirstFails (tableAtoms shape strings order) v (rule .clauses .at) 0 (breachOf r) → TellsOutcome v rule shape strings order r
+    pub clauses-decide : u ≡ true → (r : Outcome) → FirstFails (tableAtoms shape strings order) v (rule .clauses .at) 0 (brokenBy r) → TellsOutcome v rule shape strings order r
     clauses-decide e′ r H R δ w count T N C =
-        clauses-tell δ w shape strings order count N C v R _ _ _ T (subst (MembersWithin (shape .names) (rule .attributes)) e h) (subst (MembersWithin (shape .contents) (rule .contents)) e′ h′) (breachOf r) H
+        clauses-tell δ w shape strings order count N C v R _ _ _ T (subst (MembersWithin (shape .names) (rule .attributes)) e h) (subst (MembersWithin (shape .contents) (rule .contents)) e′ h′) (brokenBy r) H

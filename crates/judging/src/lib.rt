@@ -10,7 +10,7 @@ ghost use Rattle.strings.specs.contracts.Promises.{setNumber};
 ghost use Rattle.vocabularies.specs.Vocabulary.{Vocabulary};
 ghost use Rattle.pages.specs.contracts.Steps.{itemHere};
 ghost use Rattle.judging.specs.contracts.Judgement.{orElse, ofElement};
-ghost use Rattle.judging.specs.contracts.Promises.{firstPlace, lastPlace, tableAtoms, breachOf, Holds, Decides, FirstFails, Settled, Remembered, Names, Counted, Containing, TellsOutcome, Tabled, ruleAt, stepNext, JudgesItem, JudgesItems};
+ghost use Rattle.judging.specs.contracts.Promises.{firstPlace, lastPlace, tableAtoms, brokenBy, Holds, Decides, FirstFails, Settled, Remembered, Names, Counted, Containing, TellsOutcome, Tabled, ruleAt, stepNext, JudgesItem, JudgesItems};
 use commands::Past;
 use commands::Position;
 use pages::AttributeHere;
@@ -149,7 +149,7 @@ impl FirstWrong {
 
     // That of an element at an offset: itself, or what is wrong inside it.
     fn of_element(self, outcome: Outcome, at: usize) -> FirstWrong
-        ensures { λ r. ⌜ r ≡ ofElement (breachOf outcome) at self ⌝ }
+        ensures { λ r. ⌜ r ≡ ofElement (brokenBy outcome) at self ⌝ }
     {
         match outcome {
             Outcome::Breaks(breach) => FirstWrong::At { at, breach },
@@ -290,7 +290,7 @@ fn first_failing(
     order: &[[u8; 2]; 64],
 ) -> Met
     requires { ⌜ Settled (now v) shape to ⌝ }
-    ensures truth { λ r. ⌜ FirstFails (tableAtoms shape (now (strings .entry)) (now (order .entry))) (now (v .entry)) (from .at) 0 (breachOf (r .outcome)) ⌝ }
+    ensures first { λ r. ⌜ FirstFails (tableAtoms shape (now (strings .entry)) (now (order .entry))) (now (v .entry)) (from .at) 0 (brokenBy (r .outcome)) ⌝ }
     ensures settled { λ r. ⌜ Settled (now (v .entry)) shape (r .settled) ⌝ }
 {
     let mut here = from;
@@ -405,8 +405,7 @@ fn outcome_of(
     let to = settled_from(v, shapes, place, shape, from.at);
     let met = first_failing(v, from, to, shape, strings, order);
     remember(v, shapes, place, shape, from.at, met.settled);
-    let outcome = met.outcome;
-    outcome
+    met.outcome
 }
 
 // The attributes straight after `23 e`: their names, and in `strings` the string of each.

@@ -24,21 +24,28 @@ use Rattle.agreement.proofs.Ruled.{Ruled}
 use Rattle.agreement.proofs.Pages.{accepted-unless, accepts-right}
 use Rattle.patterns.specs.declared.Wrong.the-variants.{Nowhere}
 use Rattle.patterns.specs.contracts.Given.{Bounded, contents, SoundTemplates, SoundVocabulary}
-use Rattle.patterns.specs.contracts.Reached.{Reached, CanBe}
-use Rattle.patterns.specs.contracts.Elements.{breachOf}
+use Rattle.patterns.specs.contracts.Reached.{Reached}
+use Rattle.patterns.specs.contracts.Elements.{canBreak}
 use Rattle.patterns.specs.contracts.LowestWrong.{LowestWrong, lowestIn}
 use Rattle.patterns.specs.contracts.Shows.{Least, Tables, ExactTables, notRoot, lowestRoot, tested, lowestWrong}
 use Rattle.patterns.proofs.Closed.{derived-no-gap, derived-closed}
 use Rattle.patterns.proofs.NotRoot.{not-root-exact}
 use Rattle.patterns.proofs.Standing.{Made, standing, reached-yields}
 use Rattle.patterns.proofs.Reaching.{reached-there}
-use Rattle.patterns.proofs.WrongElements.{breach-exact}
+use Rattle.patterns.proofs.WrongElements.{CanBreak, breach-exact}
 use Rattle.patterns.proofs.Lowest.{least-iff, none-of, least-none, least-test, least-over}
 use Rattle.patterns.proofs.LowestOf.{Here, lowest-iff, lowest-none, lowest-over, lowest-in, lowest-nowhere, none-found}
 
 -- An element of this mark that is wrong, by this breach.
 abbrev pub WrongBy : Vocabulary → ℕ → Breach → Saying
 WrongBy D at b e mark δ φ = (mark ≡ at) × ElementWrong D e δ φ b
+
+-- Every element of a page of the language has a rule, where each in a template has.
+pub language-ruled : (φs : List Items) (G : Summary) (ruled : ℕ → Bool) → ((n c : ℕ) → SomeElement (λ e mark δ φ. e ≡ c) (templateAt φs n) → ruled c ≡ true)
+    → (page : Items) → Language φs G page → Ruled ruled page
+language-ruled φs G ruled have-rules page l c s =
+    let (n, r, t) = standing φs G (λ e mark δ φ. e ≡ c) .0 (page, l, s) in
+    have-rules n c (some-into (Made φs G (λ e mark δ φ. e ≡ c) n) (λ e mark δ φ. e ≡ c) (λ e mark δ φ (δ′, φ′, a, d, q). q) (templateAt φs n) t)
 
 module _ (φs : List Items) (G : Summary) where
   -- An element of template n whose gaps can be filled, that has no attribute twice, and whose contents have names in range.
@@ -97,11 +104,8 @@ module _ (φs : List Items) (G : Summary) (bounded : Bounded φs G) (D : Vocabul
           → (i : ℕ) × (i < suc (length φs)) × ((i ≡ r) × (notRoot G (T .classes) i ≡ true))
       back r h = (r, (let le = bounded .roots r (h .1 .0) in omega arith), (refl, decides r .1 h))
 
-  abbrev CanBreakHere : ℕ → ℕ → List Attribute → Items → Breach → Type 0
-  CanBreakHere n e δ φ b = CanBe φs G n δ φ (λ δ′ φ′. ElementWrong D e δ′ φ′ b)
-
   element-decided : (n e : ℕ) (δ : List Attribute) (φ : Items) → Fillable φs G n δ φ
-      → BreachFound (CanBreakHere n e δ φ) (breachOf φs G (T .clauses) (T .contents) D n e δ φ)
+      → BreachFound (CanBreak φs G D n e δ φ) (canBreak φs G (T .clauses) (T .contents) D n e δ φ)
   element-decided n e δ φ f =
       breach-exact φs G bounded (templates .in-range) (T .clauses) (T .contents) (exact .contents) n δ (f .attributes) φ (f .inside)
       (f .attributes-fill) (f .inside-fills) (f .once) (f .small) D e
@@ -115,10 +119,10 @@ module _ (φs : List Items) (G : Summary) (bounded : Bounded φs G) (D : Vocabul
 
   -- Of an element that is tested, the first breach in any page is told.
   abbrev pub Telling : ℕ → ℕ → Breach → Saying
-  Telling n at b e mark δ φ = (mark ≡ at) × FirstBreach (CanBreakHere n e δ φ) b
+  Telling n at b e mark δ φ = (mark ≡ at) × FirstBreach (CanBreak φs G D n e δ φ) b
 
-  found-first : {W : Breach → Type 0} {b : Breach} → BreachFound W (some b) → FirstBreach W b
-  found-first (breaks f) = f
+  told-if : {W : Breach → Type 0} {b : Breach} → BreachFound W (some b) → FirstBreach W b
+  told-if (breaks f) = f
 
   pub tested-told : (n at : ℕ) (b : Breach) → Tested n at b → Reached φs G n × SomeElement (Telling n at b) (templateAt φs n)
   tested-told n at b t =
@@ -126,7 +130,7 @@ module _ (φs : List Items) (G : Summary) (bounded : Bounded φs G) (D : Vocabul
       let (page, d) = reached-yields φs G r in (
         r,
         some-map φs G (λ n e mark δ φ. (mark ≡ at) × (tested φs G D T n e mark δ φ ≡ some b)) (λ n. Telling n at b)
-            (λ n e mark δ φ f (q, h). (q, found-first (subst (BreachFound (CanBreakHere n e δ φ)) h (element-decided n e δ φ f))))
+            (λ n e mark δ φ f (q, h). (q, told-if (subst (BreachFound (CanBreak φs G D n e δ φ)) h (element-decided n e δ φ f))))
             d (templates .in-range n) (templates .once n) (t .element),
       )
 
@@ -175,12 +179,6 @@ module _ (φs : List Items) (G : Summary) (bounded : Bounded φs G) (D : Vocabul
       to : (n at : ℕ) (b : Breach) → (i : ℕ) × (i < suc (length φs)) × ((T .reached i ≡ true) × Here i (tested φs G D T i) (templateAt φs i) n at b) → Tested n at b
       to n at b (i, h, (r, (e, s))) = subst (λ (k : ℕ). Tested k at b) (sym e) (record { there = omega arith; is-reached = r; element = s })
 
-  -- Every element of a page of the language has a rule.
-  page-ruled : (page : Items) → Language φs G page → Ruled (declared (D .rules)) page
-  page-ruled page l c s =
-      let (n, r, t) = standing φs G (λ e mark δ φ. e ≡ c) .0 (page, l, s) in
-      templates .have-rules n c (some-into (Made φs G (λ e mark δ φ. e ≡ c) n) (λ e mark δ φ. e ≡ c) (λ e mark δ φ (δ′, φ′, a, d, q). q) (templateAt φs n) t)
-
   -- Every page of the language is right if and only if no root gives 11 and no element is wrong.
   pub all-right : ((page : Items) → Language φs G page → Right D page) ↔ ((lowestRoot φs G D T ≡ none) × (lowestWrong φs G D T ≡ Nowhere))
   all-right = (to, back)
@@ -201,7 +199,7 @@ module _ (φs : List Items) (G : Summary) (bounded : Bounded φs G) (D : Vocabul
       back : (lowestRoot φs G D T ≡ none) × (lowestWrong φs G D T ≡ Nowhere) → (page : Items) → Language φs G page → Right D page
       back (no-root, no-mark) page (r, (g, d)) = record {
         alone = alone-or page (decided-alone D page) (λ n. none-of (subst (Least _) no-root lowest-root) r (page, (g, d), n));
-        accepted = accepted-unless D page (derived-no-gap φs G d) (page-ruled page (r, (g, d)))
+        accepted = accepted-unless D page (derived-no-gap φs G d) (language-ruled φs G (declared (D .rules)) (templates .have-rules) page (r, (g, d)))
             (λ at b w. let (n, c, t) = wrong-tested page at b (r, (g, d)) w in none-found (subst (LowestWrong _) no-mark lowest-tested) n at c t);
         gapless = derived-closed φs G d;
       }

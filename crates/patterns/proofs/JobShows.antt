@@ -5,7 +5,7 @@ use mathlib.Core.Path.{_≡_, refl, subst}
 use mathlib.Core.Option.{Option, some, none}
 use mathlib.Core.Logic.{_↔_}
 use Rattle.verdicts.specs.declared.Breach.{Breach}
-use Rattle.pages.specs.RightPages.{SomeElement, ElementWrong, WrongAt, FirstBreach}
+use Rattle.pages.specs.RightPages.{SomeElement, WrongAt, FirstBreach}
 use Rattle.programs.specs.Program.{templateAt}
 use Rattle.summaries.specs.Summaries.{Summary, Environment}
 use Rattle.summaries.specs.Languages.{Language, DerivedFrom, graphShown}
@@ -18,7 +18,6 @@ use Rattle.agreement.proofs.JobVerdicts.{marked-apart}
 use Rattle.patterns.specs.declared.Wrong.{Wrong}
 use Rattle.patterns.specs.declared.Wrong.the-variants.{Nowhere}
 use Rattle.patterns.specs.contracts.Given.{Bounded}
-use Rattle.patterns.specs.contracts.Reached.{CanBe}
 use Rattle.patterns.specs.contracts.LowestWrong.{LowestWrong, lowest, LowestBreach, nowhere-wrong, lowest-wrong}
 use Rattle.patterns.specs.contracts.LowestWrong as LowestWrong
 use Rattle.patterns.specs.contracts.Shows.{Least, Tables, ExactTables, lowestRoot, lowestWrong}
@@ -26,6 +25,7 @@ use Rattle.patterns.proofs.Standing.{Made, standing}
 use Rattle.patterns.proofs.Lowest.{least-iff, least-of, least-below, none-of}
 use Rattle.patterns.proofs.Settling.{worked-out}
 use Rattle.patterns.proofs.ReadJobs.{GivenShows}
+use Rattle.patterns.proofs.WrongElements.{CanBreak}
 use Rattle.patterns.proofs.Decided.{WrongBy, Tested, tested-told, told-made, wrong-tested, lowest-tested, lowest-root, all-right}
 
 -- A point that shows nothing.
@@ -35,9 +35,6 @@ module _ (π : Script) (E : ℕ → Environment) (p : ℕ) (shows : graphShown (
 
   pub nothing-shown : ShowHolds π E p
   nothing-shown G e = absurd (never G e)
-
-  pub no-other-page : (t : ℕ) → NotRootAt π E p t → ⊥
-  no-other-page t N = never (N .graph) (N .shows)
 
 module _ (π : Script) (E : ℕ → Environment) (read : GivenShows π E) (p : ℕ) (G : Summary) (shows : graphShown (π .templates) (π .program) E p ≡ some G) (T : Tables)
     (exact : ExactTables (π .templates) G (π .vocabulary) T) where
@@ -85,7 +82,7 @@ module _ (π : Script) (E : ℕ → Environment) (read : GivenShows π E) (p : �
   -- What is wrong in some page at the offset of an element that is found comes of this element: an offset has one element.
   same-element : (t at : ℕ) (P : Saying) → SomeElement (λ e mark δ φ. (mark ≡ at) × P e mark δ φ) (templateAt (π .templates) t)
       → (u : ℕ) (c : Breach) → WrongIn π E p u at c
-      → SomeElement (λ e mark δ φ. (mark ≡ at) × (P e mark δ φ × CanBe (π .templates) G t δ φ (λ δ′ φ′. ElementWrong (π .vocabulary) e δ′ φ′ c))) (templateAt (π .templates) t)
+      → SomeElement (λ e mark δ φ. (mark ≡ at) × (P e mark δ φ × CanBreak (π .templates) G (π .vocabulary) t e δ φ c)) (templateAt (π .templates) t)
   unfolding WrongAt
   same-element t at P s u c W =
       let (n, r, made) = standing (π .templates) G (WrongBy (π .vocabulary) at c) .0 (W .page, in-language u at c W, W .wrong) in
@@ -93,20 +90,20 @@ module _ (π : Script) (E : ℕ → Environment) (read : GivenShows π E) (p : �
       let stands′ = some-into (Made (π .templates) G (WrongBy (π .vocabulary) at c) n) (λ e mark δ φ. mark ≡ at) (λ e mark δ φ (δ′, φ′, a, d, q). q .0) (templateAt (π .templates) n) made in
       let same : n ≡ t = marked-apart π (read .script .marked) at n t stands′ stands in
       let broken = some-into (Made (π .templates) G (WrongBy (π .vocabulary) at c) n)
-      (λ e mark δ φ. (mark ≡ at) × CanBe (π .templates) G n δ φ (λ δ′ φ′. ElementWrong (π .vocabulary) e δ′ φ′ c))
+      (λ e mark δ φ. (mark ≡ at) × CanBreak (π .templates) G (π .vocabulary) n e δ φ c)
       (λ e mark δ φ (δ′, φ′, a, d, q). (q .0, (δ′, φ′, a, d, q .1))) (templateAt (π .templates) n) made in
       let (from, to, rises) = template-rises (π .templates) (read .script .marked .0) (read .script .marked .1) t (read .script .marked .2) in
-      one-element at P (λ e mark δ φ. CanBe (π .templates) G t δ φ (λ δ′ φ′. ElementWrong (π .vocabulary) e δ′ φ′ c)) (templateAt (π .templates) t) from to rises s
-      (subst (λ (k : ℕ). SomeElement (λ e mark δ φ. (mark ≡ at) × CanBe (π .templates) G k δ φ (λ δ′ φ′. ElementWrong (π .vocabulary) e δ′ φ′ c)) (templateAt (π .templates) k)) same broken)
+      one-element at P (λ e mark δ φ. CanBreak (π .templates) G (π .vocabulary) t e δ φ c) (templateAt (π .templates) t) from to rises s
+      (subst (λ (k : ℕ). SomeElement (λ e mark δ φ. (mark ≡ at) × CanBreak (π .templates) G (π .vocabulary) k e δ φ c) (templateAt (π .templates) k)) same broken)
 
   -- So the breach that the tests tell is the one to be told.
   found-told : (t at : ℕ) (b : Breach) → Found t at b → FirstBreach (WrongIn π E p t at) b
   found-told t at b f = first-of b (found-wrong t at b f) λ c W.
       let (r, s) = tested-told (π .templates) G bounded (π .vocabulary) (read .script .templates) (read .script .vocabulary) T exact t at b f in
-      some-then (λ e mark δ φ. (mark ≡ at) × (FirstBreach (λ k. CanBe (π .templates) G t δ φ (λ δ′ φ′. ElementWrong (π .vocabulary) e δ′ φ′ k)) b
-      × CanBe (π .templates) G t δ φ (λ δ′ φ′. ElementWrong (π .vocabulary) e δ′ φ′ c)))
+      some-then (λ e mark δ φ. (mark ≡ at) × (FirstBreach (CanBreak (π .templates) G (π .vocabulary) t e δ φ) b
+      × CanBreak (π .templates) G (π .vocabulary) t e δ φ c))
       (λ e mark δ φ h. first-below (h .1 .0) c (h .1 .1)) (templateAt (π .templates) t)
-      (same-element t at (λ e mark δ φ. FirstBreach (λ k. CanBe (π .templates) G t δ φ (λ δ′ φ′. ElementWrong (π .vocabulary) e δ′ φ′ k)) b) s t c W)
+      (same-element t at (λ e mark δ φ. FirstBreach (CanBreak (π .templates) G (π .vocabulary) t e δ φ) b) s t c W)
 
   wrong-found : (t at : ℕ) (b : Breach) → WrongIn π E p t at b → (n : ℕ) × (c : Breach) × Found n at c
   wrong-found t at b W =

@@ -37,18 +37,6 @@ lowest-iff h (lowest {n = n} {at = at} {b = b} p k) = lowest {n = n} {at = at} {
 pub lowest-none : {P : Wrongs} → ((n at : ℕ) (b : Breach) → P n at b → ⊥) → LowestWrong P Nowhere
 lowest-none = LowestWrong.nowhere
 
-pub lowest-lower : {P Q : Wrongs} {v w : Wrong} → LowestWrong P v → LowestWrong Q w → LowestWrong (λ n at b. P n at b ⊎ Q n at b) (lowerWrong v w)
-lowest-lower (LowestWrong.nowhere h) (LowestWrong.nowhere k) = LowestWrong.nowhere (λ n at b. ⊎-elim (h n at b) (k n at b))
-lowest-lower (LowestWrong.nowhere h) (lowest {n = n} {at = at} {b = b} q k) = lowest {n = n} {at = at} {b = b} (inr q) (λ m other c. ⊎-elim (λ p. absurd (h m other c p)) (k m other c))
-lowest-lower (lowest {n = n} {at = at} {b = b} p h) (LowestWrong.nowhere k) = lowest {n = n} {at = at} {b = b} (inl p) (λ m other c. ⊎-elim (h m other c) (λ q. absurd (k m other c q)))
-lowest-lower {P} {Q} (lowest {n = n} {at = at} {b = b} p h) (lowest {n = m} {at = other} {b = c} q k) = go (leb at other) refl
-  where
-    go : (t : Bool) → leb at other ≡ t → LowestWrong (λ i x d. P i x d ⊎ Q i x d) (cond t (At n at b) (At m other c))
-    go true e = lowest {n = n} {at = at} {b = b} (inl p)
-        (λ i x d. ⊎-elim (h i x d) (λ r. let below = k i x d r in let le = leb-true at other e in omega arith))
-    go false e = lowest {n = m} {at = other} {b = c} (inr q)
-        (λ i x d. ⊎-elim (λ r. let below = h i x d r in let lt = leb-false at other e in omega arith) (k i x d))
-
 -- What is found lower in two searches is lowest in R, where R tells of an element what the first search does, and what the second does
 -- where the first tells nothing at that offset or below.
 pub lowest-both : {P Q R : Wrongs} {v w : Wrong} → LowestWrong P v → LowestWrong Q w → ((n at : ℕ) (b : Breach) → P n at b → R n at b)
@@ -66,6 +54,9 @@ lowest-both {R = R} (lowest {n = n} {at = at} {b = b} p h) (lowest {n = m} {at =
         (λ i x d r. ⊎-elim (h i x d) (λ s. let below = k i x d s in let le = leb-true at other e in omega arith) (cases i x d r))
     go false e = lowest {n = m} {at = other} {b = c} (second m other c q (λ i d s. let below = h i other d s in let lt = leb-false at other e in omega arith))
         (λ i x d r. ⊎-elim (λ s. let below = h i x d s in let lt = leb-false at other e in omega arith) (k i x d) (cases i x d r))
+
+pub lowest-lower : {P Q : Wrongs} {v w : Wrong} → LowestWrong P v → LowestWrong Q w → LowestWrong (λ n at b. P n at b ⊎ Q n at b) (lowerWrong v w)
+lowest-lower p q = lowest-both p q (λ n at b h. inl h) (λ n at b h none-first. inr h) (λ n at b r. r)
 
 -- ---- as code compares
 
@@ -100,12 +91,6 @@ lower-assoc (At n at i) (At m other j) Nowhere = lower-nowhere (cond (leb at oth
 lower-assoc (At n at i) (At m other j) (At k last l) = lowest-of n at i m other j k last l (leb at other) (leb other last) refl refl
 
 -- ---- what is told of what is found
-
-pub lowest-found : {P : Wrongs} {n at : ℕ} {b : Breach} → LowestWrong P (At n at b) → P n at b
-lowest-found (lowest p h) = p
-
-pub lowest-below : {P : Wrongs} {n at : ℕ} {b : Breach} → LowestWrong P (At n at b) → (m other : ℕ) (c : Breach) → P m other c → at ≤ other
-lowest-below (lowest p h) = h
 
 pub lowest-nowhere : {P : Wrongs} {w : Wrong} → LowestWrong P w → ((n at : ℕ) (b : Breach) → P n at b → ⊥) → w ≡ Nowhere
 lowest-nowhere (LowestWrong.nowhere h) k = refl

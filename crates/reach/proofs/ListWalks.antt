@@ -99,7 +99,7 @@ module _ (s allowed-in held-in graph brings : List ℕ) (n : ℕ) where
     -- An element: itself, by the two tests, and those inside it.
     pub list-element : (e : ℕ) (start : Position) → h ≡ Element e start → (inside′ : ℕ) → ((k : ℕ) → member inside′ k ≡ (eqb k e || member inside k))
         → (walked : WalkedElement) → WalksElement s allowed-in held-in graph brings n (start .at) walked
-        → (own : Wrong) → TellsOutside n at (walked .names) (getD allowed-in e 0) (walked .inside) (getD held-in e 0) own
+        → (own : Wrong) → TellsOutside n at (walked .names) (getD allowed-in e 0) (walked .gets) (getD held-in e 0) own
         → (lowest : Wrong) → lowest ≡ lowerWrong own (walked .wrong) → (wrong′ : Wrong) → wrong′ ≡ lowerWrong wrong lowest
         → (r : WalkedItems) → Adds inside′ gaps wrong′ (walked .next .at) r → Adds inside gaps wrong at r
     unfolding lowestIn
@@ -143,7 +143,7 @@ module _ (s allowed-in held-in graph brings : List ℕ) (n : ℕ) where
   pub element-walked : (start : Position) (named : Carriable) → TellsCarriable s (start .at) graph n named
       → (list : WalkedItems) → WalksItems s allowed-in held-in graph brings n (named .next .at) list
       → (inside : ℕ) → length brings ≡ 8 → United (list .inside) (list .gaps) brings inside
-      → WalksElement s allowed-in held-in graph brings n (start .at) (record { names = named .names; inside = inside; next = list .next; wrong = list .wrong })
+      → WalksElement s allowed-in held-in graph brings n (start .at) (record { names = named .names; gets = inside; next = list .next; wrong = list .wrong })
   element-walked start named N list L inside long U ruled f depth middle end δ φ reads done reads-contents =
       let m = N [] f middle δ reads done in
       let l = L ruled f depth end φ (subst (λ (k : ℕ). items f Template ruled s depth k ≡ whole φ end) (sym (m .0)) reads-contents) in

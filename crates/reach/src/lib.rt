@@ -146,7 +146,7 @@ fn carriable_names(s: &[u8], start: Position, graph: &Graph, n: usize) -> Carria
 // after it, and the lowest element inside it that is plainly wrong.
 pub struct WalkedElement {
     pub names: u64,
-    pub inside: u64,
+    pub gets: u64,
     pub next: Position,
     pub wrong: Wrong,
 }
@@ -203,7 +203,7 @@ fn walk_element(
     let wrong = list.wrong;
     WalkedElement {
         names: carriable.names,
-        inside: union_of(list.inside, list.gaps, brings),
+        gets: union_of(list.inside, list.gaps, brings),
         next,
         wrong,
     }
@@ -246,7 +246,7 @@ fn walk_items(
                     here.at,
                     element.names,
                     attributes[i],
-                    element.inside,
+                    element.gets,
                     contents[i],
                 );
                 let inner = element.wrong;

@@ -46,10 +46,6 @@ pub fails-right : (a b : Bool) → b ≡ false → (a && b) ≡ false
 fails-right true b e = e
 fails-right false b e = refl
 
-pub fails-cases : (a b : Bool) → (a && b) ≡ false → (a ≡ false) ⊎ (b ≡ false)
-fails-cases true b e = inr e
-fails-cases false b e = inl refl
-
 pub implied : (a b : Bool) → (not a || b) ≡ true → a ≡ true → b ≡ true
 implied true b e f = e
 implied false b e f = absurd (false≢true f)

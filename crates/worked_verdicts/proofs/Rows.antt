@@ -20,7 +20,7 @@ use Rattle.summaries.specs.Summaries.{sameCode}
 use Rattle.agreement.proofs.JobVerdicts.{unique}
 use Rattle.patterns.specs.contracts.Patterns.{breaksValue, join}
 use Rattle.patterns.specs.contracts.Morphisms.{classOf}
-use Rattle.patterns.specs.contracts.Elements.{breachUnder}
+use Rattle.patterns.specs.contracts.Elements.{canBreakUnder}
 use Rattle.patterns.proofs.ReadVocabularies.{Bytes}
 use Rattle.sets.specs.Sets.{member}
 use Rattle.sets.proofs.Booleans.{and-left, and-right}
@@ -53,7 +53,7 @@ stated r = record { bytes = true; numbers = some (r .numbers) }
 
 answers : (map computed table ≡ map stated table) × (map computed blankTable ≡ map stated blankTable) × (map computed framedTable ≡ map stated framedTable)
     × (map computed absentTable ≡ map stated absentTable) × (map computed breachTable ≡ map stated breachTable)
-unfolding verdictBy command ruleOf withFacts gapIn attributeGapIn templateAt sameCode breachUnder classOf join precedes breaksValue member
+unfolding verdictBy command ruleOf withFacts gapIn attributeGapIn templateAt sameCode canBreakUnder classOf join precedes breaksValue member
 answers = (refl, refl, refl, refl, refl)
 
 same-at : {A B : Type 0} (f g : A → B) (xs : List A) → map f xs ≡ map g xs → (a : A) → a ∈ xs → f a ≡ g a

@@ -1,5 +1,5 @@
 -- What is known of a clause that code goes by, and the patterns of an element's attributes (document 01, "An exact check needs, clause by
--- clause, .."; verdict 12).
+-- clause, .."; verdicts 12, 14 and 15).
 use Prim.Native.Nat.{ℕ}
 use mathlib.Core.Path.{_≡_}
 use mathlib.Core.List.{List, []}

@@ -72,9 +72,9 @@ abbrev pub Decides : Shape → List ℕ → ℕ → Bool → ℕ → Type 0
 Decides shape v at b next = Walks (λ ψ. b ≡ true → Decided shape ψ) v at next
 
 -- What an outcome tells of an element's rule.
-abbrev pub breachOf : Outcome → Option Breach
-breachOf Right = none
-breachOf (Breaks b) = some b
+abbrev pub brokenBy : Outcome → Option Breach
+brokenBy Right = none
+brokenBy (Breaks b) = some b
 
 -- The first that fails of the clauses that stand from an offset on, the places of which count from k.
 abbrev pub FirstFails : Atoms → List ℕ → ℕ → ℕ → Option Breach → Type 0
@@ -121,7 +121,7 @@ Names p at r strings = (f end : ℕ) (δ : List Attribute) → attributes f Page
 abbrev pub TellsOutcome : List ℕ → Rule → Shape → List ℕ → List (List ℕ) → Outcome → Type 0
 TellsOutcome v rule shape strings order r = (R : Vocabularies.Rule) (δ : List Attribute) (w : List ℕ) (count : ℕ)
     → RuleTables v R (rule .attributes) (rule .contents) (rule .clauses .at) → Naming δ (shape .names) strings
-    → Containing w (shape .contents) order count → breachOf r ≡ breachUnder R δ w
+    → Containing w (shape .contents) order count → brokenBy r ≡ breachUnder R δ w
 
 -- The rules of a vocabulary, each at its element's number.
 abbrev pub ruleAt : List ℕ → List ℕ → List ℕ → ℕ → Rule

@@ -80,15 +80,15 @@ module _ (φs : List Items) (G : Summary) where
   plainBreach C r n δ φ = orFirst (brokenIf (not (allIn (carriableNames G n δ) (r .attributes))) Breaches.Attribute)
       (brokenIf (contentOutside C (r .contents) n φ) Breaches.Content)
 
-  unfoldable pub breachUnder : (Formula → Sets) → Sets → Rule → ℕ → List Attribute → Items → Option Breach
+  unfoldable pub canBreakUnder : (Formula → Sets) → Sets → Rule → ℕ → List Attribute → Items → Option Breach
   unfolding plainBreach firstFailing clauseFails
-  breachUnder X C r n δ φ = orFirst (plainBreach C r n δ φ) (firstClause X 0 (r .clauses) n δ φ)
+  canBreakUnder X C r n δ φ = orFirst (plainBreach C r n δ φ) (firstClause X 0 (r .clauses) n δ φ)
 
   -- Every element that is read has a rule.
-  abbrev pub breachBy : (Formula → Sets) → Sets → Option Rule → ℕ → List Attribute → Items → Option Breach
-  breachBy X C none n δ φ = none
-  breachBy X C (some r) n δ φ = breachUnder X C r n δ φ
+  abbrev pub canBreakBy : (Formula → Sets) → Sets → Option Rule → ℕ → List Attribute → Items → Option Breach
+  canBreakBy X C none n δ φ = none
+  canBreakBy X C (some r) n δ φ = canBreakUnder X C r n δ φ
 
   -- What the element e of template n with these attributes and contents breaks in some page, if it stands in one.
-  abbrev pub breachOf : (Formula → Sets) → Sets → Vocabulary → ℕ → ℕ → List Attribute → Items → Option Breach
-  breachOf X C D n e δ φ = breachBy X C (ruleOf (D .rules) e) n δ φ
+  abbrev pub canBreak : (Formula → Sets) → Sets → Vocabulary → ℕ → ℕ → List Attribute → Items → Option Breach
+  canBreak X C D n e δ φ = canBreakBy X C (ruleOf (D .rules) e) n δ φ

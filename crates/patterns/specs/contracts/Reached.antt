@@ -1,4 +1,4 @@
--- Where an element stands in some whole page (document 01, verdict 12): its template is reached from a root, from template to
+-- Where an element stands in some whole page (documents 01 and 02, verdicts 12, 14 and 15): its template is reached from a root, from template to
 -- template through gaps, and pages come of every template on the way, the last one too. The tests find the templates reached in
 -- rounds, and the contents that can stand in the pages of each template.
 use Prim.Native.Nat.{ℕ}

@@ -19,7 +19,7 @@ use Rattle.patterns.specs.contracts.Rounds.{Set, Sets}
 use Rattle.patterns.specs.contracts.Exactness.{Exact, ContentsExact, ReachedExact}
 use Rattle.patterns.specs.declared.Wrong.{Wrong}
 use Rattle.patterns.specs.declared.Wrong.the-variants.{Nowhere}
-use Rattle.patterns.specs.contracts.Elements.{breachOf}
+use Rattle.patterns.specs.contracts.Elements.{canBreak}
 use Rattle.patterns.specs.contracts.LowestWrong.{Test, lowestIn, lowestBelow}
 
 -- The least number of which P holds, or none if there is none.
@@ -69,7 +69,7 @@ module _ (φs : List Items) (G : Summary) (D : Vocabulary) (T : Tables) where
 
   -- What an element of template n breaks in some page.
   abbrev pub tested : ℕ → Test
-  tested n e mark δ φ = breachOf φs G (T .clauses) (T .contents) D n e δ φ
+  tested n e mark δ φ = canBreak φs G (T .clauses) (T .contents) D n e δ φ
 
   -- Verdicts 12, 14 and 15: the lowest wrong element of the templates that are reached.
   unfoldable pub lowestWrong : Wrong

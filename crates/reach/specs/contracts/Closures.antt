@@ -1,5 +1,5 @@
 -- Tables of sets as words: unions of their sets, and sets closed under them. Templates are reached in rounds until a round adds none
--- (document 01, verdict 12); that set is the least one that has its start and is closed under the edges.
+-- (documents 01 and 02, verdicts 12, 14 and 15); that set is the least one that has its start and is closed under the edges.
 use Prim.Native.Nat.{ℕ}
 use mathlib.Core.Path.{_≡_}
 use mathlib.Core.List.{List}

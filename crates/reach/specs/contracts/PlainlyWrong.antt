@@ -1,5 +1,5 @@
 -- Elements that are wrong whatever the clauses say (document 01, verdict 12; document 02, F-6): an attribute that can be carried is not
--- allowed, or else a content that can stand in the element is not. Clauses are looked at where neither is so.
+-- allowed, or else a content that can stand in the element is not. A clause is told where neither is so.
 use Prim.Native.Nat.{ℕ}
 use mathlib.Core.List.{List}
 use mathlib.Core.Option.{Option, some, none}

@@ -1,4 +1,4 @@
--- What the code over the graph of a show promises (document 01, verdict 12): the templates of which pages come, those that are
+-- What the code over the graph of a show promises (documents 01 and 02, verdicts 12, 14 and 15): the templates of which pages come, those that are
 -- reached, and the contents that can stand in the pages of each.
 use Prim.Native.Nat.{ℕ, _≤_, _<_}
 use mathlib.Core.Path.{_≡_}

@@ -73,7 +73,7 @@ FindsWrong ruled allowed held graph brings n φ wrong = (φs : List Items) (G : 
 pub record ElementWalked (ruled : ℕ → Bool) (allowed held graph brings : List ℕ) (n : ℕ) (δ : List Attribute) (φ : Items) (end : ℕ) (r : WalkedElement) : Type 0 where
   pub ends : r .next .at ≡ end
   pub carries : (G : Summary) → Keeps graph G → (a : ℕ) → member (r .names) a ≡ isIn a (carriableNames G n δ)
-  pub contains : (φs : List Items) (G : Summary) (C : Sets) → GraphTold φs G C n graph brings → (c : ℕ) → c < contents → member (r .inside) c ≡ contentsOf φs G C n φ c
+  pub contains : (φs : List Items) (G : Summary) (C : Sets) → GraphTold φs G C n graph brings → (c : ℕ) → c < contents → member (r .gets) c ≡ contentsOf φs G C n φ c
   pub finds : FindsWrong ruled allowed held graph brings n φ (r .wrong)
 
 pub record ItemsWalked (ruled : ℕ → Bool) (allowed held graph brings : List ℕ) (n : ℕ) (φ : Items) (end : ℕ) (r : WalkedItems) : Type 0 where

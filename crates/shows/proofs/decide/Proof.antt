@@ -1,4 +1,4 @@
--- 11 by the lowest root, and then 12 by the lowest wrong element. A job has no more templates than the guard lets through.
+-- 11 by the lowest root, and then 12, 14 or 15 by the lowest wrong element. A job has no more templates than the guard lets through.
 use native.Mathlib.Omega.{arith}
 use Rattle.shows.proofs.Graphs.{root-found, element-found}
 use borrow.Author.Needs.{needs}
