@@ -6,10 +6,10 @@ status=0
 count=0
 for file in crates/*/specs/*.antt; do
     module=$(basename "$file" .antt)
-    case $module in Lib | contracts) continue ;; esac
+    case $module in Lib | Inner) continue ;; esac
     name=$(basename "$(dirname "$(dirname "$file")")")/$module
     count=$((count + 1))
-    if grep -n '\.contracts\.' "$file"; then
+    if grep -n '\.specs\.Inner\.' "$file"; then
         echo "FAILED: $name uses a contract"
         status=1
     fi

@@ -1,6 +1,6 @@
 #!/bin/sh
 # edge.sh: what the programs make of standard input that cannot be read, comes in pieces, or ends inside a record. It runs what
-#     rt check page_check check_records judge_records page_infer infer_records && rt staticlib exports
+#     tools/build
 # makes, compares standard output and standard error with what is written here, and needs cc and python3.
 set -eu
 cd "$(dirname "$0")/.."

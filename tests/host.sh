@@ -18,8 +18,8 @@ run() {
     "$@"
 }
 
-echo "rt staticlib exports"
-rt staticlib exports > "$made/said" || { cat "$made/said"; exit 1; }
+echo "tools/build"
+tools/build > "$made/said" 2>&1 || { cat "$made/said"; exit 1; }
 run "$CC" -O2 -Wall -Wextra -Iinclude examples/host.c target/staticlib/libexports.a -o "$made/host_c"
 run "$RUSTC" --edition 2021 -O -L target/staticlib examples/host.rs -o "$made/host_rs"
 

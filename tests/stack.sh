@@ -8,8 +8,8 @@ made=$(mktemp -d)
 trap 'rm -rf "$made"' EXIT
 status=0
 
-echo "rt staticlib exports"
-rt staticlib exports > "$made/said" || { cat "$made/said"; exit 1; }
+echo "tools/build"
+tools/build > "$made/said" 2>&1 || { cat "$made/said"; exit 1; }
 echo "$CC -O2 -Wall -Wextra -pthread tests/stack.c target/staticlib/libexports.a"
 "$CC" -O2 -Wall -Wextra -pthread tests/stack.c target/staticlib/libexports.a -o "$made/stack"
 

@@ -48,6 +48,7 @@ module _ (M : ℕ → ℕ → Type 0) (φs φs' : List Items) (alike : (t : ℕ)
     like_there (item_then d ds e) φ' a = then_like d (λ i' b. like_item_there d i' b) (λ ψ b. like_there ds ψ b) e a
 
     like_item_there : {n : ℕ} {i : Item} {page : Items} → ItemDerives φs G n i page → (i' : Item) → AlikeItem M i i' → Like (ItemDerives φs' G n i') page
+    like_item_there (blank_stays {n = n}) i' a = elim a [ ]
     like_item_there text_stays i' both_text = record { like = one text; derives = text_stays; alike_page = both both_text nothing }
     like_item_there (gap_filled m e d) i' both_gap =
         let r = like_there d (template_at φs' m) (alike m) in

@@ -1,5 +1,7 @@
 // The answers for what was read into a buffer (document 01, "Verdicts"). Buffers of input are lent as `&`: `untouched` holds
 // by their type. They hold a byte more than a job or a slice may have, so that what fills one is too long, whatever follows.
+#![tactic(auto)]
+
 ghost use Rattle.std.specs.Prelude.{ℕ, ◌≤◌, ◌≡◌, List, length};
 ghost use Rattle.verdicts.specs.TheVerdict.{TheVerdict};
 ghost use Rattle.pages.specs.PageVerdict.{PageVerdict};

@@ -1,9 +1,7 @@
 -- A job that was read: its parts as the check goes by them, and the verdicts of its reading and of its covering.
-use Prim.Native.Nat.{ℕ, ◌≤◌, ◌<◌}
-use native.Mathlib.Omega.{arith}
+use Prim.Native.Nat.{ℕ}
 use mathlib.Core.Path.{◌≡◌, subst}
 use mathlib.Core.List.{List}
-use lib.ListN.{length, get_or}
 use Rattle.verdicts.specs.declared.Form.{Form}
 use Rattle.verdicts.specs.declared.Cover.{Cover}
 use Rattle.verdicts.specs.declared.Cover.TheVariants.{Start, Step}
@@ -14,15 +12,13 @@ use Rattle.verdicts.specs.Printed.{cover_numbers, numbers_of}
 use Rattle.commands.specs.declared.Position.{Position}
 use Rattle.commands.specs.declared.Part.TheVariants.{Whole, Refused}
 use Rattle.commands.specs.Reading.{whole}
-use Rattle.pages.specs.Items.{Items}
-use Rattle.programs.specs.Program.{template_at}
 use Rattle.programs.proofs.Laws.{agrees_whole, agrees_refuses}
 use Rattle.summaries.specs.Summaries.{Environment, entries}
 use Rattle.jobs.specs.declared.ScriptRead.{ScriptRead}
 use Rattle.jobs.specs.Job.{Script, Job, job}
 use Rattle.jobs.specs.Inner.Promises.{JobKept, JobReads}
 use Rattle.jobs.specs.JobVerdict.{AllCovered, ScriptVerdict, start_uncovered, step_uncovered, JobVerdict, unreadable, readable}
-use Rattle.pages.specs.Inner.Gaps.{GapsAre, StartsAt, GapsTable}
+use Rattle.pages.specs.Inner.Gaps.{GapsTable}
 use Rattle.covering.specs.declared.Covering.{Covering}
 use Rattle.covering.specs.declared.Covering.TheVariants.{Covered, Uncovered}
 use Rattle.covering.specs.Inner.Promises.{Covers}

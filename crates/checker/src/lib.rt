@@ -1,4 +1,6 @@
 // The check of a job (document 01, "Verdicts", Check a job): its reading, its covering, and each show in turn.
+#![tactic(auto)]
+
 ghost use Rattle.std.specs.Prelude.{◌≡◌, ℕ};
 ghost use Rattle.verdicts.specs.Printed.{numbers_of};
 ghost use Rattle.verdicts.specs.TheVerdict.{TheVerdict};

@@ -1,4 +1,6 @@
 // Clauses of a rule: the patterns that an attribute can have, and the patterns under which a clause is true.
+#![tactic(auto)]
+
 ghost use Rattle.std.specs.Prelude.{◌≡◌, not, ◌&&◌, ◌||◌, [], ℕ, ◌≤◌, ◌<◌, eqb};
 ghost use Rattle.strings.specs.Inner.Promises.{has_string};
 ghost use Rattle.vocabularies.specs.Inner.Promises.{meaning_of};
@@ -205,7 +207,7 @@ fn unbroken_by(facts: Facts, fact: Fact) -> [u64; 4]
 }
 
 // The patterns under which a formula is true, and the position after it.
-#[derive(Drop)]
+#[derive(Clone, Copy)]
 pub struct Truths {
     pub set: [u64; 4],
     pub next: Position,
@@ -294,7 +296,7 @@ fn true_patterns(s: &[u8], here: Position, facts: Facts) -> Truths
 }
 
 // Whether a formula is false under some pattern, and the position after it.
-#[derive(Drop)]
+#[derive(Clone, Copy)]
 pub struct Tested {
     pub fails: bool,
     pub next: Position,

@@ -149,7 +149,7 @@ pub single_moves : (x : Context) (s : List ℕ) (at k most : ℕ) → Single x k
     → Moved k (record { at = at + 2 }) ≡ command x s at
 unfolding all_in_range
 single_moves x s at k most S here code fits range =
-    let w : widths (S.operand ∷ []) ≡ 1 = omega (arith, S.is_byte_lem) in
+    let w : widths (S.operand ∷ []) ≡ 1 = omega (arith, S.is_byte) in
     let e : at + 2 ≡ at + 1 + widths (S.operand ∷ []) = omega (arith, w) in
     rw e (moves_as x s at k (S.operand ∷ []) here code S.may_stand S.alone (omega (arith, w, fits)) (rw (S.range s (at + 1), le-leb _ _ range)))
 

@@ -1,5 +1,7 @@
 // The commands of a job, and the reading position that moves over one command at a time
 // (document 01, "A job, command by command").
+#![tactic(auto)]
+
 ghost use Rattle.std.specs.Prelude.{◌≡◌, true, ◌&&◌, ◌+◌, ◌*◌, ◌^◌, ◌≤◌, ◌<◌, length, leb};
 ghost use Rattle.strings.specs.Inner.Promises.{set_number};
 ghost use Rattle.commands.specs.Commands.{byte, set_at, either, between, allowed, operands_of, operand_bytes, in_range, element, attribute, strings_set, all_in_range, command};
@@ -9,13 +11,13 @@ use strings::{LAST, StringSet};
 use verdicts::Form;
 
 // Where reading stands: an offset of the bytes.
-#[derive(Drop)]
+#[derive(Clone, Copy)]
 pub struct Position {
     pub at: usize,
 }
 
 // Which commands may stand at a place.
-#[derive(Drop)]
+#[derive(Clone, Copy)]
 pub enum Context {
     Rules,
     Attributes,
@@ -34,21 +36,21 @@ pub enum Context {
 }
 
 // A command that was read, by its first byte, with the position after it; or the refusal and its offset.
-#[derive(Drop)]
+#[derive(Clone, Copy)]
 pub enum Decoded {
     Moved(u8, Position),
     Refused(Form, usize),
 }
 
 // A part that was read, with the position after it; or the refusal and its offset.
-#[derive(Drop)]
+#[derive(Clone, Copy)]
 pub enum Part {
     Whole(Position),
     Refused(Form, usize),
 }
 
 // The position after a byte that stands here, or another byte or none does.
-#[derive(Drop)]
+#[derive(Clone, Copy)]
 pub enum Past {
     Over(Position),
     Other,
@@ -102,6 +104,7 @@ fn is_between(low: u8, high: u8, code: u8) -> bool
 }
 
 // Whether a command may stand at a place.
+#[tactic(auto, unfolding(crate::specs::Commands::allowed))]
 pub fn is_allowed(context: Context, code: u8) -> bool
     ensures { result ≡ allowed context code }
 {
@@ -288,6 +291,7 @@ impl Position {
     }
 
     // The command here, where text and elements may stand: `21`, `29` and `23 e` are seen at once.
+    #[tactic(auto, using(crate::proofs::Laws::text_moves, crate::proofs::Laws::blank_moves))]
     pub fn item_command(self, s: &[u8], context: Context) -> Decoded
         requires { (allowed context 0x21 ≡ true) × (allowed context 0x29 ≡ true) × (allowed context 0x23 ≡ true) }
         ensures { result ≡ command context s.now self.at }

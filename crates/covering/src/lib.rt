@@ -1,4 +1,6 @@
 // Covering (document 01, "Covering, and the language of a show"): the start (9) and every step (10).
+#![tactic(auto)]
+
 ghost use Rattle.std.specs.Prelude.{◌≡◌, List, ℕ, ◌+◌, ◌*◌, ◌<◌, get_or};
 ghost use Rattle.programs.specs.Inner.Promises.{as_act};
 ghost use Rattle.summaries.specs.Proposal.{Head};
@@ -20,14 +22,14 @@ use programs::{Act, Statement};
 use transfers::{Made, MadeString};
 use verdicts::Cover;
 
-#[derive(Drop)]
+#[derive(Clone, Copy)]
 pub enum Covering {
     Covered,
     Uncovered(Cover),
 }
 
 // The step of a point over its act to a next point.
-#[derive(Drop)]
+#[derive(Clone, Copy)]
 struct Step {
     act: Act,
     point: usize,

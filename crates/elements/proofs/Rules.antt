@@ -47,7 +47,6 @@ use Rattle.schemes.specs.Inner.Promises.{KeepsFacts}
 use Rattle.occurrences.specs.Inner.Occurrences.{Stands, Occurrences}
 use Rattle.occurrences.proofs.Elements.{all_met}
 use Rattle.reach.specs.Inner.PlainlyWrong.{clause_by, wrong_by_clause}
-use Rattle.elements.specs.declared.Clause.{Clause}
 use Rattle.elements.specs.Inner.Attributes.{patterns_by}
 use Rattle.elements.specs.Inner.Search.{told_if, fails_at}
 use Rattle.elements.specs.Inner.Rules.{Standing, SearchesClause, SearchesRule, RulesStand, ExactClauses, SearchesRules}

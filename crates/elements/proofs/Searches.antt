@@ -199,7 +199,7 @@ module _ (s : List ℕ) (c : Clause) (words : List ℕ) (takes : List (List ℕ)
       adds_element e start q own E wrong' is_wrong A φs G ψ X S ruled f depth end φ reads =
           let F = element_first f Template ruled s depth at φ end reads h is e start q in
           let i = Items.element e at F.named F.contents in
-          let w = E φs G ψ X S ruled F.fuel depth F.middle i F.Reads_first (sym q ∙ is) in
+          let w = E φs G ψ X S ruled F.fuel depth F.middle i F.reads_first (sym q ∙ is) in
           let a = A φs G ψ X S ruled F.fuel depth end F.rest (subst (λ (k : ℕ). items F.fuel Template ruled s depth k ≡ whole F.rest end) (sym w.ends) F.reads_rest) in
           let p = fails_at φs G ψ X c.place n c.element in
           let rest = lowest_in n p F.rest in

@@ -1,4 +1,6 @@
 // Elements of templates that are wrong by a clause of their rule (document 01, verdict 12; document 02, F-6), clause by clause.
+#![tactic(auto)]
+
 ghost use Rattle.std.specs.Prelude.{◌≡◌, true, ◌≤◌, ◌<◌};
 ghost use Rattle.sets.specs.Inner.Promises.{FirstMember};
 ghost use Rattle.judging.specs.Inner.Judgement.{broken_if};
@@ -16,7 +18,7 @@ use verdicts::Breach;
 use vocabularies::{Facts, Tables};
 
 // A clause of an element's rule: its place in the rule, from 0, where its formula stands, its facts, and the scheme of these.
-#[derive(Drop)]
+#[derive(Clone, Copy)]
 struct Clause {
     element: u8,
     place: usize,
@@ -26,7 +28,7 @@ struct Clause {
 }
 
 // The attributes of an element: their patterns, whether all their gaps have something to take, and the position after them.
-#[derive(Drop)]
+#[derive(Clone, Copy)]
 struct Attributes {
     set: [u64; 4],
     takes: bool,
@@ -34,7 +36,7 @@ struct Attributes {
 }
 
 // An element that was searched: whether it has a pattern, the lowest wrong element in it, itself one of them, and the position after it.
-#[derive(Drop)]
+#[derive(Clone, Copy)]
 struct FoundElement {
     yields: bool,
     wrong: Wrong,
@@ -42,7 +44,7 @@ struct FoundElement {
 }
 
 // A list of items that was searched: its patterns, the lowest wrong element in it, and the position after what ends it.
-#[derive(Drop)]
+#[derive(Clone, Copy)]
 struct FoundItems {
     set: [u64; 4],
     wrong: Wrong,
@@ -279,7 +281,7 @@ fn search_clause(
 }
 
 // Whether the sets at hand are settled, and by which scheme.
-#[derive(Drop)]
+#[derive(Clone, Copy)]
 struct AtHand {
     known: bool,
     scheme: Scheme,

@@ -7,7 +7,7 @@ use mathlib.Core.Bool.{Bool, true, false, ◌||◌, or-false, false≢true}
 use native.Mathlib.Omega.{arith}
 use Rattle.commands.specs.declared.Context.TheVariants.{TemplateHoldings}
 use Rattle.commands.specs.declared.Position.{Position}
-use Rattle.summaries.specs.Proposal.{Claim, Holding}
+use Rattle.summaries.specs.Proposal.{Holding}
 use Rattle.summaries.specs.Summaries.{Summary, says_claim, held}
 use Rattle.summaries.specs.declared.Claim as Declared
 use Rattle.summaries.specs.declared.ClaimHere.{ClaimHere}

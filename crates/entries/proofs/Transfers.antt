@@ -14,7 +14,7 @@ use Rattle.summaries.specs.Proposal.{Claim, root, edge, string, gap_from, attrib
 use Rattle.summaries.specs.Summaries.{Summary, Strings, Within, plug_summary, plug_string_summary, says_claim, held}
 use Rattle.strings.specs.declared.Values.{Values}
 use Rattle.entries.specs.declared.Passing.{Passing}
-use Rattle.summaries.specs.Inner.Listed.{HoldingFits, Listed}
+use Rattle.summaries.specs.Inner.Listed.{HoldingFits, Listed, over}
 use Rattle.strings.specs.Inner.Promises.{holds_value}
 use Rattle.entries.specs.Inner.Passing.{passed, wholly, without_roots, plugging, filling, Unfilled, Decides}
 use Rattle.entries.proofs.Tests.{decided_true, decided_false, decides_map}
@@ -57,7 +57,7 @@ unfolding Listed held
 listed_low s at [] l c e = absurd (false≢true e)
 listed_low s at (y ∷ ys) l c e = elim (or_cases (says_claim y c) (held says_claim ys c) e) [
   | inl h ↦ holding_low y l.0.fits c h
-  | inr h ↦ listed_low s _ ys l.1 c h
+  | inr h ↦ listed_low s (over s at) ys l.1 c h
 ]
 
 -- A summary within another, by the claims whose gaps are in range.

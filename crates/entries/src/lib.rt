@@ -1,4 +1,6 @@
 // The entries of a proposal: what is held of a variable at a point, read again from the items under its head.
+#![tactic(auto)]
+
 ghost use Rattle.std.specs.Prelude.{◌≡◌, List, true, ◌||◌, ℕ, ◌<◌};
 ghost use Rattle.sets.specs.Sets.{member};
 ghost use Rattle.strings.specs.Inner.Promises.{holds_value};
@@ -18,7 +20,7 @@ use summaries::{Claim, ClaimHere, StringHere};
 
 // What of an entry passes into the value that a statement makes: its roots or not; the gap that is plugged, with the roots that
 // are plugged in; the attribute gap that is filled, with its strings. Gap 8 is none.
-#[derive(Drop)]
+#[derive(Clone, Copy)]
 pub struct Passing {
     pub roots: bool,
     pub gap: u8,

@@ -1,5 +1,7 @@
 // The calls for C: each tells the four numbers of a verdict, one that writes also the bytes written. Bytes that are lent as `&` stay as they
 // are: `untouched` holds by their type.
+#![tactic(auto)]
+
 ghost use Rattle.std.specs.Prelude.{◌≡◌};
 ghost use Rattle.exports.specs.Calls.{Judged, Checked, Inferred};
 

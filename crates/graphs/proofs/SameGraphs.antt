@@ -1,16 +1,15 @@
 -- Graphs with the same words.
 use Prim.Native.Nat.{ℕ, ◌+◌, ◌*◌, ◌<◌}
 use native.Mathlib.Omega.{arith}
-use mathlib.Core.Path.{◌≡◌, refl, sym, ap, ◌∙◌}
+use mathlib.Core.Path.{◌≡◌, refl, ap}
 use mathlib.Core.List.{List}
 use mathlib.Core.Bool.{Bool, true, false}
 use lib.ListN.{get_or}
 use lib.Dec.{eqb}
 use borrow.Author.Tests.{eqb-true, eqb-false}
 use Rattle.sets.specs.Sets.{member}
-use Rattle.summaries.specs.Proposal.{Claim, root, edge, string, gap_from, attribute_gap_from}
-use Rattle.summaries.specs.Summaries.{Summary}
-use Rattle.graphs.specs.Inner.Graphs.{Keeps, SameGraph}
+use Rattle.summaries.specs.Proposal.{root, edge, string, gap_from, attribute_gap_from}
+use Rattle.graphs.specs.Inner.Graphs.{SameGraph}
 
 module _ (a b : List ℕ) where
   -- The words below a place are the same.

@@ -1,4 +1,6 @@
 // Graphs: what a summary of a template variable holds, as words. No crate above this one knows which word an item has.
+#![tactic(auto)]
+
 ghost use Rattle.std.specs.Prelude.{◌≡◌, true, false, ℕ, ◌+◌, ◌*◌, ◌<◌, eqb};
 ghost use Rattle.std.proofs.Math.Option.{Option};
 ghost use Rattle.sets.specs.Sets.{member};
@@ -33,7 +35,7 @@ const STRINGS: usize = 288;
 const WORDS: usize = 544;
 
 // Where an item stands among the words.
-#[derive(Drop)]
+#[derive(Clone, Copy)]
 struct Slot {
     word: usize,
     bit: u8,

@@ -1,22 +1,17 @@
 -- A script with the memory lent has at most one outcome, and what the call finds is it.
-use Prim.Native.Nat.{ℕ, ◌+◌, ◌≤◌, ◌<◌, min}
+use Prim.Native.Nat.{ℕ, ◌+◌, ◌≤◌}
 use native.Mathlib.Omega.{arith}
 use native.Mathlib.Nat.{min-eq_left}
 use mathlib.Core.Path.{◌≡◌, refl, sym, ap, ◌∙◌}
 use mathlib.Core.List.{List, ◌++◌, append_assoc}
 use lib.ListN.{length, take, drop, length-take}
 use lib.Seq.{take-append_seam, drop-append_seam}
-use Rattle.verdicts.specs.declared.Form.{Form}
-use Rattle.verdicts.specs.declared.Refusal.TheVariants as Refusals
-use Rattle.verdicts.specs.declared.Writing.TheVariants.{Written, Refused}
-use Rattle.verdicts.specs.Printed.{prints, form_number}
 use Rattle.verdicts.specs.TheVerdict.{TheVerdict}
-use Rattle.commands.specs.Reading.{whole, refused}
 use Rattle.summaries.specs.Summaries.{Environment}
 use Rattle.jobs.specs.Job.{Script}
 use Rattle.jobs.specs.LeastEntries.{Least, proposal_bytes}
 use Rattle.least_entries.proofs.Unique.{same_bytes}
-use Rattle.jobs.specs.Inference.{script_slice, work_words, Outcome, ends, outcome, zeros, stored_at, Infers, unreadable, work_too_short, does_not_fit, proposal_written, AcceptedIfAny, Completes}
+use Rattle.jobs.specs.Inference.{Outcome, stored_at, Infers, unreadable, work_too_short, does_not_fit, proposal_written}
 
 same_needed : {π π' : Script} {E E' : ℕ → Environment} → π ≡ π' → Least π E → Least π' E' → proposal_bytes π E ≡ proposal_bytes π' E'
 same_needed {π} {π'} {E} {E'} e l l' = rw (← e) (same_bytes π E E' l (rw (← e) at l'))

@@ -1,4 +1,6 @@
 // The proposal of a script, worked out and written into the caller's buffer (document 02, F-1).
+#![tactic(auto)]
+
 ghost use Rattle.std.specs.Prelude.{◌≤◌, ◌≡◌, length};
 ghost use Rattle.verdicts.specs.TheVerdict.{TheVerdict};
 ghost use Rattle.jobs.specs.Job.{Script};

@@ -26,7 +26,7 @@ use Rattle.programs.specs.declared.ProgramRead.{ProgramRead}
 use Rattle.programs.specs.Program.{Statement}
 use Rattle.programs.specs.ProgramReading.{program}
 use Rattle.programs.specs.Inner.Promises.{Tabled, ProgramReads}
-use Rattle.programs.proofs.Laws.{WholeAs, agrees_map, agrees_whole, agrees_refuses, agrees_refused, refused_agrees, whole_then, enough_enough}
+use Rattle.programs.proofs.Laws.{WholeAs, agrees_map, agrees_whole, agrees_refuses, refused_agrees, whole_then, enough_enough}
 use Rattle.summaries.specs.Proposal.{Head}
 use Rattle.summaries.specs.ProposalReading.{proposal}
 use Rattle.summaries.specs.Inner.Promises.{Kept, ProposalReads}

@@ -1,4 +1,6 @@
 // Jobs: a vocabulary, templates, a program and a proposal, read from one string of bytes; and scripts, which end before the proposal.
+#![tactic(auto)]
+
 ghost use Rattle.std.specs.Prelude.{◌≡◌, replicate};
 ghost use Rattle.jobs.specs.Inner.Promises.{ended_by, with_part, ScriptReads, SliceReads, JobReads};
 
@@ -9,7 +11,7 @@ use verdicts::Form;
 use vocabularies::Tables;
 
 // What reading a script keeps of each part. Where it cannot be read, only `part` counts.
-#[derive(Drop)]
+#[derive(Clone, Copy)]
 pub struct ScriptRead {
     pub part: Part,
     pub tables: Tables,
@@ -45,6 +47,7 @@ fn unread(part: Part) -> ScriptRead
 }
 
 // The script that bytes begin with: its three parts, in order. 1 where the bytes are too many.
+#[tactic(auto, using(crate::proofs::Parts::too_long, crate::proofs::Parts::vocabulary_refuses))]
 fn read_script(s: &[u8]) -> ScriptRead
     ensures { ScriptReads s.now result }
 {
@@ -73,6 +76,7 @@ fn read_script(s: &[u8]) -> ScriptRead
 }
 
 // The last part of some bytes: nothing may follow it.
+#[tactic(auto, using(crate::proofs::Parts::more_follows, crate::proofs::Parts::nothing_follows))]
 fn ended(s: &[u8], last: Part) -> Part
     ensures { result ≡ ended_by s.now last }
 {

@@ -1,6 +1,6 @@
 -- Blank text is passed over: what is left is read as what is left, and says as much of the root and of wrong elements.
 use Prim.Native.Nat.{ℕ, ◌≤◌}
-use mathlib.Core.Path.{◌≡◌, refl, sym, ◌∙◌}
+use mathlib.Core.Path.{◌≡◌, refl}
 use mathlib.Core.List.{List}
 use mathlib.Core.Bool.{Bool}
 use native.Mathlib.Omega.{arith}
@@ -15,7 +15,7 @@ use Rattle.pages.specs.Inner.Steps.{item_here, ItemMoves}
 use Rattle.pages.proofs.Steps.{text_first, blank_first, gap_first, element_first, end_first, blank_moves}
 use Rattle.judging.specs.Inner.Judgement.{first_wrong, is_none}
 use Rattle.judging.proofs.AttributeLaws.{no_template}
-use Rattle.judge.specs.Inner.Answers.{Solid, AfterBlank}
+use Rattle.judge.specs.Inner.Answers.{AfterBlank}
 
 -- What a walk that has come from an offset to another has still to find.
 pub record Passing (p : List ℕ) (at₀ at : ℕ) : Type 0 where

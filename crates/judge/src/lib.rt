@@ -1,4 +1,6 @@
 // The judge of one page under a vocabulary (document 01, "Verdicts", Judge a page).
+#![tactic(auto)]
+
 ghost use Rattle.std.specs.Prelude.{◌≡◌, cond, eqb};
 ghost use Rattle.verdicts.specs.Printed.{numbers_of};
 ghost use Rattle.verdicts.specs.TheVerdict.{TheVerdict};

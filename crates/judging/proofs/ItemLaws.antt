@@ -1,13 +1,10 @@
 -- Items and lists of items: what the judgement of the parts says of the whole.
 use Prim.Native.Nat.{ℕ, ◌+◌, ◌≤◌, ◌<◌}
 use mathlib.Core.Path.{◌≡◌, refl, sym, ap, subst, ◌∙◌}
-use mathlib.Core.Logic.{◌⊎◌, inl, inr}
 use mathlib.Core.List.{List, [], ◌∷◌, ◌++◌, append_assoc, append-nil}
-use mathlib.Core.Bool.{Bool, false}
+use mathlib.Core.Bool.{Bool}
 use native.Mathlib.Omega.{arith}
 use lib.ListN.{length}
-use lib.Dec.{eqb}
-use borrow.Author.Tests.{eqb-false}
 use Rattle.commands.specs.declared.Position.{Position}
 use Rattle.commands.specs.Reading.{whole}
 use Rattle.vocabularies.specs.Vocabulary.{Vocabulary, rule_of, declared}
@@ -15,8 +12,8 @@ use Rattle.vocabularies.proofs.Laws.{rule_found}
 use Rattle.pages.specs.declared.Kind.TheVariants.{Page}
 use Rattle.pages.specs.declared.ItemHere.{ItemHere}
 use Rattle.pages.specs.declared.ItemHere.TheVariants.{Text, Gap, Element, Blank, End}
-use Rattle.pages.specs.Items.{Item, text, blank, element, Items, more}
-use Rattle.pages.specs.ItemReading.{item, items}
+use Rattle.pages.specs.Items.{Item, text, blank, Items, more}
+use Rattle.pages.specs.ItemReading.{items}
 use Rattle.pages.specs.RightPages.{word, word_item}
 use Rattle.pages.specs.Inner.Steps.{item_here}
 use Rattle.pages.proofs.Steps.{no_attribute, text_first, blank_first, gap_first, element_first, end_first, text_item, blank_item, gap_item, element_item, no_item}
@@ -38,18 +35,6 @@ or_none (At at b) = refl
 or_or : (a b c : FirstWrong) → or_else (or_else a b) c ≡ or_else a (or_else b c)
 or_or Nowhere b c = refl
 or_or (At at k) b c = refl
-
--- A variant's number is none of the others'.
-pub no_tag : (n a b c d : ℕ) → (eqb n a ≡ false) × (eqb n b ≡ false) × (eqb n c ≡ false) × (eqb n d ≡ false)
-    → (n ≡ a) ⊎ ((n ≡ b) ⊎ ((n ≡ c) ⊎ (n ≡ d))) → ⊥
-no_tag n a b c d h (inl e) = eqb-false n a h.0 e
-no_tag n a b c d h (inr (inl e)) = eqb-false n b h.1 e
-no_tag n a b c d h (inr (inr (inl e))) = eqb-false n c h.2 e
-no_tag n a b c d h (inr (inr (inr e))) = eqb-false n d h.3 e
-
--- What has another number is no element.
-pub no_element_tag : (◌≡◌ {A = ℕ} 2 0) ⊎ ((◌≡◌ {A = ℕ} 2 1) ⊎ ((◌≡◌ {A = ℕ} 2 3) ⊎ (◌≡◌ {A = ℕ} 2 4))) → ⊥
-no_element_tag = no_tag 2 0 1 3 4 (refl, refl, refl, refl)
 
 module _ (D : Vocabulary) (p : List ℕ) where
   abbrev ruled : ℕ → Bool
@@ -169,7 +154,7 @@ module _ (D : Vocabulary) (p : List ℕ) where
       element_more x start e i judges r last one =
           let L = J.left in
           let F = element_first L.fuel Page ruled p depth at L.left end L.reads h is x start e in
-          let j = judges F.fuel depth F.middle _ F.Reads_first in
+          let j = judges F.fuel depth F.middle _ F.reads_first in
           item_left (x ∷ []) r last i.next.at one F.fuel _ F.rest F.is_more (λ w. refl) (rw j.ends F.reads_rest) (or_else wrong i.wrong)
           (rw (← j.finds))
 

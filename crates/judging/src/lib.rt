@@ -1,4 +1,6 @@
 // The elements of a page under the rules of a vocabulary: their attributes, their contents, and the clauses that they meet.
+#![tactic(auto)]
+
 ghost use Rattle.std.specs.Prelude.{◌≡◌, not, ◌&&◌, ◌||◌, List, [], ◌∷◌, ◌++◌, ℕ, ◌%◌, ◌≤◌, ◌<◌, length, get_or, ltb};
 ghost use Rattle.sets.specs.Sets.{member};
 ghost use Rattle.strings.specs.Inner.Promises.{set_number};
@@ -14,21 +16,21 @@ use verdicts::Breach;
 use vocabularies::FormulaHere;
 
 // An answer about a formula, yes or no, and the position after it.
-#[derive(Drop)]
+#[derive(Clone, Copy)]
 struct Held {
     pub value: bool,
     pub next: Position,
 }
 
 // The attributes and the contents of an element, as sets.
-#[derive(Drop)]
+#[derive(Clone, Copy)]
 pub struct Shape {
     pub names: u64,
     pub contents: u64,
 }
 
 // A rule: the allowed attributes and contents as sets, and where its clauses stand.
-#[derive(Drop)]
+#[derive(Clone, Copy)]
 pub struct Rule {
     pub attributes: u64,
     pub contents: u64,
@@ -36,42 +38,42 @@ pub struct Rule {
 }
 
 // Whether an element is right under its rule, or what it breaks of it.
-#[derive(Drop)]
+#[derive(Clone, Copy)]
 pub enum Outcome {
     Right,
     Breaks(Breach),
 }
 
 // The first clause that fails, if one does, and the offset from which on all elements of the same shape meet all clauses.
-#[derive(Drop)]
+#[derive(Clone, Copy)]
 pub struct Met {
     pub outcome: Outcome,
     pub settled: usize,
 }
 
 // The names of an element's attributes, and the position after them.
-#[derive(Drop)]
+#[derive(Clone, Copy)]
 pub struct Named {
     pub names: u64,
     pub next: Position,
 }
 
 // The first wrong element of a page or of a part of it, by the offset of its `23`, and what it breaks of its rule.
-#[derive(Drop)]
+#[derive(Clone, Copy)]
 pub enum FirstWrong {
     Nowhere,
     At { at: usize, breach: Breach },
 }
 
 // An item that was judged: the position after it, and the first wrong element in it.
-#[derive(Drop)]
+#[derive(Clone, Copy)]
 pub struct Judged {
     pub next: Position,
     pub wrong: FirstWrong,
 }
 
 // A list of items that was judged: its contents as a set, the position after it, and the first wrong element in it.
-#[derive(Drop)]
+#[derive(Clone, Copy)]
 pub struct Listed {
     pub contents: u64,
     pub next: Position,
@@ -79,7 +81,7 @@ pub struct Listed {
 }
 
 // The contents of an element so far: as a set, and how many different ones they are.
-#[derive(Drop)]
+#[derive(Clone, Copy)]
 pub struct Contents {
     pub set: u64,
     pub count: u8,

@@ -1,5 +1,7 @@
 // The languages of summary graphs (document 01, "Covering, and the language of a show"): for each template the set of patterns that
 // its pages have.
+#![tactic(auto)]
+
 ghost use Rattle.std.specs.Prelude.{◌≡◌, List, ◌≤◌, ◌<◌, length};
 ghost use Rattle.pages.specs.Items.{open_gap, Items};
 ghost use Rattle.summaries.specs.Summaries.{Summary};
@@ -64,7 +66,7 @@ fn takes_something(graph: &Graph, n: usize, h: u8) -> bool
 }
 
 // Whether all attribute gaps of attributes have something to take, and the position after the attributes.
-#[derive(Drop)]
+#[derive(Clone, Copy)]
 pub struct Filled {
     pub takes: bool,
     pub next: Position,
@@ -100,7 +102,7 @@ pub fn attributes_take(s: &[u8], start: Position, graph: &Graph, n: usize) -> Fi
 }
 
 // The patterns of a list of items so far, and the contents and the gaps that may change them: the others were found not to.
-#[derive(Drop)]
+#[derive(Clone, Copy)]
 pub struct Line {
     pub set: [u64; 4],
     pub contents: u64,
@@ -169,7 +171,7 @@ pub fn with_element(r: Scheme, line: Line, e: u8, yields: bool) -> Line
 }
 
 // The set of an item, or of a list of items, and the position after it. Where there is no pattern, the position is of no use, and any.
-#[derive(Drop)]
+#[derive(Clone, Copy)]
 pub struct Patterned {
     pub set: [u64; 4],
     pub next: Position,

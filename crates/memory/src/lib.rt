@@ -1,4 +1,6 @@
 // Lent memory: bytes laid into a buffer one after another, and a work area that is cleared.
+#![tactic(auto)]
+
 ghost use Rattle.std.specs.Prelude.{◌≡◌, [], ◌∷◌, ◌+◌, ◌<◌, ◌≤◌, length, replicate, take, drop};
 ghost use Rattle.memory.specs.Inner.Laid.{Writes};
 

@@ -95,7 +95,7 @@ module _ (s : List ℕ) (n : ℕ) where
       unfolding AllElements
       list_element e start q contents' is_contents next middle keeps T A ruled f depth end φ reads =
           let F = element_first f Template ruled s depth at φ end reads h is e start q in
-          let t = T ruled F.fuel depth at F.middle (Items.element e at F.named F.contents) F.Reads_first (sym q ∙ is) in
+          let t = T ruled F.fuel depth at F.middle (Items.element e at F.named F.contents) F.reads_first (sym q ∙ is) in
           let a = A ruled F.fuel depth end F.rest (subst (λ (k : ℕ). items F.fuel Template ruled s depth k ≡ whole F.rest end) (sym t.0) F.reads_rest) in
           let first = still_told middle table keeps n (Items.one (Items.element e at F.named F.contents)) t.1 in
           rw F.is_more (record {

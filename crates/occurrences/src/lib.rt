@@ -1,4 +1,6 @@
 // In which templates each element stands; and the outline of each template.
+#![tactic(auto)]
+
 ghost use Rattle.std.specs.Prelude.{◌≡◌, ◌≤◌, ◌<◌, length};
 ghost use Rattle.occurrences.specs.Inner.Occurrences.{Keeps};
 ghost use Rattle.occurrences.specs.Inner.Promises.{TellsElement, TellsItems, TellsTemplates};
@@ -7,7 +9,7 @@ use commands::Position;
 use pages::{ItemHere, TEXT};
 
 // The contents and the gaps that stand among the outer ones of a list of items, and the position after what ends them.
-#[derive(Drop)]
+#[derive(Clone, Copy)]
 pub struct Outer {
     pub contents: u64,
     pub gaps: u64,
@@ -15,7 +17,7 @@ pub struct Outer {
 }
 
 // The contents and the gaps among the outer items of every template.
-#[derive(Drop)]
+#[derive(Clone, Copy)]
 pub struct Outlines {
     pub contents: [u64; 32],
     pub gaps: [u64; 32],

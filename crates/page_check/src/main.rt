@@ -1,11 +1,14 @@
 // Reads a job from standard input and prints its verdict, a line of four numbers.
-use records::Filled;
+#![tactic(auto)]
 
-fn main() {
+use records::Filled;
+use std::io;
+
+fn main(rt: HostRuntime) -> io::Result<()> {
     let mut buffer = [0u8; 65536];
-    let filled = records::fill(&mut buffer);
+    let filled = records::fill(&rt, &mut buffer);
     let Filled::Bytes(n) = filled else {
-        return;
+        return Ok(());
     };
-    records::print_verdict(buffers::job_numbers(&buffer, n));
+    records::print_verdict(&rt, buffers::job_numbers(&buffer, n))
 }

@@ -19,7 +19,7 @@ use Rattle.pages.specs.declared.AttributeHere.{AttributeHere}
 use Rattle.pages.specs.declared.AttributeHere.TheVariants.{Fixed, Open, Done}
 use Rattle.pages.specs.declared.GapsFound.{GapsFound}
 use Rattle.pages.specs.Items.{Item, Items, none, template_at, gap_in, gap_in_item, open_in, attribute_gap_in, attribute_gap_in_item}
-use Rattle.pages.specs.ItemReading.{attributes, items}
+use Rattle.pages.specs.ItemReading.{items}
 use Rattle.pages.specs.Inner.Steps.{item_here, ItemMoves, attribute_here, AttributeMoves}
 use Rattle.pages.specs.Inner.Gaps.{has_gap, has_attribute_gap, GapsAre, ItemsStand, StartsAt, GapsAdded, AttributeGaps, ElementGaps, ItemsGaps}
 use Rattle.pages.proofs.Steps.{LeafFirst, fixed_first, open_first, none_first, fixed_moves, open_moves, text_first, blank_first, gap_first, element_first, end_first, text_moves, blank_moves, gap_moves, element_moves, no_attribute}

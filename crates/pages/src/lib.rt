@@ -1,4 +1,6 @@
 // Pages and templates: how their items are read (document 01, "A job, command by command", Templates; "Judge a page").
+#![tactic(auto)]
+
 ghost use Rattle.std.specs.Prelude.{◌≡◌, List, [], ℕ, ◌≤◌, ◌<◌, length, get_or};
 ghost use Rattle.sets.specs.Sets.{member};
 ghost use Rattle.commands.specs.Reading.{enough};
@@ -20,14 +22,14 @@ pub const MOST_TEMPLATES: usize = 31;
 pub const TEXT: u8 = 0;
 
 // Which list of items is read: a template of a job, or a page that is judged alone.
-#[derive(Drop)]
+#[derive(Clone, Copy)]
 pub enum Kind {
     Template,
     Page,
 }
 
 // The templates that were read: how many, and where the items of each stand, from template 1 on.
-#[derive(Drop)]
+#[derive(Clone, Copy)]
 pub struct TemplatesRead {
     pub part: Part,
     pub count: usize,
@@ -36,7 +38,7 @@ pub struct TemplatesRead {
 
 // What stands at a position in a list of items that was read: an item, with the position after its first command, or what ends the
 // list. After the first command of an element stand its attributes.
-#[derive(Drop)]
+#[derive(Clone, Copy)]
 pub enum ItemHere {
     Text(Position),
     Gap(u8, Position),
@@ -47,7 +49,7 @@ pub enum ItemHere {
 
 // What stands at a position in attributes that were read: one with a string (64 is any string outside 0 to 63), or with an attribute
 // gap; or none more.
-#[derive(Drop)]
+#[derive(Clone, Copy)]
 pub enum AttributeHere {
     Fixed {
         name: u8,
@@ -63,7 +65,7 @@ pub enum AttributeHere {
 }
 
 // The gaps found, bit g for gap g and bit 8 + h for attribute gap h, and the position after what was searched.
-#[derive(Drop)]
+#[derive(Clone, Copy)]
 pub struct GapsFound {
     pub gaps: u64,
     pub next: Position,

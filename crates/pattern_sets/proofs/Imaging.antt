@@ -3,7 +3,7 @@ use Prim.Native.Nat.{ℕ, ◌+◌, ◌-◌, ◌%◌, ◌^◌, ◌≤◌, ◌<◌
 use mathlib.Core.Path.{◌≡◌, refl, sym, ap, ap₂, subst, ◌∙◌}
 use mathlib.Core.List.{List}
 use mathlib.Core.Bool.{Bool, true, false, not, ◌&&◌, ◌||◌, or-false, or-true, and-false, and-true, or_comm}
-use mathlib.Core.Logic.{◌⊎◌, ⊎_elim}
+use mathlib.Core.Logic.{⊎_elim}
 use native.Mathlib.Omega.{arith}
 use lib.ListN.{length, get_or}
 use lib.Dec.{eqb, ltb}
@@ -11,7 +11,7 @@ use borrow.Author.Tests.{eq-eqb, eqb-true, eqb-false, lt-ltb, le-ltb, ltb-true, 
 use Rattle.sets.specs.Sets.{member}
 use Rattle.sets.proofs.Laws.{member_high, member_zero}
 use Rattle.pattern_sets.specs.Inner.PatternSets.{holds}
-use Rattle.pattern_sets.specs.Inner.Images.{pattern, raised_at, crossed_at, flag_at, raised_by, crossed_by, joined_by, AllFlagged, Shifted, Image, Apart}
+use Rattle.pattern_sets.specs.Inner.Images.{raised_at, crossed_at, flag_at, raised_by, crossed_by, joined_by, AllFlagged, Shifted, Image, Apart}
 use Rattle.sets.proofs.Booleans.{or_left, or_right, or_cases, and_both, and_left, and_right}
 use Rattle.pattern_sets.proofs.Laws.{held_small}
 use Rattle.pattern_sets.proofs.Flags.{pattern_bit, pattern_high, pattern_is, pattern_same, member_large, added, added_below, lacks, raised_same, raised_more}

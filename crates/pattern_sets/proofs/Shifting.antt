@@ -1,12 +1,8 @@
 -- Sets moved by a power of two, and the members that one word has and another lacks.
-use Prim.Native.Nat.{ℕ, zero, suc, ◌+◌, ◌-◌, ◌*◌, ◌/◌, ◌%◌, ◌^◌, ◌≤◌, ◌<◌, min}
+use Prim.Native.Nat.{ℕ, zero, suc, ◌+◌, ◌-◌, ◌*◌, ◌/◌, ◌%◌, ◌^◌, ◌≤◌, ◌<◌}
 use mathlib.Core.Path.{◌≡◌, refl, sym, ap, ◌∙◌}
 use mathlib.Core.List.{List, [], ◌∷◌}
-use mathlib.Core.Bool.{not, ◌&&◌}
-use native.Mathlib.Nat.{mod-lt}
 use native.Mathlib.Omega.{arith}
-use lib.Arith.{digits_mod}
-use lib.Bits.{bit_and, bit_xor, differ, and_step, xor_step, and_shr, xor_shr}
 use lib.ListN.{get_or}
 use lib.Dec.{eqb, lit<}
 use lib.Pow.{pow-lt, shl_exact, shl-shr, shr-shr, field, mod-mod-pow}

@@ -1,4 +1,6 @@
 // Sets of fact patterns, the numbers 0 to 255, as four words.
+#![tactic(auto)]
+
 ghost use Rattle.std.specs.Prelude.{◌≡◌, not, ◌&&◌, ◌||◌, true, false, ℕ, ◌<◌, ◌≤◌, eqb};
 ghost use Rattle.pattern_sets.specs.Inner.PatternSets.{holds, First, IsEmpty, SameMembers, Same};
 ghost use Rattle.pattern_sets.specs.Inner.Images.{AllFlagged, ShiftedMembers, Shifted, Image, raised_at, crossed_at, raised_by, crossed_by, joined_by, Apart, Joined};

@@ -19,7 +19,6 @@ use Rattle.patterns.specs.declared.Wrong.{Wrong}
 use Rattle.patterns.specs.declared.Wrong.TheVariants.{Nowhere}
 use Rattle.patterns.specs.Inner.Given.{Bounded}
 use Rattle.patterns.specs.Inner.LowestWrong.{LowestWrong, lowest, LowestBreach, nowhere_wrong, found_lowest}
-use Rattle.patterns.specs.Inner.LowestWrong as LowestWrong
 use Rattle.patterns.specs.Inner.Shows.{Least, Tables, ExactTables, lowest_root, lowest_wrong}
 use Rattle.patterns.proofs.Standing.{Made, standing}
 use Rattle.patterns.proofs.Lowest.{least_iff, least_of, least_below, none_of}

@@ -22,7 +22,6 @@ use Rattle.patterns.proofs.Standing.{some_either}
 use Rattle.patterns.specs.declared.Wrong.{Wrong}
 use Rattle.patterns.specs.declared.Wrong.TheVariants.{Nowhere, At}
 use Rattle.patterns.specs.Inner.LowestWrong.{lower_wrong, wrong_at, Test, lowest_in, lowest_of, lowest_below, LowestWrong, lowest, Passing}
-use Rattle.patterns.specs.Inner.LowestWrong as LowestWrong
 
 -- What is said of wrong elements, by template, offset and breach.
 abbrev Wrongs : Type 1

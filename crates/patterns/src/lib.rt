@@ -1,4 +1,6 @@
 // The sets of fact patterns that decide a show exactly; and wrong elements as the search for them answers.
+#![tactic(auto)]
+
 ghost use Rattle.std.specs.Prelude.{◌≡◌};
 ghost use Rattle.patterns.specs.Inner.LowestWrong.{lower_wrong};
 
@@ -6,7 +8,7 @@ use verdicts::Breach;
 
 // An element that is wrong in some page (document 01, verdict 12; document 02, F-6), by its template, the offset of its `23`, and what it
 // breaks of its rule; or there is none.
-#[derive(Drop)]
+#[derive(Clone, Copy)]
 pub enum Wrong {
     Nowhere,
     At {

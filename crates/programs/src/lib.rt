@@ -1,4 +1,6 @@
 // Page programs: one statement a point, and how they are read.
+#![tactic(auto)]
+
 ghost use Rattle.std.specs.Prelude.{◌≡◌, true, ◌+◌, ◌≤◌, ◌<◌};
 ghost use Rattle.std.proofs.Math.Seq.{slice};
 ghost use Rattle.commands.specs.Commands.{byte};
@@ -11,7 +13,7 @@ use verdicts::Form;
 
 // What reading a program keeps: how many points it has, the offset of each point's statement, and as a set the variables that
 // some statement names: x for template variable x, 4 + y for string variable y.
-#[derive(Drop)]
+#[derive(Clone, Copy)]
 pub struct ProgramRead {
     pub part: Part,
     pub count: usize,
@@ -20,7 +22,7 @@ pub struct ProgramRead {
 }
 
 // What a statement does, with its operands in the order of the command.
-#[derive(Drop)]
+#[derive(Clone, Copy)]
 pub enum Act {
     CopyTemplate(u8, u8),
     SetTemplate(u8, u8),
@@ -34,7 +36,7 @@ pub enum Act {
 }
 
 // A statement with its two next points, or `38`.
-#[derive(Drop)]
+#[derive(Clone, Copy)]
 pub enum Statement {
     Step {
         act: Act,
@@ -241,7 +243,7 @@ fn points_there(statement: Statement, points: usize) -> bool
 }
 
 // The offset of a statement with a next point that is not there, if there is one.
-#[derive(Drop)]
+#[derive(Clone, Copy)]
 enum Stray {
     At(usize),
     Nowhere,

@@ -83,7 +83,7 @@ module _ (templates : ℕ) (few : templates < 32) where
   may_be Roots k l = tt
   may_be Edges k l = tt
   may_be Listed k l = tt
-  may_be Any k l = l
+  may_be Any k l = omega arith
   may_be Origins k l = tt
   may_be AttributeOrigins k l = tt
 

@@ -1,4 +1,6 @@
 // The proposal that says what the entries in a work area hold: its length, and its bytes laid into a lent buffer.
+#![tactic(auto)]
+
 ghost use Rattle.std.specs.Prelude.{◌≡◌, List, true, ℕ, ◌+◌, ◌*◌, ◌/◌, ◌≤◌, ◌<◌, length};
 ghost use Rattle.sets.specs.Sets.{member};
 ghost use Rattle.sets.specs.Inner.Promises.{FirstMember, count_below};
@@ -17,7 +19,7 @@ use graphs::Graph;
 use strings::Values;
 
 // What stands before the last operand of an item: the command and up to two operands.
-#[derive(Drop)]
+#[derive(Clone, Copy)]
 enum Prefix {
     Bare(u8),
     One(u8, u8),
@@ -25,7 +27,7 @@ enum Prefix {
 }
 
 // The sorts of items of a template variable: `41` to `46`.
-#[derive(Drop)]
+#[derive(Clone, Copy)]
 enum Sort {
     Roots,
     Edges,
@@ -187,6 +189,7 @@ fn prefix_of(sort: Sort, a: u8, b: u8) -> Prefix
 }
 
 // The strings that are listed: none beside any string.
+#[tactic(auto, using(crate::proofs::Values::listed_none, crate::proofs::Values::listed_named))]
 fn listed(values: Values) -> u64
     ensures { (k : ℕ) → member result k ≡ listed_of (holds_value values) k }
 {

@@ -108,7 +108,7 @@ module _ (s allowed_in held_in graph brings : List ℕ) (n : ℕ) where
         let δ = F.named in
         let χ = F.contents in
         let i = Items.element e at δ χ in
-        let I = element_item F.fuel Template ruled s depth at i F.middle F.Reads_first h is e start q in
+        let I = element_item F.fuel Template ruled s depth at i F.middle F.reads_first h is e start q in
         let named : I.named ≡ δ = cc I.is_it in
         let contained : I.contents ≡ χ = cc I.is_it in
         let done = no_attribute I.fuel Template ruled s (depth + 1) I.inside I.contents F.middle I.reads_contents in

@@ -1,5 +1,7 @@
 // Which templates are reached in a show, which contents can stand in the pages of each, and the elements that are wrong by the
 // attributes that they can carry or by their contents.
+#![tactic(auto)]
+
 ghost use Rattle.std.specs.Prelude.{◌≡◌, ℕ, ◌≤◌, ◌<◌, length};
 ghost use Rattle.sets.specs.Sets.{member};
 ghost use Rattle.summaries.specs.Summaries.{Summary};
@@ -105,7 +107,7 @@ pub fn reached(graph: &Graph, gaps: &[u64; 32], count: usize, yields: u64) -> u6
 }
 
 // The names of the attributes that can be carried, and the position after all attributes.
-#[derive(Drop)]
+#[derive(Clone, Copy)]
 pub struct Carriable {
     pub names: u64,
     pub next: Position,
@@ -142,7 +144,7 @@ fn carriable_names(s: &[u8], start: Position, graph: &Graph, n: usize) -> Carria
 
 // An element of a template that was walked over: the names of the attributes that it can carry, the contents that it can get, the position
 // after it, and the lowest element inside it that is plainly wrong.
-#[derive(Drop)]
+#[derive(Clone, Copy)]
 pub struct WalkedElement {
     pub names: u64,
     pub gets: u64,
@@ -152,7 +154,7 @@ pub struct WalkedElement {
 
 // A list of items that was walked over: the contents and the gaps among the outer ones, the position after it, and the lowest element in it
 // that is plainly wrong.
-#[derive(Drop)]
+#[derive(Clone, Copy)]
 pub struct WalkedItems {
     pub inside: u64,
     pub gaps: u64,

@@ -1,6 +1,6 @@
 -- What an answer of `read` comes to, from the tests of the code. Signed numbers are kept as words: what is read back from one is the
 -- number, since it fits.
-use Prim.Native.Nat.{ℕ, ◌≤◌, ◌<◌}
+use Prim.Native.Nat.{ℕ, ◌≤◌}
 use native.Mathlib.Omega.{arith}
 use mathlib.Core.Path.{◌≡◌, refl, sym, ap, ◌∙◌}
 use mathlib.Core.Bool.{Bool, true, false, cond}
@@ -11,7 +11,6 @@ use mir.Syntax.{w32, w64}
 use mir.Val.{Fits, SFits, to_z, of_z}
 use mir.Facts.{to_z-of_z}
 use borrow.Author.Tests.{ltb-true, ltb-false, ne_eqb, eqb-false}
-use Rattle.libc.specs.Io.{Moved}
 use Rattle.records.specs.declared.Attempt.{Attempt}
 use Rattle.records.specs.declared.Attempt.TheVariants.{Got, Ended, Interrupted, Failed}
 use Rattle.records.specs.Reading.{interrupted, attempt_of}
@@ -63,9 +62,9 @@ module _ (most : ℕ) (error : ℤ) where
   negative_in true = tt
   negative_in false = tt
 
-  moved_in : (z : ℤ) → Moved most z → GotIn (attempt_of z error) most
-  moved_in (pos n) k = some_in n (eqb n 0) refl k
-  moved_in (negsuc n) k = negative_in (interrupted error)
+  -- Of a read that gave a number of bytes, and of one that failed.
+  pub read_in : (n : ℕ) (a : Attempt) → n ≤ most → a ≡ attempt_of (pos n) error → GotIn a most
+  read_in n a k e = rw e (some_in n (eqb n 0) refl k)
 
-  pub moved : (got : ℤ) (a : Attempt) → SFits w64 got → Moved most got → a ≡ attempt_of (to_z w64 (of_z w64 got)) error → GotIn a most
-  moved got a f m e = rw (e, to_z-of_z {w = w64} f) (moved_in got m)
+  pub failed_in : (a : Attempt) → a ≡ attempt_of (negsuc 0) error → GotIn a most
+  failed_in a e = rw e (negative_in (interrupted error))

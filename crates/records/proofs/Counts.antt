@@ -1,11 +1,8 @@
 -- A number of bytes that came or were written, as what it is the number of promises it.
 use Prim.Native.Nat.{ℕ, ◌≤◌, ◌<◌}
-use mathlib.Core.Path.{◌≡◌, subst}
-use mathlib.Core.List.{[], ◌∷◌}
+use mathlib.Core.Path.{◌≡◌, refl, subst}
 use mathlib.Core.Bool.{Bool, true, false, cond}
 use lib.Dec.{ltb}
-use types.Run.{OneOf, miss}
-use denote.Enum.Declared.{tag_of}
 use Rattle.verdicts.specs.declared.Writing.{Writing}
 use Rattle.verdicts.specs.declared.Writing.TheVariants.{Written}
 use Rattle.verdicts.specs.Printed.{bytes_written}
@@ -17,7 +14,6 @@ use Rattle.records.specs.declared.Found.{Found}
 use Rattle.records.specs.declared.Found.TheVariants as Findings
 use Rattle.records.specs.Reading.{part_of}
 use Rattle.records.specs.Inner.Promises.{GotIn, FilledIn, FoundIn}
-use Rattle.records.specs.Inner.Found as Declared
 
 module _ (most : ℕ) {n : ℕ} where
   pub got_in : (r : Attempt) → r ≡ Got n → GotIn r most → (0 < n) × (n ≤ most)
@@ -33,8 +29,8 @@ module _ (most : ℕ) {n : ℕ} where
   written_in r e k = subst (λ (q : Writing). bytes_written q ≤ most) e k
 
 -- What is found and is no number of bytes.
-pub others_in : (most : ℕ) (r : Found) → OneOf (1 ∷ 2 ∷ 3 ∷ []) (tag_of Declared.the_type r) → FoundIn r most
-others_in most (Findings.Bytes n) k = absurd (miss (1 ∷ 2 ∷ 3 ∷ []) 0 tt k)
+pub others_in : (most : ℕ) (r : Found) → ((n : ℕ) → r ≡ Findings.Bytes n → ⊥) → FoundIn r most
+others_in most (Findings.Bytes n) k = absurd (k n refl)
 others_in most Findings.Ended k = tt
 others_in most Findings.CutOff k = tt
 others_in most Findings.Failed k = tt

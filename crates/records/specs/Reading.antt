@@ -1,5 +1,5 @@
 -- What the bytes that came from standard input make of a record.
-use Rattle.std.specs.Prelude.{ℕ, zero, suc, ◌+◌, ◌*◌, List, [], ◌∷◌, Bool, true, false, cond, ◌&&◌, ℤ, pos, negsuc, eqb, ltb}
+use Rattle.std.specs.Prelude.{ℕ, zero, suc, ◌+◌, ◌*◌, List, [], ◌∷◌, Bool, false, cond, ◌&&◌, ℤ, pos, negsuc, eqb, ltb}
 use Rattle.records.specs.declared.Attempt.{Attempt}
 use Rattle.records.specs.declared.Attempt.TheVariants as Attempts
 use Rattle.records.specs.declared.Filled.{Filled}

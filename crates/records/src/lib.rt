@@ -1,17 +1,22 @@
 // Standard input and standard output: what the programs share. A record is one slice, or two; a slice is a 32-bit length, lowest byte
 // first, and that many bytes. Standard error says why a record or a job gets no verdict.
-ghost use Rattle.std.specs.Prelude.{◌+◌, ◌≤◌, ◌<◌, min, ◌≡◌, length};
+#![tactic(auto)]
+
+ghost use Rattle.std.specs.Prelude.{ℕ, ◌+◌, ◌≤◌, ◌<◌, min, ◌≡◌, length};
 ghost use Rattle.records.specs.Reading.{attempt_of, start_of, ended_at, number_of, part_of};
 ghost use Rattle.verdicts.specs.Printed.{bytes_written};
 ghost use Rattle.memory.specs.Inner.Laid.{Writes};
 ghost use Rattle.records.specs.Spelling.{hex_digit, digits_of, spelt};
 ghost use Rattle.records.specs.Inner.Promises.{GotIn, FilledIn, FoundIn};
 
-use libc::{STDERR_FILENO, STDIN_FILENO, STDOUT_FILENO};
+use std::io::{self, Read, Write};
 use verdicts::{Numbers, Writing};
 
+// The error number of a call that a signal interrupted.
+const EINTR: i32 = 4;
+
 // What a call of `read` comes to.
-#[derive(Drop)]
+#[derive(Clone, Copy)]
 enum Attempt {
     // This many bytes came, one at least.
     Got(usize),
@@ -23,7 +28,7 @@ enum Attempt {
 }
 
 // What filling a buffer comes to.
-#[derive(Drop)]
+#[derive(Clone, Copy)]
 pub enum Filled {
     // This many bytes stand at the buffer's start; fewer than it holds only where the input ended.
     Bytes(usize),
@@ -32,7 +37,7 @@ pub enum Filled {
 }
 
 // What reading a slice, or a part of one, comes to.
-#[derive(Drop)]
+#[derive(Clone, Copy)]
 pub enum Found {
     // The length that the slice begins with; how many of its bytes were kept.
     Bytes(usize),
@@ -53,7 +58,7 @@ fn attempt_of(got: isize, error: i32) -> Attempt
     if got == 0 {
         return Attempt::Ended;
     }
-    if error != libc::EINTR {
+    if error != EINTR {
         return Attempt::Failed;
     }
     Attempt::Interrupted
@@ -116,30 +121,50 @@ fn least(a: usize, b: usize) -> usize
     if a < b { a } else { b }
 }
 
+// Why a read failed, on standard error: the text of the error without its number, which std puts behind it.
+fn tell_failure(rt: &HostRuntime, error: io::Error) -> io::Result<()> {
+    let text = format!(in rt.alloc(); "{error}")?;
+    match text.as_str().split_once(" (os error ") {
+        Some((why, _)) => eprintln!(rt; "standard input: {why}"),
+        None => eprintln!(rt; "standard input: {text}"),
+    }
+}
+
+// What a read that failed comes to; standard error says why, but of one that a signal interrupted.
+fn failure_of(rt: &HostRuntime, error: io::Error) -> Attempt
+    ensures { (most : ℕ) → GotIn result most }
+{
+    let attempt = attempt_of(-1, error.raw_os_error().unwrap_or(0));
+    if let Attempt::Failed = attempt {
+        tell_failure(rt, error).ok();
+    }
+    attempt
+}
+
 // One read, tried again where a signal interrupts it. A proved loop has to end: the turns are counted down from a number that no run uses
 // up, and then the read has failed.
-fn read_some(buffer: &mut [u8]) -> Attempt
+fn read_some(rt: &HostRuntime, buffer: &mut [u8]) -> Attempt
     ensures { GotIn result (length buffer.old) }
 {
-    let mut turns = u64::MAX;
-    while turns > 0 {
-        let got = libc::read(STDIN_FILENO, buffer);
-        let attempt = attempt_of(got, os::errno());
+    for _ in 0..u64::MAX {
+        let attempt = match rt.stdin().read(buffer) {
+            Ok(n) => attempt_of(n as isize, 0),
+            Err(error) => failure_of(rt, error),
+        };
         let Attempt::Interrupted = attempt else {
             return attempt;
         };
-        turns -= 1;
     }
     Attempt::Failed
 }
 
 // Reads until the buffer is full, the input has ended or a read fails, one that would block too.
-pub fn fill(buffer: &mut [u8]) -> Filled
+pub fn fill(rt: &HostRuntime, buffer: &mut [u8]) -> Filled
     ensures { FilledIn result (length buffer.new) }
 {
     let mut done = 0;
     while done < buffer.len() {
-        let attempt = read_some(&mut buffer[done..]);
+        let attempt = read_some(rt, &mut buffer[done..]);
         match attempt {
             Attempt::Got(n) => {
                 done += n;
@@ -148,7 +173,6 @@ pub fn fill(buffer: &mut [u8]) -> Filled
                 return Filled::Bytes(done);
             }
             Attempt::Interrupted | Attempt::Failed => {
-                os::fail(b"standard input");
                 return Filled::Failed;
             }
         }
@@ -157,19 +181,19 @@ pub fn fill(buffer: &mut [u8]) -> Filled
 }
 
 // Reads a few bytes of a slice that are not kept.
-fn skip_some(count: usize) -> Found
+fn skip_some(rt: &HostRuntime, count: usize) -> Found
     requires { count ≤ 4096 }
 {
-    let mut space = io::buffer();
-    part_of(count, fill(&mut space[..count]))
+    let mut space = [0u8; 4096];
+    part_of(count, fill(rt, &mut space[..count]))
 }
 
 // Reads bytes of a slice that are not kept.
-fn skip(count: usize) -> Found {
+fn skip(rt: &HostRuntime, count: usize) -> Found {
     let mut left = count;
     while left > 0 {
         let part = least(left, 4096);
-        let passed = skip_some(part);
+        let passed = skip_some(rt, part);
         let Found::Bytes(_) = passed else {
             return passed;
         };
@@ -179,21 +203,21 @@ fn skip(count: usize) -> Found {
 }
 
 // Reads one slice to its end, and keeps as many of its bytes as the buffer holds.
-fn read_whole(begins: bool, buffer: &mut [u8]) -> Found
+fn read_whole(rt: &HostRuntime, begins: bool, buffer: &mut [u8]) -> Found
     ensures { FoundIn result (length buffer.new) }
 {
     let mut head = [0u8; 4];
-    let filled = fill(&mut head);
+    let filled = fill(rt, &mut head);
     let start = start_of(begins, &head, filled);
     let Found::Bytes(length) = start else {
         return start;
     };
     let kept = least(length, buffer.len());
-    let part = part_of(kept, fill(&mut buffer[..kept]));
+    let part = part_of(kept, fill(rt, &mut buffer[..kept]));
     let Found::Bytes(_) = part else {
         return part;
     };
-    let rest = skip(length - kept);
+    let rest = skip(rt, length - kept);
     let Found::Bytes(_) = rest else {
         return rest;
     };
@@ -202,43 +226,32 @@ fn read_whole(begins: bool, buffer: &mut [u8]) -> Found
 
 // Reads the slice that a record begins with, or its next one; where the input ends inside it, standard error says so. A slice that is
 // longer than the buffer fills it, and is read to its end.
-pub fn read_slice(begins: bool, buffer: &mut [u8]) -> Found
+pub fn read_slice(rt: &HostRuntime, begins: bool, buffer: &mut [u8]) -> Found
     ensures { FoundIn result (length buffer.new) }
 {
-    let found = read_whole(begins, buffer);
+    let found = read_whole(rt, begins, buffer);
     match found {
         Found::CutOff => {
-            io::write_all(STDERR_FILENO, b"standard input: ends inside a record\n");
+            eprintln!(rt; "standard input: ends inside a record").ok();
         }
         Found::Bytes(_) | Found::Ended | Found::Failed => {}
     }
     found
 }
 
-// One line: the four numbers in decimal, with single spaces.
-fn write_numbers(fd: i32, v: Numbers) {
-    io::print_decimal(fd, v.n as u64);
-    io::write_all(fd, b" ");
-    io::print_decimal(fd, v.a as u64);
-    io::write_all(fd, b" ");
-    io::print_decimal(fd, v.b as u64);
-    io::write_all(fd, b" ");
-    io::print_decimal(fd, v.c as u64);
-    io::write_all(fd, b"\n");
+// One line on standard output: the four numbers in decimal, with single spaces.
+pub fn print_verdict(rt: &HostRuntime, v: Numbers) -> io::Result<()> {
+    println!(rt; "{} {} {} {}", v.n, v.a, v.b, v.c)
 }
 
-// The line on standard output, and on standard error.
-pub fn print_verdict(v: Numbers) {
-    write_numbers(STDOUT_FILENO, v);
-}
-
-pub fn tell_verdict(v: Numbers) {
-    write_numbers(STDERR_FILENO, v);
+// The line on standard error.
+pub fn tell_verdict(rt: &HostRuntime, v: Numbers) -> io::Result<()> {
+    eprintln!(rt; "{} {} {} {}", v.n, v.a, v.b, v.c)
 }
 
 // Bytes as they are.
-pub fn write_bytes(bytes: &[u8]) {
-    io::write_all(STDOUT_FILENO, bytes);
+pub fn write_bytes(rt: &HostRuntime, bytes: &[u8]) -> io::Result<()> {
+    rt.stdout().write_all(bytes)
 }
 
 fn hex_digit(d: u8) -> u8
@@ -270,39 +283,41 @@ fn spell(bytes: &[u8], line: &mut [u8]) -> usize
 }
 
 // At most 4,096 bytes in hexadecimal.
-fn print_part(bytes: &[u8])
+fn print_part(rt: &HostRuntime, bytes: &[u8]) -> io::Result<()>
     requires { length bytes.now ≤ 4096 }
 {
     let mut line = [0u8; 8192];
     let n = spell(bytes, &mut line);
-    io::write_all(STDOUT_FILENO, &line[..n]);
+    rt.stdout().write_all(&line[..n])
 }
 
 // Bytes in hexadecimal, however many.
-fn print_hex(bytes: &[u8]) {
+fn print_hex(rt: &HostRuntime, bytes: &[u8]) -> io::Result<()> {
     let mut done = 0;
     while done < bytes.len() {
         let end = done + least(bytes.len() - done, 4096);
-        print_part(&bytes[done..end]);
+        print_part(rt, &bytes[done..end])?;
         done = end;
     }
+    Ok(())
 }
 
 // One line: `ok`, how many bytes there are, and the bytes in hexadecimal.
-fn print_bytes(bytes: &[u8]) {
-    io::write_all(STDOUT_FILENO, b"ok ");
-    io::print_decimal(STDOUT_FILENO, bytes.len() as u64);
-    io::write_all(STDOUT_FILENO, b" ");
-    print_hex(bytes);
-    io::write_all(STDOUT_FILENO, b"\n");
+fn print_bytes(rt: &HostRuntime, bytes: &[u8]) -> io::Result<()> {
+    print!(rt; "ok {} ", bytes.len())?;
+    print_hex(rt, bytes)?;
+    println!(rt; "")
 }
 
 // One line for an answer: the bytes written, from the buffer's start on, or the refusal.
-pub fn print_answer(buffer: &[u8], answer: Writing)
+pub fn print_answer(rt: &HostRuntime, buffer: &[u8], answer: Writing) -> io::Result<()>
     requires { bytes_written answer ≤ length buffer.now }
 {
     match answer {
-        Writing::Written(n) => print_bytes(&buffer[..n]),
-        Writing::Refused(_) => print_verdict(verdicts::numbers_of(verdicts::verdict_of(answer))),
+        Writing::Written(n) => print_bytes(rt, &buffer[..n]),
+        Writing::Refused(_) => print_verdict(
+            rt,
+            verdicts::numbers_of(verdicts::verdict_of(answer)),
+        ),
     }
 }

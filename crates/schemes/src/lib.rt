@@ -1,4 +1,6 @@
 // Schemes: morphisms of words as code keeps them, by which the sets of patterns of words one after the other are worked out.
+#![tactic(auto)]
+
 ghost use Rattle.std.specs.Prelude.{◌≡◌, ◌&&◌, ℕ, ◌≤◌, ◌<◌};
 ghost use Rattle.vocabularies.specs.Inner.Promises.{meaning_of};
 ghost use Rattle.patterns.specs.Inner.Morphisms.{join_classes, root_morphism};
@@ -13,7 +15,7 @@ use vocabularies::{Fact, Facts};
 // whose presence is the fact there, or `NO_CONTENT`; for the root its first place has the root. Two words, one after the other, break a
 // pair if one of its contents stands in the first and the other one in the second; `befores` and `afters` have the places of these two
 // for each pair.
-#[derive(Drop)]
+#[derive(Clone, Copy)]
 pub struct Scheme {
     pub rooted: bool,
     pub contents: [u8; 8],

@@ -1,5 +1,7 @@
 // The outcome for a script that was read into a buffer (document 02, F-1); apart from the verdicts of buffers, so that the check does not
 // stand on the inference.
+#![tactic(auto)]
+
 ghost use Rattle.std.specs.Prelude.{ℕ, ◌≤◌, ◌≡◌, List, length};
 ghost use Rattle.verdicts.specs.Printed.{bytes_written};
 ghost use Rattle.verdicts.specs.TheVerdict.{TheVerdict};

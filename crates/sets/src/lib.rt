@@ -1,4 +1,6 @@
 // Sets of the numbers 0 to 63 as words.
+#![tactic(auto)]
+
 ghost use Rattle.std.specs.Prelude.{◌≡◌, not, ◌&&◌, ◌||◌, ℕ, ◌<◌, eqb};
 ghost use Rattle.sets.specs.Sets.{member};
 ghost use Rattle.sets.specs.Inner.Promises.{MembersWithin, FirstMember};

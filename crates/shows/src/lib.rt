@@ -1,5 +1,7 @@
 // The shows of a job (document 01, "Verdicts", 11 and 12; document 02, F-6): what a point shows, and what is wrong in the pages of its
 // language.
+#![tactic(auto)]
+
 ghost use Rattle.std.specs.Prelude.{◌≡◌, ◌<◌};
 ghost use Rattle.shows.specs.Inner.Promises.{ShowsAt, HoldsEntry, HoldsSource, HoldsShown, TabledBy, DecidesShow, is_other, LowestRoot, shown_of, WrongElements};
 
@@ -13,7 +15,7 @@ use verdicts::Breach;
 use vocabularies::Tables;
 
 // What a point shows: nothing, or a page.
-#[derive(Drop)]
+#[derive(Clone, Copy)]
 pub enum Showing {
     Nothing,
     Page(Source),
@@ -21,7 +23,7 @@ pub enum Showing {
 
 // What the page of a show is made from: the value of a template variable; or a template, the frame, with that value in place of its gap
 // (document 02, F-3).
-#[derive(Drop)]
+#[derive(Clone, Copy)]
 pub enum Source {
     Variable(u8),
     Framed { x: u8, frame: u8, gap: u8 },
@@ -29,7 +31,7 @@ pub enum Source {
 
 // What is found at a show: nothing; a root template with a page that is not exactly the root element (11); or an element that is
 // wrong in some page (12, 14 or 15), by its template, the offset of its `23` and what it breaks.
-#[derive(Drop)]
+#[derive(Clone, Copy)]
 pub enum Shown {
     Right,
     NotRoot(usize),
@@ -42,7 +44,7 @@ pub enum Shown {
 
 // What is worked out of the templates of a job: the gaps of each, at any depth; the contents and the gaps among its outer items; and for
 // each element the templates in which it stands.
-#[derive(Drop)]
+#[derive(Clone, Copy)]
 pub struct TemplateTables {
     pub gaps: [u64; 32],
     pub contents: [u64; 32],
@@ -51,7 +53,7 @@ pub struct TemplateTables {
 }
 
 // The lowest root template with a page that is not exactly the root element; or there is none.
-#[derive(Drop)]
+#[derive(Clone, Copy)]
 enum OtherRoot {
     Nowhere,
     At(usize),

@@ -15,7 +15,7 @@ use Rattle.pages.specs.Inner.Gaps.{GapsTable}
 use Rattle.programs.specs.declared.Act as Acts
 use Rattle.programs.specs.declared.Statement as Statements
 use Rattle.programs.specs.declared.Statement.TheVariants.{Step, Stop}
-use Rattle.programs.specs.Program.{Act, Statement, step, statement_at, Variable}
+use Rattle.programs.specs.Program.{Act, step, statement_at, Variable}
 use Rattle.programs.specs.Inner.Promises.{as_act, as_statement, statement_here}
 use Rattle.jobs.specs.Job.{Script}
 use Rattle.jobs.specs.Inner.ScriptTables.{ScriptTables, StatementStands}

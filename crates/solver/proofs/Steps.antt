@@ -10,7 +10,7 @@ use Rattle.strings.specs.Inner.Promises.{holds_value}
 use Rattle.pages.specs.Items.{Items}
 use Rattle.pages.specs.Inner.Gaps.{GapsTable}
 use Rattle.programs.specs.Program.{Act, template_variable, string_variable}
-use Rattle.summaries.specs.Summaries.{Summary, transfer}
+use Rattle.summaries.specs.Summaries.{transfer}
 use Rattle.transfers.specs.declared.Made.{Made}
 use Rattle.transfers.specs.declared.Made.TheVariants.{Value}
 use Rattle.transfers.specs.declared.MadeString.{MadeString}

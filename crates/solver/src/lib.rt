@@ -1,4 +1,6 @@
 // The least entries that cover a script (document 02, F-1), worked out in a work area by a worklist.
+#![tactic(auto)]
+
 ghost use Rattle.std.specs.Prelude.{List, ℕ, ◌≤◌, ◌<◌, ltb, cond, length, get_or, ◌≡◌};
 ghost use Rattle.jobs.specs.Job.{Script};
 ghost use Rattle.jobs.specs.LeastEntries.{Least};

@@ -1,4 +1,6 @@
 // The entries of all points, kept in a work area: which words are a point's stands here alone.
+#![tactic(auto)]
+
 ghost use Rattle.std.specs.Prelude.{◌≡◌, ℕ, ◌+◌, ◌*◌, ◌^◌, ◌≤◌, ◌<◌, true, false, length, get_or, take, drop};
 ghost use Rattle.summaries.specs.Proposal.{Claim};
 ghost use Rattle.sets.specs.Sets.{member};

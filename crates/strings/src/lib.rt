@@ -1,23 +1,25 @@
 // Sets of strings, and what an attribute gap can take. How many strings are named stands here alone.
+#![tactic(auto)]
+
 ghost use Rattle.std.specs.Prelude.{◌≡◌, true, false, not, ◌&&◌, ◌||◌, ℕ, ◌≤◌, ◌<◌, eqb, ltb};
 ghost use Rattle.strings.specs.Strings.{strings};
 ghost use Rattle.strings.specs.Inner.Promises.{set_number, has_string, StringsWithin, FirstString, holds_value, ValuesWithin, NoValues, NothingToTake};
 
 // A set of named strings.
-#[derive(Drop)]
+#[derive(Clone, Copy)]
 pub struct StringSet {
     pub word: u64,
 }
 
 // Strings: some of the named ones, or all that exist.
-#[derive(Drop)]
+#[derive(Clone, Copy)]
 pub struct Values {
     pub named: StringSet,
     pub any: bool,
 }
 
 // What an attribute gap can take at a show: strings or, where it can still be open, no string, so that its attribute is absent.
-#[derive(Drop)]
+#[derive(Clone, Copy)]
 pub struct AttributeValues {
     pub strings: Values,
     pub absent: bool,

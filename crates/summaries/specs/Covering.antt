@@ -4,7 +4,6 @@
 use Rattle.std.specs.Prelude.{ℕ, ◌≡◌, List, true, eqb}
 use Rattle.commands.specs.Commands.{empty_string}
 use Rattle.pages.specs.Items.{Items}
-use Rattle.pages.specs.Items as Items
 use Rattle.programs.specs.Program.{Act, Statement, Variable, template_variable, string_variable, named}
 use Rattle.summaries.specs.Summaries.{Environment, Within, fragment, transfer}
 

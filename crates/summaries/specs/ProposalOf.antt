@@ -3,7 +3,7 @@
 use Rattle.std.specs.Prelude.{ℕ, zero, suc, List, [], ◌∷◌, ◌++◌, Bool, cond, not, ◌&&◌}
 use Rattle.commands.specs.Commands.{strings}
 use Rattle.programs.specs.Program.{Variable, template_variable, string_variable}
-use Rattle.summaries.specs.Proposal.{Claim, root, edge, string, gap_from, attribute_gap_from, Holding, claim, any_at, one_string, any_string, Head}
+use Rattle.summaries.specs.Proposal.{root, edge, string, gap_from, attribute_gap_from, Holding, claim, any_at, one_string, any_string, Head}
 use Rattle.summaries.specs.ProposalReading.{variable_of}
 use Rattle.summaries.specs.Summaries.{Summary, Strings, Environment}
 

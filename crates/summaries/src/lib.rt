@@ -1,4 +1,6 @@
 // Summaries: what a proposal claims of each variable at the entry of each point.
+#![tactic(auto)]
+
 ghost use Rattle.std.specs.Prelude.{◌≡◌, ◌+◌, ◌*◌, ◌≤◌, ◌<◌, replicate, leb};
 ghost use Rattle.commands.specs.Commands.{byte};
 ghost use Rattle.summaries.specs.ProposalReading.{holding_at, holding_there, variable_of, holding_context};
@@ -10,7 +12,7 @@ use verdicts::Form;
 
 // What an item under the head of a template variable says: a root; an edge of a template's gap; a string, or any string, at a
 // template's attribute gap; that an open gap, or an open attribute gap, may come from a template.
-#[derive(Drop)]
+#[derive(Clone, Copy)]
 pub enum Claim {
     Root(u8),
     Edge(u8, u8, u8),
@@ -21,14 +23,14 @@ pub enum Claim {
 }
 
 // The item of a template variable here with the position after it, or that none stands here.
-#[derive(Drop)]
+#[derive(Clone, Copy)]
 pub enum ClaimHere {
     Item(Claim, Position),
     End,
 }
 
 // The item of a string variable here, one string or any, with the position after it, or that none stands here.
-#[derive(Drop)]
+#[derive(Clone, Copy)]
 pub enum StringHere {
     One(u8, Position),
     Any(Position),
@@ -148,6 +150,7 @@ fn head_number(s: &[u8], here: Position) -> usize
 }
 
 // The head that may stand here, at least `least` as p * 8 + v, or `4F`.
+#[tactic(auto, using(crate::proofs::Here::head_refused, crate::proofs::Here::head_ends, crate::proofs::Here::head_missing, crate::proofs::Here::head_not_rising, crate::proofs::Here::head_moves))]
 fn head_here(s: &[u8], here: Position, points: usize, least: usize) -> Decoded
     ensures { result ≡ head_here points s.now least here.at }
 {

@@ -1,5 +1,7 @@
 // What a statement makes of each variable (document 01, "Covering, and the language of a show"): from which values, and how. Code that
 // applies the transfer functions goes by these few ways; the acts are told apart here alone.
+#![tactic(auto)]
+
 ghost use Rattle.std.specs.Prelude.{◌≡◌};
 ghost use Rattle.programs.specs.Program.{template_variable, string_variable};
 ghost use Rattle.programs.specs.Inner.Promises.{as_act};
@@ -8,7 +10,7 @@ ghost use Rattle.transfers.specs.Inner.Ways.{if_set, made_by, if_string_set, str
 use programs::Act;
 
 // How the value of a template variable is made.
-#[derive(Drop)]
+#[derive(Clone, Copy)]
 pub enum Made {
     // It is the value that a template variable had.
     Value(u8),
@@ -21,7 +23,7 @@ pub enum Made {
 }
 
 // How the value of a string variable is made.
-#[derive(Drop)]
+#[derive(Clone, Copy)]
 pub enum MadeString {
     // It is the value that a string variable had.
     Value(u8),

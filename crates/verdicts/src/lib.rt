@@ -1,10 +1,12 @@
 // What a call answers: acceptance, or a refusal with its kind and place (document 01, "Verdicts").
+#![tactic(auto)]
+
 ghost use Rattle.std.specs.Prelude.{◌≡◌};
 ghost use Rattle.verdicts.specs.Printed.{form_number, cover_numbers, fault_numbers, element_fault, refusal_numbers, numbers_of, verdict_of, bytes_written};
 ghost use Rattle.verdicts.specs.Inner.Acceptance.{accepts};
 
 // Why bytes cannot be read.
-#[derive(Drop)]
+#[derive(Clone, Copy)]
 pub enum Form {
     // 1: more than 65,535 bytes.
     TooLong,
@@ -25,14 +27,14 @@ pub enum Form {
 }
 
 // Where bytes cannot be read: an offset of a slice. A job is slice 0; a page is slice 1 beside its vocabulary.
-#[derive(Drop)]
+#[derive(Clone, Copy)]
 pub struct Place {
     pub at: usize,
     pub slice: usize,
 }
 
 // What a proposal does not cover.
-#[derive(Drop)]
+#[derive(Clone, Copy)]
 pub enum Cover {
     // 9: the start, at the lowest such variable.
     Start(usize),
@@ -45,7 +47,7 @@ pub enum Cover {
 }
 
 // What is wrong in a page that a point shows. A page that is judged alone has point 0 and template 0.
-#[derive(Drop)]
+#[derive(Clone, Copy)]
 pub enum Fault {
     // 11: a page of this root template, the lowest such, is not exactly the root element.
     NotRoot {
@@ -73,7 +75,7 @@ pub enum Fault {
 }
 
 // Which part of its rule a wrong element breaks (document 02, F-6).
-#[derive(Drop)]
+#[derive(Clone, Copy)]
 pub enum Breach {
     // The allowed attributes.
     Attribute,
@@ -102,7 +104,7 @@ pub fn element_fault(point: usize, template: usize, at: usize, breach: Breach) -
     }
 }
 
-#[derive(Drop)]
+#[derive(Clone, Copy)]
 pub enum Refusal {
     Form(Form, Place),
     Cover(Cover),
@@ -111,14 +113,14 @@ pub enum Refusal {
     NoRoom(usize),
 }
 
-#[derive(Drop)]
+#[derive(Clone, Copy)]
 pub enum Verdict {
     Accepted,
     Refused(Refusal),
 }
 
 // What a call that writes answers (document 02): how many bytes it has written, or a refusal.
-#[derive(Drop)]
+#[derive(Clone, Copy)]
 pub enum Writing {
     Written(usize),
     Refused(Refusal),
@@ -155,7 +157,7 @@ pub fn is_accepted(v: Verdict) -> bool
 }
 
 // A verdict as document 01 prints it: the number, and the places, unused ones 0.
-#[derive(Drop)]
+#[derive(Clone, Copy)]
 pub struct Numbers {
     pub n: usize,
     pub a: usize,

@@ -1,6 +1,6 @@
 -- Reading a vocabulary (document 01, "A job, command by command", Vocabulary; "Verdicts"). Rules come in any order; a list of a
 -- rule ends at the first command that is none of its own.
-use Rattle.std.specs.Prelude.{ℕ, zero, suc, ◌+◌, List, [], ◌∷◌, ◌++◌, cond, not, length, leb, ltb, eqb}
+use Rattle.std.specs.Prelude.{ℕ, zero, suc, ◌+◌, List, [], ◌∷◌, ◌++◌, cond, length, leb, ltb, eqb}
 use Rattle.verdicts.specs.declared.Form.TheVariants.{TooLong, NotAllowed, NotRising, TooMany, TooManyFacts, Missing}
 use Rattle.commands.specs.declared.Context.{Context}
 use Rattle.commands.specs.declared.Context.TheVariants.{Rules, Attributes, Contents, Formulas}

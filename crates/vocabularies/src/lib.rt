@@ -1,4 +1,6 @@
 // The vocabulary of the panel: its rules, their clauses, and how they are read.
+#![tactic(auto)]
+
 ghost use Rattle.std.specs.Prelude.{ℕ, ◌≤◌, ◌<◌, ◌≡◌, List, [], ◌⊎◌};
 ghost use Rattle.strings.specs.Inner.Promises.{set_number};
 ghost use Rattle.commands.specs.Inner.Parts.{Single, part_of};
@@ -12,7 +14,7 @@ use verdicts::Form;
 
 // What reading a vocabulary keeps: for each element that has a rule, the allowed attributes and contents as sets, and the offset
 // where its clauses stand.
-#[derive(Drop)]
+#[derive(Clone, Copy)]
 pub struct Tables {
     pub declared: u64,
     pub attributes: [u64; 64],
@@ -21,7 +23,7 @@ pub struct Tables {
     pub root: u8,
 }
 
-#[derive(Drop)]
+#[derive(Clone, Copy)]
 pub struct VocabularyRead {
     pub part: Part,
     pub tables: Tables,
@@ -29,7 +31,7 @@ pub struct VocabularyRead {
 
 // The formula that stands at a position, by its first command: the eight forms in the order of source 000's grammar, each with what the
 // command names and the position after it; or no formula.
-#[derive(Drop)]
+#[derive(Clone, Copy)]
 pub enum FormulaHere {
     Conj(Position),
     Disj(Position),
@@ -43,7 +45,7 @@ pub enum FormulaHere {
 }
 
 // A fact of a clause: an attribute of `14`, a content of `15` and `16`, a pair of `16`, an attribute and a set of `17`.
-#[derive(Drop)]
+#[derive(Clone, Copy)]
 pub enum Fact {
     Carried(u8),
     Present(u8),
@@ -52,28 +54,28 @@ pub enum Fact {
 }
 
 // A fact where it is kept: an array of enums cannot be a field.
-#[derive(Drop)]
+#[derive(Clone, Copy)]
 pub struct KeptFact {
     pub fact: Fact,
 }
 
 // The facts of a clause so far, in the order of their definition. `count` is 9 where there are more than 8, of which only the first
 // 8 are kept.
-#[derive(Drop)]
+#[derive(Clone, Copy)]
 pub struct Facts {
     pub kept: [KeptFact; 8],
     pub count: usize,
 }
 
 // The names of a rising list as a set, with the part that the list is.
-#[derive(Drop)]
+#[derive(Clone, Copy)]
 pub struct Names {
     pub part: Part,
     pub set: u64,
 }
 
 // A rule as tables: the allowed names as sets, the offset where its clauses stand, and the part that it is.
-#[derive(Drop)]
+#[derive(Clone, Copy)]
 pub struct RuleRead {
     pub part: Part,
     pub attributes: u64,

@@ -1,1 +1,3 @@
 // Worked examples of document 01, computed from the definitions.
+#![tactic(auto)]
+

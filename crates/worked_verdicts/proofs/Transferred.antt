@@ -237,8 +237,8 @@ module _ (g : ℕ) (xs ys : List Holding) where
   unfolding plug_items
   plug_lists = record {
     complete = complete;
-    whole = each_append _ xs (ys ++ es) (whole_more S _ (λ n h t e. or_left _ _ e) xs (λ c e. e))
-        (each_append _ ys es (whole_more T _ (λ n h t e. or_right (S (Proposal.string n h t)) _ e) ys (λ c e. e)) (claims_whole _ (edges xs ys)));
+    whole = each_append _ xs (ys ++ es) (whole_more S (plug_summary g S T) (λ n h t e. or_left _ (T (Proposal.string n h t)) e) xs (λ c e. e))
+        (each_append _ ys es (whole_more T (plug_summary g S T) (λ n h t e. or_right (S (Proposal.string n h t)) _ e) ys (λ c e. e)) (claims_whole (plug_summary g S T) (edges xs ys)));
   }
 
 -- A plug of strings: the entry, and strings at the origins of the attribute gap.
@@ -334,7 +334,8 @@ pub fill_lists : (h : ℕ) (xs ys : List Holding) → ListsTemplate (plug_string
 unfolding fill_items
 fill_lists h xs ys = record {
   complete = complete;
-  whole = each_append _ xs (filled h xs ys) (whole_more (held says_claim xs) _ (λ n k t e. or_left _ _ e) xs (λ c e. e))
+  whole = each_append _ xs (filled h xs ys) (whole_more (held says_claim xs) (plug_string_summary h (held says_claim xs) (held says_string ys))
+          (λ n k t e. or_left _ (eqb k h && held says_claim xs (attribute_gap_from k n) && held says_string ys t) e) xs (λ c e. e))
       (filled_whole h (held says_claim xs) (held says_string ys) xs ys (λ c e. e) (λ t e. e));
 }
   where

@@ -1,7 +1,7 @@
 -- The steps on the way: where an item stands among the words, what is added and taken at one gap, and joining.
 use Rattle.std.specs.Prelude.{ℕ, ◌+◌, ◌*◌, ◌^◌, ◌<◌, ◌≡◌, List, Bool, false, not, cond, ◌&&◌, ◌||◌, eqb, get_or, set}
 use Rattle.sets.specs.Sets.{member}
-use Rattle.summaries.specs.Proposal.{Claim, root, edge, string, gap_from, attribute_gap_from}
+use Rattle.summaries.specs.Proposal.{root, edge, string, gap_from, attribute_gap_from}
 use Rattle.summaries.specs.Summaries.{Summary}
 use Rattle.summaries.specs.declared.Claim as Declared
 use Rattle.summaries.specs.declared.Claim.TheVariants.{Root, Edge, String, AnyString, GapFrom, AttributeGapFrom}

@@ -3,7 +3,6 @@
 use Rattle.std.specs.Prelude.{ℕ, suc, List, [], ◌∷◌, Bool, true, false, cond, not, ◌&&◌, ◌||◌, eqb}
 use Rattle.std.proofs.Math.Option.{Option, some, none}
 use Rattle.sets.specs.Sets.{member}
-use Rattle.verdicts.specs.declared.Form.{Form}
 use Rattle.verdicts.specs.declared.Breach.{Breach}
 use Rattle.verdicts.specs.declared.Breach.TheVariants as Breaches
 use Rattle.verdicts.specs.declared.Fault.TheVariants.{NotRoot}
@@ -15,7 +14,6 @@ use Rattle.commands.specs.Reading.{Read, whole, refused, unfinished}
 use Rattle.vocabularies.specs.Vocabulary.{Formula, conj, disj, neg, truth, attr, content, order, value, Rule, Vocabulary, rule_of, is_in}
 use Rattle.vocabularies.specs.VocabularyReading.{vocabulary_slice}
 use Rattle.pages.specs.Items.{Value, string, open_gap, Attribute, Item, text, blank, gap, element, Items, more, without_blank}
-use Rattle.pages.specs.Items as Items
 use Rattle.pages.specs.ItemReading.{page_slice}
 use Rattle.pages.specs.RightPages.{names, word}
 use Rattle.judging.specs.declared.FirstWrong.{FirstWrong}

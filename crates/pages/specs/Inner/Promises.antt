@@ -2,7 +2,6 @@
 -- the same refusal.
 use Rattle.std.specs.Prelude.{ℕ, ◌+◌, ◌-◌, ◌<◌, ◌≤◌, ◌≡◌, List, Bool, length, get_or}
 use Rattle.commands.specs.declared.Part.{Part}
-use Rattle.commands.specs.Commands.{byte}
 use Rattle.commands.specs.Reading.{whole}
 use Rattle.commands.specs.Inner.Parts.{Agrees, AgreesAs, Enough}
 use Rattle.pages.specs.declared.Kind.{Kind}

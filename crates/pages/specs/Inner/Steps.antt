@@ -1,6 +1,6 @@
 -- One step of the walks over items and attributes that were read: what stands at an offset, and the position after it. Bytes that were
 -- read have their operands in range, so the remainders change nothing there.
-use Rattle.std.specs.Prelude.{ℕ, ◌+◌, ◌%◌, ◌<◌, ◌≤◌, ◌≡◌, List, Bool, cond, length, ltb, eqb}
+use Rattle.std.specs.Prelude.{ℕ, ◌+◌, ◌%◌, ◌<◌, ◌≤◌, ◌≡◌, List, cond, length, ltb, eqb}
 use Rattle.commands.specs.declared.Position.{Position}
 use Rattle.commands.specs.Commands.{byte, strings}
 use Rattle.commands.specs.Reading.{whole}
@@ -9,8 +9,8 @@ use Rattle.pages.specs.declared.ItemHere.{ItemHere}
 use Rattle.pages.specs.declared.ItemHere.TheVariants.{Text, Gap, Element, Blank, End}
 use Rattle.pages.specs.declared.AttributeHere.{AttributeHere}
 use Rattle.pages.specs.declared.AttributeHere.TheVariants.{Fixed, Open, Done}
-use Rattle.pages.specs.Items.{Attribute, Item, Items}
-use Rattle.pages.specs.ItemReading.{attributes, items, item}
+use Rattle.pages.specs.Items.{Attribute}
+use Rattle.pages.specs.ItemReading.{attributes}
 
 -- `21`, `22 g`, `23 e`, `29`; anything else ends a list of items.
 abbrev pub item_of : List ℕ → ℕ → ℕ → ItemHere

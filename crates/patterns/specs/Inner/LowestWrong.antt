@@ -5,7 +5,6 @@ use Rattle.std.proofs.Math.Option.{Option, some, none}
 use Rattle.sets.specs.Sets.{member}
 use Rattle.verdicts.specs.declared.Breach.{Breach}
 use Rattle.pages.specs.Items.{Attribute, Item, text, blank, gap, element, Items, more}
-use Rattle.pages.specs.Items as Items
 use Rattle.pages.specs.RightPages.{SomeElement, FirstBreach}
 use Rattle.programs.specs.Program.{template_at}
 use Rattle.patterns.specs.declared.Wrong.{Wrong}

@@ -1,9 +1,9 @@
 -- What the code over schemes promises, for each morphism that a scheme stands for.
 use Rattle.std.specs.Prelude.{ℕ, ◌≤◌, ◌<◌, ◌≡◌, List, [], ◌∷◌, Bool, true, false, ◌⊎◌, length, get_or}
 use Rattle.vocabularies.specs.declared.Facts.{Facts}
-use Rattle.vocabularies.specs.Facts.{Fact, present}
+use Rattle.vocabularies.specs.Facts.{Fact}
 use Rattle.vocabularies.specs.VocabularyReading.{most_facts}
-use Rattle.vocabularies.specs.Inner.Promises.{Stored, Represents}
+use Rattle.vocabularies.specs.Inner.Promises.{Represents}
 use Rattle.patterns.specs.Inner.Morphisms as Morphisms
 use Rattle.patterns.specs.Inner.Rounds.{Set, only, product}
 use Rattle.schemes.specs.declared.Scheme.{Scheme}

@@ -1,0 +1,11 @@
+-- Strings are added at the origins, which are taken out then.
+use Rattle.entries.proofs.PassingOn.{no_attribute, attribute_filled}
+use Rattle.entries.proofs.pass_attribute.Goals as goal
+
+pub returns-then-h-ge-NO_GAP : goal.returns-then-h-ge-NO_GAP
+returns-then-h-ge-NO_GAP c = λ S k. no_attribute S _ _ _ c.if-h-ge-NO_GAP.true k
+
+pub returns : goal.returns
+returns c = λ S k.
+    let l = c.if-h-ge-NO_GAP.false in
+    attribute_filled S _ _ _ _ _ l k (c.attribute_origins-open.ensures l) (c.drop_attribute_origins.ensures l _ (c.add_strings.ensures l S k))

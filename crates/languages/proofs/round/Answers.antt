@@ -1,0 +1,29 @@
+use mathlib.Core.Path.{refl}
+use mathlib.Core.List.{[]}
+use mathlib.Core.Logic.{inl, inr}
+use Rattle.languages.proofs.GapSets.{filled_none, filled_more}
+use Rattle.languages.proofs.RoundLaws.{RowIs, row_computed, row_kept, round_all}
+use Rattle.languages.proofs.round.Goals as goal
+use Rattle.languages.proofs.round.Goals.{then-common-eq0, else-common-eq0}
+
+pub loop-n-init : goal.loop-n-init
+loop-n-init c = filled_none _ _ _ _ refl
+
+pub returns-then-count-n : goal.returns-then-count-n
+returns-then-count-n c = let a = c.args in
+    round_all a.r a.s.now a.graph.now a.starts.now a.targets.now a.sets.now a.count a.changed _ _ (inl c.if-count-n.true) c.loop-n.invariant
+
+pub loop-n-preserved : goal.loop-n-preserved
+loop-n-preserved c = let a = c.args in
+    let low = c.loop-n-test.true in
+    let more = filled_more 32 [] (RowIs a.r a.s.now a.graph.now a.starts.now a.targets.now a.sets.now a.count a.changed) c.loop-n.next c.loop-n.n in
+    elim c.if-common-eq0.branch [
+      | then-common-eq0 m ↦ rw m.next-is (more _ low
+          (row_kept a.r a.s.now a.graph.now a.starts.now a.targets.now a.sets.now a.count a.changed c.loop-n.n _ low c.common.ensures m.if-common-eq0.true) c.loop-n.invariant)
+      | else-common-eq0 m ↦ rw m.next-is (more _ low
+          (row_computed a.r a.s.now a.graph.now a.starts.now a.targets.now a.sets.now a.count a.changed c.loop-n.n _ m.template_patterns-new.ensures) c.loop-n.invariant)
+    ]
+
+pub returns : goal.returns
+returns c = let a = c.args in
+    round_all a.r a.s.now a.graph.now a.starts.now a.targets.now a.sets.now a.count a.changed _ _ (inr c.loop-n-test.false) c.loop-n.invariant

@@ -1,0 +1,10 @@
+-- The first bytes are copied; those that are still to be read lie below all that is written.
+use Prim.Native.Nat.{◌-◌}
+use Rattle.memory.proofs.Laid.{Copied}
+use Rattle.memory.proofs.copy.Given as goal
+
+abbrev pub invariant-loop-i : goal.invariant-loop-i
+invariant-loop-i l = Copied l.initial.out l.from l.at l.count l.i l.out
+
+abbrev pub decreases-loop-i : goal.decreases-loop-i
+decreases-loop-i l = l.count - l.i

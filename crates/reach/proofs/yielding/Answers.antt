@@ -1,0 +1,16 @@
+use mathlib.Core.Logic.{inl, inr}
+use native.Mathlib.Omega.{arith}
+use Rattle.reach.proofs.YieldingTemplates.{yielding_none, yielding_more, yielding_all}
+use Rattle.reach.proofs.yielding.Goals as goal
+
+pub loop-n-init : goal.loop-n-init
+loop-n-init c = (omega arith, yielding_none _)
+
+pub returns-then-count-t : goal.returns-then-count-t
+returns-then-count-t c = yielding_all _ _ _ _ (inl c.if-count-t.true) c.loop-n.invariant.1
+
+pub loop-n-preserved : goal.loop-n-preserved
+loop-n-preserved c = (omega arith, yielding_more _ _ _ _ c.is_empty.result c.is_empty.ensures c.with_if-yields.ensures c.loop-n.invariant.1)
+
+pub returns : goal.returns
+returns c = yielding_all _ _ _ _ (inr c.loop-n-test.false) c.loop-n.invariant.1

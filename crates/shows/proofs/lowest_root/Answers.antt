@@ -1,0 +1,15 @@
+use native.Mathlib.Omega.{arith}
+use Rattle.shows.proofs.Lowest.{none_more, root_found, no_root_found}
+use Rattle.shows.proofs.lowest_root.Goals as goal
+
+pub loop-t-init : goal.loop-t-init
+loop-t-init c = (omega arith, λ m l. absurd (omega arith))
+
+pub returns-then-is_other : goal.returns-then-is_other
+returns-then-is_other c = root_found _ c.args.classes _ _ _ c.is_other.ensures c.if-is_other.true c.loop-t-test.true c.loop-t.invariant.1
+
+pub loop-t-preserved : goal.loop-t-preserved
+loop-t-preserved c = (omega arith, none_more _ c.args.classes _ _ c.is_other.ensures c.if-is_other.false c.loop-t.invariant.1)
+
+pub returns : goal.returns
+returns c = no_root_found _ c.args.classes _ _ c.loop-t-test.false c.loop-t.invariant.1

@@ -1,0 +1,12 @@
+-- The start is put, then the points are swept until no variable waits.
+use mathlib.Core.Path.{◌≡◌}
+use lib.ListN.{length}
+use Rattle.solver.specs.Inner.Work.{Working}
+use Rattle.solver.proofs.Solving.{measure}
+use Rattle.solver.proofs.solve.Given as goal
+
+abbrev pub invariant-loop-waiting : goal.invariant-loop-waiting
+invariant-loop-waiting l = (length l.work ≡ length l.initial.work) × (length l.waiting ≡ 32) × Working l.s l.gaps l.points l.places l.names l.work l.waiting
+
+abbrev pub decreases-loop-waiting : goal.decreases-loop-waiting
+decreases-loop-waiting l = measure l.work l.waiting

@@ -1,0 +1,52 @@
+use native.Mathlib.Omega.{arith}
+use Prim.Native.Nat.{◌≤◌}
+use Rattle.vocabularies.specs.VocabularyReading.{formula_nesting}
+use Rattle.vocabularies.proofs.Parts.{command_falls}
+use Rattle.vocabularies.proofs.Formulas.{formula_refused, formula_deep_two, formula_deep_one, formula_first, formula_two, formula_one, formula_low, formula_high, formula_falls}
+use Rattle.vocabularies.proofs.+read_formula.Goals as goal
+
+pub returns-in_default : goal.returns-in_default
+returns-in_default t c = search formula_refused
+
+pub returns-then-depth-ge-FORMULA_NESTING : goal.returns-then-depth-ge-FORMULA_NESTING
+returns-then-depth-ge-FORMULA_NESTING t c =
+    let deep : formula_nesting ≤ c.args.depth = omega arith in
+    search formula_deep_one
+
+pub overflow_add-depth : goal.overflow_add-depth
+overflow_add-depth t c = omega arith
+
+pub read_formula-requires : goal.read_formula-requires
+read_formula-requires t c = (search command_falls, tt)
+
+pub returns-then-depth-ge-FORMULA_NESTING-2 : goal.returns-then-depth-ge-FORMULA_NESTING-2
+returns-then-depth-ge-FORMULA_NESTING-2 t c =
+    let deep : formula_nesting ≤ c.args.depth = omega arith in
+    search formula_deep_two
+
+pub overflow_add-depth-in-16 : goal.overflow_add-depth-in-16
+overflow_add-depth-in-16 t c = omega arith
+
+pub read_formula-first-requires : goal.read_formula-first-requires
+read_formula-first-requires t c = (search command_falls, tt)
+
+pub returns-in_default-first : goal.returns-in_default-first
+returns-in_default-first t c = search formula_first
+
+pub overflow_add-depth-in-16-2 : goal.overflow_add-depth-in-16-2
+overflow_add-depth-in-16-2 t c = omega arith
+
+pub read_formula-requires-in-16 : goal.read_formula-requires-in-16
+read_formula-requires-in-16 t c = (search formula_falls, tt)
+
+pub returns-else-depth-ge-FORMULA_NESTING : goal.returns-else-depth-ge-FORMULA_NESTING
+returns-else-depth-ge-FORMULA_NESTING t c = search formula_one
+
+pub returns-in-Whole : goal.returns-in-Whole
+returns-in-Whole t c = search formula_two
+
+pub returns-in_default-code : goal.returns-in_default-code
+returns-in_default-code t c = search formula_low
+
+pub returns-in_default-code-2 : goal.returns-in_default-code-2
+returns-in_default-code-2 t c = search formula_high

@@ -1,0 +1,23 @@
+use Rattle.vocabularies.proofs.Clauses.{clauses_start, clauses_end, clauses_refused, clauses_many, clauses_more, clause_falls, clause_stands}
+use Rattle.vocabularies.proofs.read_clauses.Goals as goal
+
+pub loop-start-init : goal.loop-start-init
+loop-start-init c = clauses_start _ _
+
+pub returns-in_default : goal.returns-in_default
+returns-in_default c = search clauses_end
+
+pub returns-in_default-part : goal.returns-in_default-part
+returns-in_default-part c = search clauses_refused
+
+pub has_many_facts-requires : goal.has_many_facts-requires
+has_many_facts-requires c = search clause_stands
+
+pub returns-then-has_many_facts : goal.returns-then-has_many_facts
+returns-then-has_many_facts c = search clauses_many
+
+pub loop-start-smaller : goal.loop-start-smaller
+loop-start-smaller c = search clause_falls
+
+pub loop-start-preserved : goal.loop-start-preserved
+loop-start-preserved c = search clauses_more
