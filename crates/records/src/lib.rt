@@ -121,9 +121,12 @@ fn least(a: usize, b: usize) -> usize
     if a < b { a } else { b }
 }
 
-// Why a read failed, on standard error: the text of the error without its number, which std puts behind it.
+// Why a read failed, on standard error: the text of the error without its number, which std puts behind it. Where there is no memory to take
+// the number off, it stays.
 fn tell_failure(rt: &HostRuntime, error: io::Error) -> io::Result<()> {
-    let text = format!(in rt.alloc(); "{error}")?;
+    let Ok(text) = format!(in rt.alloc(); "{error}") else {
+        return eprintln!(rt; "standard input: {error}");
+    };
     match text.as_str().split_once(" (os error ") {
         Some((why, _)) => eprintln!(rt; "standard input: {why}"),
         None => eprintln!(rt; "standard input: {text}"),

@@ -1,3 +1,2 @@
 // Why accepted jobs show only right pages: theorems about the definitions, with no code.
 #![tactic(auto)]
-

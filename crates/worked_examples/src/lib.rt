@@ -1,3 +1,2 @@
 // Worked examples of document 01, computed from the definitions.
 #![tactic(auto)]
-

@@ -335,7 +335,7 @@ unfolding fill_items
 fill_lists h xs ys = record {
   complete = complete;
   whole = each_append _ xs (filled h xs ys) (whole_more (held says_claim xs) (plug_string_summary h (held says_claim xs) (held says_string ys))
-          (λ n k t e. or_left _ (eqb k h && held says_claim xs (attribute_gap_from k n) && held says_string ys t) e) xs (λ c e. e))
+      (λ n k t e. or_left _ (eqb k h && held says_claim xs (attribute_gap_from k n) && held says_string ys t) e) xs (λ c e. e))
       (filled_whole h (held says_claim xs) (held says_string ys) xs ys (λ c e. e) (λ t e. e));
 }
   where
