@@ -90,7 +90,7 @@ fn ended(s: &[u8], last: Part) -> Part
 }
 
 // What was read of a script, with the part that its bytes end with.
-fn with_part_lem(read: ScriptRead, part: Part) -> ScriptRead
+fn with_part(read: ScriptRead, part: Part) -> ScriptRead
     ensures { result ≡ with_part read part }
 {
     let tables = read.tables;
@@ -110,7 +110,7 @@ pub fn read_script_slice(s: &[u8]) -> ScriptRead
 {
     let read = read_script(s);
     let part = read.part;
-    with_part_lem(read, ended(s, part))
+    with_part(read, ended(s, part))
 }
 
 // A job: the script, then the proposal. An array that is lent with zeros gets the offsets of the items under each head of the
@@ -127,5 +127,5 @@ pub fn read_job(s: &[u8], heads: &mut [usize; 256]) -> ScriptRead
     let templates = read.templates;
     let program = read.program;
     let last = summaries::read_proposal(s, next, templates.count, program.count, heads);
-    with_part_lem(read, ended(s, last))
+    with_part(read, ended(s, last))
 }

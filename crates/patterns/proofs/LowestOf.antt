@@ -55,7 +55,7 @@ lowest_both {R = R} (lowest {n = n} {at = at} {b = b} p h) (lowest {n = m} {at =
         (λ i x d r. ⊎_elim (λ s. let below = h i x d s in let lt = leb-false at other e in omega arith) (k i x d) (cases i x d r))
 
 pub lowest_lower : {P Q : Wrongs} {v w : Wrong} → LowestWrong P v → LowestWrong Q w → LowestWrong (λ n at b. P n at b ⊎ Q n at b) (lower_wrong v w)
-lowest_lower p q = lowest_both p q (λ n at b h. inl h) (λ n at b h None-first. inr h) (λ n at b r. r)
+lowest_lower p q = lowest_both p q (λ n at b h. inl h) (λ n at b h none_first. inr h) (λ n at b r. r)
 
 -- ---- as code compares
 
@@ -214,8 +214,8 @@ module _ (φs : List Items) (chosen : ℕ) (p q : ℕ → Test) where
   As test n at b e mark δ φ = (mark ≡ at) × (test n e mark δ φ ≡ some b)
 
   second_counts : (o : Option Breach) (r : Option Breach) (b : Breach) → r ≡ some b → ((d : Breach) → o ≡ some d → ⊥) → or_first o r ≡ some b
-  second_counts none r b e None-first = e
-  second_counts (some d) r b e None-first = absurd (None-first d refl)
+  second_counts none r b e none_first = e
+  second_counts (some d) r b e none_first = absurd (none_first d refl)
 
   -- An element of which the second test tells something, where the first tells nothing of any at this offset.
   module _ (n at : ℕ) (b : Breach) where
@@ -244,7 +244,7 @@ module _ (φs : List Items) (chosen : ℕ) (p q : ℕ → Test) where
       first n at b (l, c, s) = (l, c, some_into (As p n at b) (As First n at b) (λ e mark δ φ h. (h.0, first_left (p n e mark δ φ) (q n e mark δ φ) b h.1)) (template_at φs n) s)
 
       second : (n at : ℕ) (b : Breach) → Passing φs chosen q n at b → ((m : ℕ) (c : Breach) → Passing φs chosen p m at c → ⊥) → Passing φs chosen First n at b
-      second n at b (l, c, s) None-first = (l, c, only_second n at b (template_at φs n) s (λ d t. None-first n d (l, c, t)))
+      second n at b (l, c, s) none_first = (l, c, only_second n at b (template_at φs n) s (λ d t. none_first n d (l, c, t)))
 
       cases : (n at : ℕ) (b : Breach) → Passing φs chosen First n at b → Passing φs chosen p n at b ⊎ Passing φs chosen q n at b
       cases n at b (l, c, s) = ⊎_elim (λ h. inl (l, c, h)) (λ h. inr (l, c, h))

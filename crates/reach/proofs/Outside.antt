@@ -21,7 +21,7 @@ use Rattle.sets.proofs.Booleans.{and_both, and_left, and_right, refuted}
 use Rattle.reach.specs.Inner.Walking.{TellsOutside}
 
 module _ (φs : List Items) (G : Summary) (C : Sets) (n : ℕ) (allowed : List ℕ) (φ : Items) (inside held : ℕ)
-    (is : (c : ℕ) → c < contents → member inside c ≡ contents_of φs G C n φ c) (is_held_lem : (c : ℕ) → member held c ≡ is_in c allowed) where
+    (is : (c : ℕ) → c < contents → member inside c ≡ contents_of φs G C n φ c) (is_held : (c : ℕ) → member held c ≡ is_in c allowed) where
   abbrev out : ℕ → Bool
   out c = contents_of φs G C n φ c && not (is_in c allowed)
 
@@ -31,9 +31,9 @@ module _ (φs : List Items) (G : Summary) (C : Sets) (n : ℕ) (allowed : List �
   content_test true w = refuted (any_below contents out)
       (λ e.
       let (c, h, p) = below_any contents out e in
-      let k : is_in c allowed ≡ true = sym (is_held_lem c) ∙ w c (is c h ∙ and_left (contents_of φs G C n φ c) (not (is_in c allowed)) p) in
+      let k : is_in c allowed ≡ true = sym (is_held c) ∙ w c (is c h ∙ and_left (contents_of φs G C n φ c) (not (is_in c allowed)) p) in
       false≢true (sym (ap not k) ∙ and_right (contents_of φs G C n φ c) (not (is_in c allowed)) p))
-  content_test false (c, h, p, q) = any_below_lem contents out c h (and_both _ _ (sym (is c h) ∙ p) (ap not (sym (is_held_lem c) ∙ q)))
+  content_test false (c, h, p, q) = any_below_lem contents out c h (and_both _ _ (sym (is c h) ∙ p) (ap not (sym (is_held c) ∙ q)))
 
 module _ (n at named allowed inside held : ℕ) where
   pub names_outside : (t : Bool) → MembersWithin named allowed t → t ≡ false → TellsOutside n at named allowed inside held (At n at Breaches.Attribute)

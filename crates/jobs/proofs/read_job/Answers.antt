@@ -10,4 +10,4 @@ pub read_proposal-last-requires : goal.read_proposal-last-requires
 read_proposal-last-requires c = (points_low c.args.s.now c.read_script-read.result c.read_script-read.ensures _ c.in-Whole.is, search rules)
 
 pub returns : goal.returns
-returns c = proposal_last _ _ c.read_script-read.ensures _ c.in-Whole.is _ _ c.read_proposal-last.ensures _ c.ended.ensures _ c.with_part_lem.ensures
+returns c = proposal_last _ _ c.read_script-read.ensures _ c.in-Whole.is _ _ c.read_proposal-last.ensures _ c.ended.ensures _ c.with_part.ensures
