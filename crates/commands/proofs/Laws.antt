@@ -8,6 +8,7 @@ use lib.ListN.{length, get_or-eq_default}
 use lib.Dec.{leb, ltb, eqb}
 use borrow.Author.Tests.{leb-true, ltb-true, ltb-false, lt-ltb, le-ltb, le-leb, eq-eqb, ne_eqb, eqb-true, eqb-false}
 use Rattle.sets.proofs.Booleans.{and_left, and_right}
+use Rattle.std.specs.Prelude.{Option, Some, None}
 use Rattle.verdicts.specs.declared.Form.{Form}
 use Rattle.verdicts.specs.declared.Form.TheVariants.{Ended, NotAllowed, OutOfRange}
 use Rattle.commands.specs.declared.Context.{Context}
@@ -15,8 +16,6 @@ use Rattle.commands.specs.declared.Context.TheVariants.{Formulas}
 use Rattle.commands.specs.declared.Position.{Position}
 use Rattle.commands.specs.declared.Decoded.{Decoded}
 use Rattle.commands.specs.declared.Decoded.TheVariants.{Moved, Refused}
-use Rattle.commands.specs.declared.Past.{Past}
-use Rattle.commands.specs.declared.Past.TheVariants.{Over, Other}
 use Rattle.commands.specs.Commands.{Format, formats, lookup, Operand, element, attribute, string, widths, byte, operands_of, operand_bytes, in_range, all_in_range, between, allowed, command}
 use Rattle.commands.specs.Inner.Parts.{Single, stepped, past}
 use Rattle.commands.specs.Reading.{Read, whole, refused, unfinished, and_then, on_decoded, on_command, when}
@@ -26,35 +25,35 @@ byte_past s at h = get_or-eq_default s 0 h
 
 -- A byte passed over: when it is, and what it tells that it was or was not.
 module _ (s : List ℕ) (at code : ℕ) where
-  pub not_past_end : length s ≤ at → Other ≡ past s at code
+  pub not_past_end : length s ≤ at → None ≡ past s at code
   unfolding past
   not_past_end h = rw (le-ltb at (length s) h)
 
   module _ (here : at < length s) where
-    pub not_past : (byte s at ≡ code → ⊥) → Other ≡ past s at code
+    pub not_past : (byte s at ≡ code → ⊥) → None ≡ past s at code
     unfolding past
     not_past n = rw (lt-ltb at (length s) here, ne_eqb (byte s at) code n)
 
-    pub is_past : byte s at ≡ code → Over (record { at = at + 1 }) ≡ past s at code
+    pub is_past : byte s at ≡ code → Some (record { at = at + 1 }) ≡ past s at code
     unfolding past
     is_past e = rw (lt-ltb at (length s) here, eq-eqb (byte s at) code e)
 
-  pub past_over : (r : Past) (next : Position) → r ≡ past s at code → r ≡ Over next → (at < length s) × (byte s at ≡ code) × (next.at ≡ at + 1)
+  pub past_over : (r : Option Position) (next : Position) → r ≡ past s at code → r ≡ Some next → (at < length s) × (byte s at ≡ code) × (next.at ≡ at + 1)
   unfolding past
   past_over r next e o = go (ltb at (length s)) (eqb (byte s at) code) refl refl (sym e ∙ o)
     where
-      go : (t u : Bool) → ltb at (length s) ≡ t → eqb (byte s at) code ≡ u → cond t (cond u (Over (record { at = at + 1 })) Other) Other ≡ Over next
+      go : (t u : Bool) → ltb at (length s) ≡ t → eqb (byte s at) code ≡ u → cond {A = Option Position} t (cond {A = Option Position} u (Some (record { at = at + 1 })) None) None ≡ Some next
           → (at < length s) × (byte s at ≡ code) × (next.at ≡ at + 1)
       go true true inside same q = (ltb-true _ _ inside, eqb-true _ _ same, cc)
       go true false inside same q = absurd (let z : ◌≡◌ {A = ℕ} 0 1 = cc in omega arith)
       go false u inside same q = absurd (let z : ◌≡◌ {A = ℕ} 0 1 = cc in omega arith)
 
   -- No byte that stands past the end is a command's.
-  pub past_other : (r : Past) → r ≡ past s at code → r ≡ Other → (code ≡ 0 → ⊥) → byte s at ≡ code → ⊥
+  pub past_other : (r : Option Position) → r ≡ past s at code → r ≡ None → (code ≡ 0 → ⊥) → byte s at ≡ code → ⊥
   unfolding past
   past_other r e o some is = go (ltb at (length s)) (eqb (byte s at) code) refl refl (sym e ∙ o)
     where
-      go : (t u : Bool) → ltb at (length s) ≡ t → eqb (byte s at) code ≡ u → cond t (cond u (Over (record { at = at + 1 })) Other) Other ≡ Other → ⊥
+      go : (t u : Bool) → ltb at (length s) ≡ t → eqb (byte s at) code ≡ u → cond {A = Option Position} t (cond {A = Option Position} u (Some (record { at = at + 1 })) None) None ≡ None → ⊥
       go true true inside same q = let z : ◌≡◌ {A = ℕ} 0 1 = cc in omega arith
       go true false inside same q = eqb-false _ _ same is
       go false u inside same q = some (sym is ∙ byte_past s at (ltb-false _ _ inside))

@@ -2,7 +2,7 @@
 // (document 01, "A job, command by command").
 #![tactic(auto)]
 
-ghost use Rattle.std.specs.Prelude.{◌≡◌, true, ◌&&◌, ◌+◌, ◌*◌, ◌^◌, ◌≤◌, ◌<◌, length, leb};
+ghost use Rattle.std.specs.Prelude.{◌≡◌, true, ◌&&◌, ◌+◌, ◌*◌, ◌^◌, ◌≤◌, ◌<◌, length, leb, Err, IsErr};
 ghost use Rattle.strings.specs.Inner.Promises.{set_number};
 ghost use Rattle.commands.specs.Commands.{byte, set_at, either, between, allowed, operands_of, operand_bytes, in_range, element, attribute, strings_set, all_in_range, command};
 ghost use Rattle.commands.specs.Inner.Parts.{Single, stepped, part_of, past};
@@ -42,18 +42,11 @@ pub enum Decoded {
     Refused(Form, usize),
 }
 
-// A part that was read, with the position after it; or the refusal and its offset.
+// Why bytes cannot be read, and at which offset.
 #[derive(Clone, Copy)]
-pub enum Part {
-    Whole(Position),
-    Refused(Form, usize),
-}
-
-// The position after a byte that stands here, or another byte or none does.
-#[derive(Clone, Copy)]
-pub enum Past {
-    Over(Position),
-    Other,
+pub struct ReadError {
+    pub form: Form,
+    pub at: usize,
 }
 
 // The byte at an offset; 0 past the end.
@@ -252,17 +245,17 @@ impl Position {
     }
 
     // The position after the byte `code`, if it stands here.
-    pub fn past(self, s: &[u8], code: u8) -> Past
+    pub fn past(self, s: &[u8], code: u8) -> Option<Position>
         ensures { result ≡ past s.now self.at code }
     {
         let at = self.at;
         if s.len() <= at {
-            return Past::Other;
+            return None;
         }
         if s[at] != code {
-            return Past::Other;
+            return None;
         }
-        Past::Over(Position { at: at + 1 })
+        Some(Position { at: at + 1 })
     }
 
     // The command here, if it may stand here and is whole and in range, with the position moved over it.
@@ -422,13 +415,14 @@ impl Position {
 }
 
 impl Decoded {
-    // A command alone as a part.
-    pub fn part(self) -> Part
-        ensures { result ≡ part_of self }
+    // Why there is no command here, where there is none.
+    pub fn refusal(self) -> ReadError
+        requires { IsErr (part_of self) }
+        ensures { part_of self ≡ Err result }
     {
         match self {
-            Decoded::Moved(_, next) => Part::Whole(next),
-            Decoded::Refused(form, at) => Part::Refused(form, at),
+            Decoded::Moved(_, _) => unreachable!(),
+            Decoded::Refused(form, at) => ReadError { form, at },
         }
     }
 }
