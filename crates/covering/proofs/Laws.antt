@@ -68,7 +68,7 @@ entries_at count s heads hs few first K p l = record {
 
 -- What `first_uncovered` asks for, of a job that was read.
 pub tables_of : (s heads : List ℕ) (j : Job) (end : ℕ) (r : ScriptRead) → job s ≡ whole j end → JobKept s heads j r
-    → Tables j s r.templates.count r.templates.starts r.program.count r.program.places r.program.named heads
+    → Tables j s r.templates.count r.templates.starts r.points.count r.points.places r.points.named heads
 unfolding vocabulary
 tables_of s heads j end r e K =
     let read = job_script s j end e in

@@ -7,6 +7,7 @@ use native.Mathlib.Omega.{arith}
 use lib.ListN.{get_or}
 use lib.Dec.{ltb}
 use borrow.Author.Tests.{ltb-true}
+use Rattle.std.specs.Prelude.{Ok}
 use Rattle.commands.specs.declared.Position.{Position}
 use Rattle.programs.specs.declared.Act as Acts
 use Rattle.programs.specs.declared.Statement as Statements
@@ -21,7 +22,6 @@ use Rattle.jobs.specs.Job.{Job}
 use Rattle.jobs.specs.JobVerdict.{StepHolds, next_of}
 use Rattle.jobs.specs.Inner.ScriptTables.{NamesAre, StatementStands}
 use Rattle.sets.proofs.Booleans.{and_left, and_right}
-use Rattle.covering.specs.declared.Covering.TheVariants.{Covered}
 use Rattle.pages.specs.Inner.Gaps.{GapsTable}
 use Rattle.covering.specs.Inner.Tables.{Tables, PointAt, StepAt}
 use Rattle.covering.specs.Inner.Promises.{Lowest, PointUncovered, PointCovers}
@@ -37,7 +37,7 @@ module _ (j : Job) (s : List ℕ) (count : ℕ) (starts : List ℕ) (points : �
   stands = rw place_is (T.of_script.statement p f)
 
   -- `38` has no step.
-  pub stops : t ≡ Stop → PointCovers j.script (entries j.proposal) p Covered
+  pub stops : t ≡ Stop → PointCovers j.script (entries j.proposal) p (Ok tt)
   stops e b v l =
       let is : statement_at j.script.program p ≡ stop = sym stands.is ∙ (sym t_is ∙ rw e) in
       rw is tt
@@ -109,7 +109,7 @@ module _ (j : Job) (s : List ℕ) (count : ℕ) (starts : List ℕ) (points : �
         first_holds : (u : ℕ) → u < 8 → StepHolds j.script (entries j.proposal) p false u
         first_holds u h = holds false u (L.below u (omega arith))
 
-        pub same_sides : k' ≡ k → PointCovers j.script (entries j.proposal) p Covered
+        pub same_sides : k' ≡ k → PointCovers j.script (entries j.proposal) p (Ok tt)
         same_sides q false u h = first_holds u h
         same_sides q true u h = holds true u (rw q (L.below u (omega arith)))
 
@@ -124,6 +124,6 @@ module _ (j : Job) (s : List ℕ) (count : ℕ) (starts : List ℕ) (points : �
           variables = λ u h. holds true u ((lowest' (step_at true) T.of_script.names_are).below u h);
         }
 
-        pub both_hold : (w : ℕ) → (StepAt j s gaps heads p k' (as_act a) → NamesAre j.script names → Lowest (Compared k') w) → 8 ≤ w → PointCovers j.script (entries j.proposal) p Covered
+        pub both_hold : (w : ℕ) → (StepAt j s gaps heads p k' (as_act a) → NamesAre j.script names → Lowest (Compared k') w) → 8 ≤ w → PointCovers j.script (entries j.proposal) p (Ok tt)
         both_hold w lowest' n' false u h = first_holds u h
         both_hold w lowest' n' true u h = holds true u ((lowest' (step_at true) T.of_script.names_are).below u (omega arith))

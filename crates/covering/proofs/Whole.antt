@@ -7,6 +7,7 @@ use native.Mathlib.Omega.{arith}
 use lib.ListN.{length, get_or}
 use lib.Dec.{eqb, ltb}
 use borrow.Author.Tests.{eqb-true, eqb-false, lt-ltb, le-ltb, ltb-true, ltb-false}
+use Rattle.std.specs.Prelude.{Result, Ok, Err}
 use Rattle.verdicts.specs.declared.Cover.{Cover}
 use Rattle.verdicts.specs.declared.Cover.TheVariants.{Start, Step}
 use Rattle.sets.specs.Sets.{member}
@@ -26,8 +27,6 @@ use Rattle.summaries.specs.Inner.Listed.{Listed}
 use Rattle.strings.specs.Inner.Promises.{holds_value, ValuesWithin}
 use Rattle.entries.specs.Inner.Passing.{Decides}
 use Rattle.entries.proofs.Tests.{decides, values_decide}
-use Rattle.covering.specs.declared.Covering.{Covering}
-use Rattle.covering.specs.declared.Covering.TheVariants.{Covered, Uncovered}
 use Rattle.covering.specs.Inner.Tables.{EntriesAt}
 use Rattle.covering.specs.Inner.Promises.{Lowest, StartUncovered, Covers, PointCovers, StepsCover}
 use Rattle.covering.proofs.Steps.{template_listed, string_listed}
@@ -64,10 +63,10 @@ module _ (π : Script) (E : ℕ → Environment) where
   abbrev pub Below : ℕ → Type 0
   Below p = (q : ℕ) → q < p → (b : Bool) (v : ℕ) → v < 8 → StepHolds π E q b v
 
-  pub steps_fail : (p : ℕ) (r : Covering) (c : Cover) → r ≡ Uncovered c → PointCovers π E p r → Below p → StepsCover π E r
+  pub steps_fail : (p : ℕ) (r : Result (Unit {0}) Cover) (c : Cover) → r ≡ Err c → PointCovers π E p r → Below p → StepsCover π E r
   steps_fail p r c e h below = rw e (go c (rw e at h))
     where
-      go : (c : Cover) → PointCovers π E p (Uncovered c) → StepsCover π E (Uncovered c)
+      go : (c : Cover) → PointCovers π E p (Err c) → StepsCover π E (Err c)
       go (Start v) h = h
       go (Step q next v) h = record {
         second = h.second;
@@ -77,17 +76,17 @@ module _ (π : Script) (E : ℕ → Environment) where
         before = rw h.point (record { points = below; sides = h.sides; variables = h.variables });
       }
 
-  pub steps_go : (p : ℕ) (r : Covering) → r ≡ Covered → PointCovers π E p r → Below p → Below (p + 1)
+  pub steps_go : (p : ℕ) (r : Result (Unit {0}) Cover) → r ≡ Ok tt → PointCovers π E p r → Below p → Below (p + 1)
   steps_go p r e h below q f b v l = go (eqb q p) refl
     where
-      here : PointCovers π E p Covered
+      here : PointCovers π E p (Ok tt)
       here = rw e at h
 
       go : (t : Bool) → eqb q p ≡ t → StepHolds π E q b v
       go true i = rw (eqb-true q p i) (here b v l)
       go false i = let n = eqb-false q p i in below q (omega arith) b v l
 
-  pub steps_end : (points p : ℕ) → points ≡ length π.program → points ≤ p → Below p → StepsCover π E Covered
+  pub steps_end : (points p : ℕ) → points ≡ length π.program → points ≤ p → Below p → StepsCover π E (Ok tt)
   steps_end points p e f below q b v l = go (ltb q points) refl
     where
       go : (t : Bool) → ltb q points ≡ t → StepHolds π E q b v
@@ -95,13 +94,13 @@ module _ (π : Script) (E : ℕ → Environment) where
       go false i = rw (past_stops π.program q (let h = ltb-false q points i in omega arith)) tt
 
   -- The start before the steps.
-  pub start_fails : (v : ℕ) → Lowest (StartHolds π E) v → v < 8 → StartUncovered π E v
+  pub start_fails : (v : ℕ) → Lowest (StartHolds π E) v → v < 8 → StartErr π E v
   start_fails v L f = record { variable = f; fails = L.fails f; before = L.below }
 
-  pub start_then : (v : ℕ) → Lowest (StartHolds π E) v → 8 ≤ v → (r : Covering) → StepsCover π E r → Covers π E r
-  start_then v L f Covered h = record { start = λ u l. L.below u (omega arith); steps = h }
-  start_then v L f (Uncovered (Start u)) h = absurd h
-  start_then v L f (Uncovered (Step p next u)) h = record {
+  pub start_then : (v : ℕ) → Lowest (StartHolds π E) v → 8 ≤ v → (r : Result (Unit {0}) Cover) → StepsCover π E r → Covers π E r
+  start_then v L f (Ok u) h = record { start = λ u l. L.below u (omega arith); steps = h }
+  start_then v L f (Err (Start u)) h = absurd h
+  start_then v L f (Err (Step p next u)) h = record {
     second = h.second;
     next_is = h.next_is;
     start = λ u l. L.below u (omega arith);

@@ -14,19 +14,13 @@ ghost use Rattle.pages.specs.Inner.Gaps.{GapsTable};
 ghost use Rattle.graphs.specs.Inner.Graphs.{Keeps, nothing};
 ghost use Rattle.entries.specs.Inner.Passing.{Decides};
 ghost use Rattle.covering.specs.Inner.Tables.{EntriesAt, Tables, StepAt};
-ghost use Rattle.covering.specs.Inner.Promises.{Lowest, Covers, PointCovers, StepsCover};
+ghost use Rattle.covering.specs.Inner.Promises.{FindsLowest, Covers, PointCovers, StepsCover};
 
 use commands::Position;
 use graphs::Graph;
-use programs::{Act, Statement};
+use programs::{Act, Points, Statement};
 use transfers::{Made, MadeString};
 use verdicts::Cover;
-
-#[derive(Clone, Copy)]
-pub enum Covering {
-    Covered,
-    Uncovered(Cover),
-}
 
 // The step of a point over its act to a next point.
 #[derive(Clone, Copy)]
@@ -146,7 +140,7 @@ fn named_holds(
     variable_holds(s, gaps, heads, step, v, graph)
 }
 
-// The lowest variable that is not covered in the step of a point to a next point; 8: all are.
+// The lowest variable that is not covered in the step of a point to a next point, where one is not.
 fn lowest_uncovered(
     s: &[u8],
     gaps: &[u64; 32],
@@ -156,9 +150,9 @@ fn lowest_uncovered(
     p: usize,
     next: usize,
     graph: &mut Graph,
-) -> usize
+) -> Option<usize>
     requires { Keeps graph.old nothing }
-    ensures lowest { (j : Job) → StepAt j s.now gaps.now heads.now p next (as_act act) → NamesAre j.script names → Lowest (λ v. StepCovered j.script.templates j.script.program (entries j.proposal) p (as_act act) next (variable_of v)) result }
+    ensures lowest { (j : Job) → StepAt j s.now gaps.now heads.now p next (as_act act) → NamesAre j.script names → FindsLowest (λ v. StepCovered j.script.templates j.script.program (entries j.proposal) p (as_act act) next (variable_of v)) result }
     ensures empty { Keeps graph.new nothing }
 {
     let step = Step {
@@ -166,14 +160,12 @@ fn lowest_uncovered(
         point: p,
         next,
     };
-    let mut v: usize = 0;
-    while v < 8 {
+    for v in 0..8 {
         if !named_holds(s, gaps, heads, names, step, v, graph) {
-            return v;
+            return Some(v);
         }
-        v += 1;
     }
-    8
+    None
 }
 
 // The first step of a point that is not covered: the first next point before the second, the lowest variable.
@@ -185,35 +177,33 @@ fn point_uncovered(
     place: usize,
     p: usize,
     graph: &mut Graph,
-) -> Covering
+) -> Result<(), Cover>
     requires { Keeps graph.old nothing }
     ensures covers { (j : Job) (count : ℕ) (starts : List ℕ) (points : ℕ) (places : List ℕ) → Tables j s.now count starts points places names heads.now → GapsTable gaps.now j.script.templates → p < points → place ≡ get_or places p 0 → PointCovers j.script (entries j.proposal) p result }
     ensures empty { Keeps graph.new nothing }
 {
     let statement = programs::statement_at(s, Position::new(place));
     let Statement::Step { act, first, second } = statement else {
-        return Covering::Covered;
+        return Ok(());
     };
-    let v = lowest_uncovered(s, gaps, heads, names, act, p, first, graph);
-    if v < 8 {
-        return Covering::Uncovered(Cover::Step {
+    if let Some(v) = lowest_uncovered(s, gaps, heads, names, act, p, first, graph) {
+        return Err(Cover::Step {
             point: p,
             next: first,
             variable: v,
         });
     }
     if second == first {
-        return Covering::Covered;
+        return Ok(());
     }
-    let w = lowest_uncovered(s, gaps, heads, names, act, p, second, graph);
-    if w < 8 {
-        return Covering::Uncovered(Cover::Step {
+    if let Some(w) = lowest_uncovered(s, gaps, heads, names, act, p, second, graph) {
+        return Err(Cover::Step {
             point: p,
             next: second,
             variable: w,
         });
     }
-    Covering::Covered
+    Ok(())
 }
 
 // The first step that is not covered: the lowest point, whether a run reaches it or not.
@@ -221,25 +211,18 @@ fn steps_uncovered(
     s: &[u8],
     gaps: &[u64; 32],
     heads: &[usize; 256],
-    names: u64,
-    places: &[usize; 32],
-    points: usize,
+    points: &Points,
     graph: &mut Graph,
-) -> Covering
+) -> Result<(), Cover>
     requires { Keeps graph.old nothing }
-    ensures covers { (j : Job) (count : ℕ) (starts : List ℕ) → Tables j s.now count starts points places.now names heads.now → GapsTable gaps.now j.script.templates → StepsCover j.script (entries j.proposal) result }
+    ensures covers { (j : Job) (count : ℕ) (starts : List ℕ) → Tables j s.now count starts points.now.count points.now.places points.now.named heads.now → GapsTable gaps.now j.script.templates → StepsCover j.script (entries j.proposal) result }
     ensures empty { Keeps graph.new nothing }
 {
-    let mut p: usize = 0;
-    while p < points {
-        let place = places[p % 32];
-        let found = point_uncovered(s, gaps, heads, names, place, p, graph);
-        let Covering::Covered = found else {
-            return found;
-        };
-        p += 1;
+    for p in 0..points.count {
+        let place = points.places[p % 32];
+        point_uncovered(s, gaps, heads, points.named, place, p, graph)?;
     }
-    Covering::Covered
+    Ok(())
 }
 
 // Whether the start is covered at a variable, as `40` numbers it: the empty template 0, string 0.
@@ -264,37 +247,31 @@ fn named_start_holds(s: &[u8], heads: &[usize; 256], names: u64, v: usize) -> bo
     start_holds(s, heads, v)
 }
 
-// The lowest variable at which the start is not covered; 8: it is at all of them.
-fn start_uncovered(s: &[u8], heads: &[usize; 256], names: u64) -> usize
-    ensures { (j : Job) → EntriesAt s.now heads.now j.proposal 0 → NamesAre j.script names → Lowest (StartHolds j.script (entries j.proposal)) result }
+// The lowest variable at which the start is not covered, where it is not at one.
+fn start_uncovered(s: &[u8], heads: &[usize; 256], names: u64) -> Option<usize>
+    ensures { (j : Job) → EntriesAt s.now heads.now j.proposal 0 → NamesAre j.script names → FindsLowest (StartHolds j.script (entries j.proposal)) result }
 {
-    let mut v: usize = 0;
-    while v < 8 {
+    for v in 0..8 {
         if !named_start_holds(s, heads, names, v) {
-            return v;
+            return Some(v);
         }
-        v += 1;
     }
-    8
+    None
 }
 
 // Whether the proposal of a job that was read covers its program, and what it does not cover first: the start (9), then the steps
-// (10). What is known of the job is given: the gaps of its templates, the number of its points and the offsets of their statements,
-// the variables that some statement names, and the offsets of the items under each head.
+// (10). What is known of the job is given: the gaps of its templates, its points, and the offsets of the items under each head.
 pub fn first_uncovered(
     s: &[u8],
     gaps: &[u64; 32],
-    points: usize,
-    places: &[usize; 32],
-    names: u64,
+    points: &Points,
     heads: &[usize; 256],
-) -> Covering
-    ensures { (j : Job) (count : ℕ) (starts : List ℕ) → Tables j s.now count starts points places.now names heads.now → GapsTable gaps.now j.script.templates → Covers j.script (entries j.proposal) result }
+) -> Result<(), Cover>
+    ensures { (j : Job) (count : ℕ) (starts : List ℕ) → Tables j s.now count starts points.now.count points.now.places points.now.named heads.now → GapsTable gaps.now j.script.templates → Covers j.script (entries j.proposal) result }
 {
-    let v = start_uncovered(s, heads, names);
-    if v < 8 {
-        return Covering::Uncovered(Cover::Start(v));
+    if let Some(v) = start_uncovered(s, heads, points.named) {
+        return Err(Cover::Start(v));
     }
     let mut graph = graphs::none();
-    steps_uncovered(s, gaps, heads, names, places, points, &mut graph)
+    steps_uncovered(s, gaps, heads, points, &mut graph)
 }

@@ -20,7 +20,7 @@ ghost use Rattle.summaries.specs.ProposalReading.{variable_of};
 
 use commands::Position;
 use graphs::Graph;
-use programs::{Act, Statement};
+use programs::{Act, Points, Statement};
 use strings::Values;
 use transfers::{Made, MadeString};
 
@@ -247,18 +247,17 @@ fn visit_point(
     s: &[u8],
     work: &mut [u64],
     gaps: &[u64; 32],
-    names: u64,
-    places: &[usize; 32],
+    points: &Points,
     p: usize,
     waiting: &mut [u64; 32],
 )
     requires { HasPoints work.old × (length waiting.old ≡ 32) × (p < 32) }
-    ensures { Visited (λ q. q ≡ p) s.now gaps.now places.now names work.old waiting.old work.new waiting.new }
+    ensures { Visited (λ q. q ≡ p) s.now gaps.now points.now.places points.now.named work.old waiting.old work.new waiting.new }
 {
     if waiting[p] == 0 {
         return;
     }
-    settle_point(s, work, gaps, names, places[p], p, waiting);
+    settle_point(s, work, gaps, points.named, points.places[p], p, waiting);
 }
 
 // All points are visited, one after the other, upwards or downwards.
@@ -266,18 +265,17 @@ fn sweep(
     s: &[u8],
     work: &mut [u64],
     gaps: &[u64; 32],
-    names: u64,
-    places: &[usize; 32],
+    points: &Points,
     upwards: bool,
     waiting: &mut [u64; 32],
 )
     requires { HasPoints work.old × (length waiting.old ≡ 32) }
-    ensures { Visited (λ q. q < most_points) s.now gaps.now places.now names work.old waiting.old work.new waiting.new }
+    ensures { Visited (λ q. q < most_points) s.now gaps.now points.now.places points.now.named work.old waiting.old work.new waiting.new }
 {
     let mut turn: usize = 0;
     while turn < MOST_POINTS {
         let p = point_of_turn(upwards, turn);
-        visit_point(s, work, gaps, names, places, p, waiting);
+        visit_point(s, work, gaps, points, p, waiting);
         turn += 1;
     }
 }
@@ -349,25 +347,18 @@ fn first_waiting(waiting: &[u64; 32]) -> usize
 
 // The least entries that cover a script that was read, in a work area whose words of points are zero.
 // Sweeps upwards and downwards in turn follow the steps of a program, whichever way most of them go.
-pub fn solve(
-    s: &[u8],
-    gaps: &[u64; 32],
-    points: usize,
-    places: &[usize; 32],
-    names: u64,
-    work: &mut [u64],
-)
-    requires { HasPoints work.old × ZeroPoints points work.old }
-    ensures { (π : Script) (count : ℕ) (starts : List ℕ) → ScriptTables π s.now count starts points places.now names → GapsTable gaps.now π.templates → Least π (entries_in points work.new) }
+pub fn solve(s: &[u8], gaps: &[u64; 32], points: &Points, work: &mut [u64])
+    requires { HasPoints work.old × ZeroPoints points.now.count work.old }
+    ensures { (π : Script) (count : ℕ) (starts : List ℕ) → ScriptTables π s.now count starts points.now.count points.now.places points.now.named → GapsTable gaps.now π.templates → Least π (entries_in points.now.count work.new) }
 {
-    start(work, names);
-    let mut waiting = all_waiting(points);
+    start(work, points.named);
+    let mut waiting = all_waiting(points.count);
     let mut upwards = true;
     loop {
         if MOST_POINTS <= first_waiting(&waiting) {
             return;
         }
-        sweep(s, work, gaps, names, places, upwards, &mut waiting);
+        sweep(s, work, gaps, points, upwards, &mut waiting);
         upwards = !upwards;
     }
 }

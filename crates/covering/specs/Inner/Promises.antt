@@ -1,19 +1,22 @@
 -- What the check of a proposal's covering promises (document 01, "Verdicts": 9, then 10).
-use Rattle.std.specs.Prelude.{ℕ, ◌≤◌, ◌<◌, ◌≡◌, Bool, true, false}
+use Rattle.std.specs.Prelude.{ℕ, ◌≤◌, ◌<◌, ◌≡◌, Bool, true, false, Option, Some, None, Result, Ok, Err}
 use Rattle.verdicts.specs.declared.Cover.{Cover}
 use Rattle.verdicts.specs.declared.Cover.TheVariants.{Start, Step}
 use Rattle.programs.specs.Program.{statement_at}
 use Rattle.summaries.specs.Summaries.{Environment}
 use Rattle.jobs.specs.Job.{Script}
 use Rattle.jobs.specs.JobVerdict.{StartHolds, StepHolds, StepsBefore, AllCovered, next_of}
-use Rattle.covering.specs.declared.Covering.{Covering}
-use Rattle.covering.specs.declared.Covering.TheVariants.{Covered, Uncovered}
 
 -- The lowest of the numbers below 8 of which a proposition fails; 8: it holds of all of them.
 pub record Lowest (P : ℕ → Type 0) (r : ℕ) : Type 0 where
   pub most : r ≤ 8
   pub below : (v : ℕ) → v < r → P v
   pub fails : r < 8 → P r → ⊥
+
+-- The lowest is found, or none.
+abbrev pub FindsLowest : (ℕ → Type 0) → Option ℕ → Type 0
+FindsLowest P (Some v) = Lowest P v × (v < 8)
+FindsLowest P None = Lowest P 8
 
 module _ (π : Script) (E : ℕ → Environment) where
   -- 9: the lowest variable at which the start is not covered.
@@ -35,9 +38,9 @@ module _ (π : Script) (E : ℕ → Environment) where
   CoverFails (Start v) = StartUncovered v
   CoverFails (Step p next v) = StepUncovered p next v
 
-  abbrev pub Covers : Covering → Type 0
-  Covers Covered = AllCovered π E
-  Covers (Uncovered c) = CoverFails c
+  abbrev pub Covers : Result (Unit {0}) Cover → Type 0
+  Covers (Ok u) = AllCovered π E
+  Covers (Err c) = CoverFails c
 
   -- By the answer: the steps of one point are covered; or which of them is not, first.
   pub record PointUncovered (p p' next v : ℕ) : Type 0 where
@@ -53,9 +56,9 @@ module _ (π : Script) (E : ℕ → Environment) where
   PointFails p (Start v) = ⊥
   PointFails p (Step p' next v) = PointUncovered p p' next v
 
-  abbrev pub PointCovers : ℕ → Covering → Type 0
-  PointCovers p Covered = (b : Bool) (v : ℕ) → v < 8 → StepHolds π E p b v
-  PointCovers p (Uncovered c) = PointFails p c
+  abbrev pub PointCovers : ℕ → Result (Unit {0}) Cover → Type 0
+  PointCovers p (Ok u) = (b : Bool) (v : ℕ) → v < 8 → StepHolds π E p b v
+  PointCovers p (Err c) = PointFails p c
 
 -- By the answer: all steps are covered; or which of them is not, first, where the start is covered.
 module _ (π : Script) (E : ℕ → Environment) where
@@ -70,6 +73,6 @@ module _ (π : Script) (E : ℕ → Environment) where
   StepsFail (Start v) = ⊥
   StepsFail (Step p next v) = StepFails p next v
 
-  abbrev pub StepsCover : Covering → Type 0
-  StepsCover Covered = (p : ℕ) (b : Bool) (v : ℕ) → v < 8 → StepHolds π E p b v
-  StepsCover (Uncovered c) = StepsFail c
+  abbrev pub StepsCover : Result (Unit {0}) Cover → Type 0
+  StepsCover (Ok u) = (p : ℕ) (b : Bool) (v : ℕ) → v < 8 → StepHolds π E p b v
+  StepsCover (Err c) = StepsFail c
