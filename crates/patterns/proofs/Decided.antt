@@ -9,6 +9,7 @@ use mathlib.Core.Bool.{Bool, true, false, cond, false≢true}
 use mathlib.Core.Option.{Option, some, none}
 use mathlib.Core.Logic.{◌↔◌, inl, inr}
 use lib.ListN.{length}
+use Rattle.std.specs.Prelude.{None}
 use Rattle.verdicts.specs.declared.Breach.{Breach}
 use Rattle.vocabularies.specs.Vocabulary.{Vocabulary, Distinct, declared}
 use Rattle.pages.specs.Items.{Attribute, Item, Items}
@@ -22,7 +23,6 @@ use Rattle.agreement.proofs.Breaches.{first_told, BreachFound, no_breach, breaks
 use Rattle.agreement.proofs.SomeElements.{Saying, some_into, some_sum}
 use Rattle.agreement.proofs.Ruled.{Ruled}
 use Rattle.agreement.proofs.Pages.{accepted_unless, accepts_right}
-use Rattle.patterns.specs.declared.Wrong.TheVariants.{Nowhere}
 use Rattle.patterns.specs.Inner.Given.{Bounded, contents, SoundTemplates, SoundVocabulary}
 use Rattle.patterns.specs.Inner.Reached.{Reached}
 use Rattle.patterns.specs.Inner.Elements.{can_break}
@@ -172,7 +172,7 @@ module _ (φs : List Items) (G : Summary) (bounded : Bounded φs G) (D : Vocabul
       (lowest_over_lem (suc (length φs)) (λ i n at b. (T.reached i ≡ true) × Here i (tested φs G D T i) (template_at φs i) n at b) _ (λ i h. in_template i (T.reached i) refl))
     where
       in_template : (i : ℕ) (b : Bool) → T.reached i ≡ b
-          → LowestWrong (λ n at k. (T.reached i ≡ true) × Here i (tested φs G D T i) (template_at φs i) n at k) (cond b (lowest_in i (tested φs G D T i) (template_at φs i)) Nowhere)
+          → LowestWrong (λ n at k. (T.reached i ≡ true) × Here i (tested φs G D T i) (template_at φs i) n at k) (cond b (lowest_in i (tested φs G D T i) (template_at φs i)) None)
       in_template i true e = lowest_iff (λ n at k. (λ h. (e, h), λ h. h.1)) (lowest_in_lem i (tested φs G D T i) (template_at φs i))
       in_template i false e = lowest_none (λ n at k h. false≢true (sym e ∙ h.0))
 
@@ -180,10 +180,10 @@ module _ (φs : List Items) (G : Summary) (bounded : Bounded φs G) (D : Vocabul
       to n at b (i, h, (r, (e, s))) = subst (λ (k : ℕ). Tested k at b) (sym e) (record { there = omega arith; is_reached = r; element = s })
 
   -- Every page of the language is right if and only if no root gives 11 and no element is wrong.
-  pub all_right : ((page : Items) → Language φs G page → Right D page) ↔ ((lowest_root φs G D T ≡ none) × (lowest_wrong φs G D T ≡ Nowhere))
+  pub all_right : ((page : Items) → Language φs G page → Right D page) ↔ ((lowest_root φs G D T ≡ none) × (lowest_wrong φs G D T ≡ None))
   all_right = (to, back)
     where
-      to : ((page : Items) → Language φs G page → Right D page) → (lowest_root φs G D T ≡ none) × (lowest_wrong φs G D T ≡ Nowhere)
+      to : ((page : Items) → Language φs G page → Right D page) → (lowest_root φs G D T ≡ none) × (lowest_wrong φs G D T ≡ None)
       to right = (
         least_none lowest_root_lem (λ r (page, d, n). n (right page (r, d)).alone),
         lowest_nowhere lowest_tested (λ n at b t.
@@ -196,7 +196,7 @@ module _ (φs : List Items) (G : Summary) (bounded : Bounded φs G) (D : Vocabul
       alone_or page (holds a) k = a
       alone_or page (fails n) k = absurd (k n)
 
-      back : (lowest_root φs G D T ≡ none) × (lowest_wrong φs G D T ≡ Nowhere) → (page : Items) → Language φs G page → Right D page
+      back : (lowest_root φs G D T ≡ none) × (lowest_wrong φs G D T ≡ None) → (page : Items) → Language φs G page → Right D page
       back (no_root, no-mark) page (r, (g, d)) = record {
         alone = alone_or page (decided_alone D page) (λ n. none_of (subst (Least _) no_root lowest_root_lem) r (page, (g, d), n));
         accepted = accepted_unless D page (derived_no_gap φs G d) (language_ruled φs G (declared D.rules) templates.have_rules page (r, (g, d)))

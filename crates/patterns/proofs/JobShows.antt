@@ -4,6 +4,7 @@ use native.Mathlib.Omega.{arith}
 use mathlib.Core.Path.{◌≡◌, refl, subst}
 use mathlib.Core.Option.{Option, some, none}
 use mathlib.Core.Logic.{◌↔◌}
+use Rattle.std.specs.Prelude.{None}
 use Rattle.verdicts.specs.declared.Breach.{Breach}
 use Rattle.pages.specs.RightPages.{SomeElement, WrongAt, FirstBreach}
 use Rattle.programs.specs.Program.{template_at}
@@ -15,10 +16,8 @@ use Rattle.agreement.proofs.Breaches.{first_told, first_of, first_below}
 use Rattle.agreement.proofs.Marks.{template_rises}
 use Rattle.agreement.proofs.SomeElements.{Saying, some_into, some_then, one_element}
 use Rattle.agreement.proofs.JobVerdicts.{marked_apart}
-use Rattle.patterns.specs.declared.Wrong.{Wrong}
-use Rattle.patterns.specs.declared.Wrong.TheVariants.{Nowhere}
 use Rattle.patterns.specs.Inner.Given.{Bounded}
-use Rattle.patterns.specs.Inner.LowestWrong.{LowestWrong, lowest, LowestBreach, nowhere_wrong, found_lowest}
+use Rattle.patterns.specs.Inner.LowestWrong.{MaybeWrong, LowestWrong, lowest, LowestBreach, nowhere_wrong, found_lowest}
 use Rattle.patterns.specs.Inner.Shows.{Least, Tables, ExactTables, lowest_root, lowest_wrong}
 use Rattle.patterns.proofs.Standing.{Made, standing}
 use Rattle.patterns.proofs.Lowest.{least_iff, least_of, least_below, none_of}
@@ -109,7 +108,7 @@ module _ (π : Script) (E : ℕ → Environment) (read : GivenShows π E) (p : �
       wrong_tested π.templates G bounded π.vocabulary read.script.templates read.script.vocabulary T exact W.page at b (in_language t at b W) W.wrong
 
   -- 12, 14 and 15: the lowest element that is found is the lowest that is wrong in some page.
-  pub lowest_told : {w : Wrong} → LowestWrong Found w → LowestBreach (WrongIn π E p) w
+  pub lowest_told : {w : MaybeWrong} → LowestWrong Found w → LowestBreach (WrongIn π E p) w
   lowest_told (LowestWrong.nowhere h) = nowhere_wrong (λ t at b W. let (n, c, f) = wrong_found t at b W in h n at c f)
   lowest_told (lowest {n = t} {at = at} {b = b} f h) =
       found_lowest (found_told t at b f) (λ u other c W. let (n, d, g) = wrong_found u other c W in h n other d g)
@@ -118,7 +117,7 @@ module _ (π : Script) (E : ℕ → Environment) (read : GivenShows π E) (p : �
   lowest_wrong_element = lowest_told (lowest_tested π.templates G bounded π.vocabulary read.script.templates read.script.vocabulary T exact)
 
   -- The show holds if and only if there is neither.
-  pub show_holds : ShowHolds π E p ↔ ((lowest_root π.templates G π.vocabulary T ≡ none) × (lowest_wrong π.templates G π.vocabulary T ≡ Nowhere))
+  pub show_holds : ShowHolds π E p ↔ ((lowest_root π.templates G π.vocabulary T ≡ none) × (lowest_wrong π.templates G π.vocabulary T ≡ None))
   show_holds = (
     λ h. (all_right π.templates G bounded π.vocabulary read.script.templates read.script.vocabulary T exact).0 (λ page l. h G shows page l),
     λ e H q page l. (all_right π.templates G bounded π.vocabulary read.script.templates read.script.vocabulary T exact).1 e page
@@ -128,7 +127,7 @@ module _ (π : Script) (E : ℕ → Environment) (read : GivenShows π E) (p : �
   pub holds_unless : lowest_root π.templates G π.vocabulary T ≡ none → ((t at : ℕ) (b : Breach) → WrongIn π E p t at b → ⊥) → ShowHolds π E p
   holds_unless no_root no_wrong = show_holds.1 (no_root, nowhere_if lowest_wrong_element)
     where
-      nowhere_if : {w : Wrong} → LowestBreach (WrongIn π E p) w → w ≡ Nowhere
+      nowhere_if : {w : MaybeWrong} → LowestBreach (WrongIn π E p) w → w ≡ None
       nowhere_if (nowhere_wrong h) = refl
       nowhere_if (found_lowest {n = t} {at = at} {b = b} f l) = absurd (no_wrong t at b (first_told f))
 
@@ -144,7 +143,7 @@ pub data ShowDecided (π : Script) (E : ℕ → Environment) (p : ℕ) : Type 0 
 pub show_decided : (π : Script) (E : ℕ → Environment) → GivenShows π E → (p : ℕ) → ShowDecided π E p
 show_decided π E read p = go (graph_shown π.templates π.program E p) refl
   where
-    by_element : ((t : ℕ) → NotRootAt π E p t → ⊥) → (w : Wrong) → LowestBreach (WrongIn π E p) w → (w ≡ Nowhere → ShowHolds π E p) → ShowDecided π E p
+    by_element : ((t : ℕ) → NotRootAt π E p t → ⊥) → (w : MaybeWrong) → LowestBreach (WrongIn π E p) w → (w ≡ None → ShowHolds π E p) → ShowDecided π E p
     by_element no_root _ (nowhere_wrong h) right = holds (right refl)
     by_element no_root _ (found_lowest {n = t} {at = at} {b = b} f l) right = wrong_element no_root t at b f l
 

@@ -10,6 +10,7 @@ use mathlib.Core.Logic.{◌↔◌, ◌⊎◌, inl, inr, ⊎_elim}
 use lib.ListN.{length}
 use lib.Dec.{leb, ltb}
 use borrow.Author.Tests.{le-leb, lt-leb, leb-true, leb-false, ltb-true, ltb-false}
+use Rattle.std.specs.Prelude.{None, Some}
 use Rattle.sets.specs.Sets.{member}
 use Rattle.verdicts.specs.declared.Breach.{Breach}
 use Rattle.pages.specs.Items.{Attribute, Item, Items}
@@ -20,8 +21,7 @@ use Rattle.judging.specs.Inner.Judgement.{or_first}
 use Rattle.agreement.proofs.SomeElements.{some_into, some_then}
 use Rattle.patterns.proofs.Standing.{some_either}
 use Rattle.patterns.specs.declared.Wrong.{Wrong}
-use Rattle.patterns.specs.declared.Wrong.TheVariants.{Nowhere, At}
-use Rattle.patterns.specs.Inner.LowestWrong.{lower_wrong, wrong_at, Test, lowest_in, lowest_of, lowest_below, LowestWrong, lowest, Passing}
+use Rattle.patterns.specs.Inner.LowestWrong.{MaybeWrong, At, lower_wrong, wrong_at, Test, lowest_in, lowest_of, lowest_below, LowestWrong, lowest, Passing}
 
 -- What is said of wrong elements, by template, offset and breach.
 abbrev Wrongs : Type 1
@@ -29,16 +29,16 @@ Wrongs = ℕ → ℕ → Breach → Type 0
 
 -- ---- of two searches
 
-pub lowest_iff : {P Q : Wrongs} {w : Wrong} → ((n at : ℕ) (b : Breach) → P n at b ↔ Q n at b) → LowestWrong P w → LowestWrong Q w
+pub lowest_iff : {P Q : Wrongs} {w : MaybeWrong} → ((n at : ℕ) (b : Breach) → P n at b ↔ Q n at b) → LowestWrong P w → LowestWrong Q w
 lowest_iff h (LowestWrong.nowhere k) = LowestWrong.nowhere (λ n at b q. k n at b ((h n at b).1 q))
 lowest_iff h (lowest {n = n} {at = at} {b = b} p k) = lowest {n = n} {at = at} {b = b} ((h n at b).0 p) (λ m other c q. k m other c ((h m other c).1 q))
 
-pub lowest_none : {P : Wrongs} → ((n at : ℕ) (b : Breach) → P n at b → ⊥) → LowestWrong P Nowhere
+pub lowest_none : {P : Wrongs} → ((n at : ℕ) (b : Breach) → P n at b → ⊥) → LowestWrong P None
 lowest_none = LowestWrong.nowhere
 
 -- What is found lower in two searches is lowest in R, where R tells of an element what the first search does, and what the second does
 -- where the first tells nothing at that offset or below.
-pub lowest_both : {P Q R : Wrongs} {v w : Wrong} → LowestWrong P v → LowestWrong Q w → ((n at : ℕ) (b : Breach) → P n at b → R n at b)
+pub lowest_both : {P Q R : Wrongs} {v w : MaybeWrong} → LowestWrong P v → LowestWrong Q w → ((n at : ℕ) (b : Breach) → P n at b → R n at b)
     → ((n at : ℕ) (b : Breach) → Q n at b → ((m : ℕ) (c : Breach) → P m at c → ⊥) → R n at b)
     → ((n at : ℕ) (b : Breach) → R n at b → P n at b ⊎ Q n at b) → LowestWrong R (lower_wrong v w)
 lowest_both (LowestWrong.nowhere h) (LowestWrong.nowhere k) first second cases = LowestWrong.nowhere (λ n at b r. ⊎_elim (h n at b) (k n at b) (cases n at b r))
@@ -54,48 +54,39 @@ lowest_both {R = R} (lowest {n = n} {at = at} {b = b} p h) (lowest {n = m} {at =
     go false e = lowest {n = m} {at = other} {b = c} (second m other c q (λ i d s. let below = h i other d s in let lt = leb-false at other e in omega arith))
         (λ i x d r. ⊎_elim (λ s. let below = h i x d s in let lt = leb-false at other e in omega arith) (k i x d) (cases i x d r))
 
-pub lowest_lower : {P Q : Wrongs} {v w : Wrong} → LowestWrong P v → LowestWrong Q w → LowestWrong (λ n at b. P n at b ⊎ Q n at b) (lower_wrong v w)
+pub lowest_lower : {P Q : Wrongs} {v w : MaybeWrong} → LowestWrong P v → LowestWrong Q w → LowestWrong (λ n at b. P n at b ⊎ Q n at b) (lower_wrong v w)
 lowest_lower p q = lowest_both p q (λ n at b h. inl h) (λ n at b h none_first. inr h) (λ n at b r. r)
 
--- ---- as code compares
+-- ---- laws of the lower of two
 
-pub lower_alone : (a b : Wrong) (n at : ℕ) (k : Breach) → a ≡ At n at k → b ≡ Nowhere → At n at k ≡ lower_wrong a b
-lower_alone a b n at k p q = rw (p, q) refl
+pub lower_nowhere : (w : MaybeWrong) → lower_wrong w None ≡ w
+lower_nowhere None = refl
+lower_nowhere (Some w) = refl
 
-pub lower_first : (a b : Wrong) (n at : ℕ) (k : Breach) (m other : ℕ) (l : Breach) → a ≡ At n at k → b ≡ At m other l → at ≤ other → At n at k ≡ lower_wrong a b
-lower_first a b n at k m other l p q h = rw (p, q, le-leb at other h) refl
-
-pub lower_second : (a b : Wrong) (n at : ℕ) (k : Breach) (m other : ℕ) (l : Breach) → a ≡ At n at k → b ≡ At m other l → other < at → At m other l ≡ lower_wrong a b
-lower_second a b n at k m other l p q h = rw (p, q, lt-leb at other h) refl
-
-pub lower_nowhere : (w : Wrong) → lower_wrong w Nowhere ≡ w
-lower_nowhere Nowhere = refl
-lower_nowhere (At n at b) = refl
-
-module _ (n at : ℕ) (i : Breach) (m other : ℕ) (j : Breach) (k last : ℕ) (l : Breach) where
-  lowest_of_lem : (a b : Bool) → leb at other ≡ a → leb other last ≡ b
-      → lower_wrong (cond a (At n at i) (At m other j)) (At k last l) ≡ lower_wrong (At n at i) (cond b (At m other j) (At k last l))
-  lowest_of_lem true true p q = rw (p, le-leb at last (omega (arith, leb-true at other p, leb-true other last q)))
+module _ (u v w : Wrong) where
+  lowest_of_lem : (a b : Bool) → leb u.at v.at ≡ a → leb v.at w.at ≡ b
+      → lower_wrong (cond a (Some u) (Some v)) (Some w) ≡ lower_wrong (Some u) (cond b (Some v) (Some w))
+  lowest_of_lem true true p q = rw (p, le-leb u.at w.at (omega (arith, leb-true u.at v.at p, leb-true v.at w.at q)))
   lowest_of_lem true false p q = refl
   lowest_of_lem false true p q = rw (p, q)
   lowest_of_lem false false p q =
-      let h : other < at = leb-false at other p in
-      let r : last < other = leb-false other last q in
-      rw (q, lt-leb at last (omega arith))
+      let h : v.at < u.at = leb-false u.at v.at p in
+      let r : w.at < v.at = leb-false v.at w.at q in
+      rw (q, lt-leb u.at w.at (omega arith))
 
-pub lower_assoc : (a b c : Wrong) → lower_wrong (lower_wrong a b) c ≡ lower_wrong a (lower_wrong b c)
-lower_assoc Nowhere b c = refl
-lower_assoc (At n at i) Nowhere c = refl
-lower_assoc (At n at i) (At m other j) Nowhere = lower_nowhere (cond (leb at other) (At n at i) (At m other j))
-lower_assoc (At n at i) (At m other j) (At k last l) = lowest_of_lem n at i m other j k last l (leb at other) (leb other last) refl refl
+pub lower_assoc : (a b c : MaybeWrong) → lower_wrong (lower_wrong a b) c ≡ lower_wrong a (lower_wrong b c)
+lower_assoc None b c = refl
+lower_assoc (Some u) None c = refl
+lower_assoc (Some u) (Some v) None = lower_nowhere (cond (leb u.at v.at) (Some u) (Some v))
+lower_assoc (Some u) (Some v) (Some w) = lowest_of_lem u v w (leb u.at v.at) (leb v.at w.at) refl refl
 
 -- ---- what is told of what is found
 
-pub lowest_nowhere : {P : Wrongs} {w : Wrong} → LowestWrong P w → ((n at : ℕ) (b : Breach) → P n at b → ⊥) → w ≡ Nowhere
+pub lowest_nowhere : {P : Wrongs} {w : MaybeWrong} → LowestWrong P w → ((n at : ℕ) (b : Breach) → P n at b → ⊥) → w ≡ None
 lowest_nowhere (LowestWrong.nowhere h) k = refl
 lowest_nowhere (lowest {n = n} {at = at} {b = b} p h) k = absurd (k n at b p)
 
-pub none_found : {P : Wrongs} → LowestWrong P Nowhere → (n at : ℕ) (b : Breach) → P n at b → ⊥
+pub none_found : {P : Wrongs} → LowestWrong P None → (n at : ℕ) (b : Breach) → P n at b → ⊥
 none_found (LowestWrong.nowhere h) = h
 
 -- ---- elements of which a test tells something
@@ -130,7 +121,7 @@ module _ (n : ℕ) (test : Test) where
         (lowest_lower (lowest_test n mark (test e mark δ φ)) (lowest_in_lem φ))
 
 -- The lowest over a range.
-pub lowest_over_lem : (N : ℕ) (P : ℕ → Wrongs) (f : ℕ → Wrong) → ((i : ℕ) → i < N → LowestWrong (P i) (f i))
+pub lowest_over_lem : (N : ℕ) (P : ℕ → Wrongs) (f : ℕ → MaybeWrong) → ((i : ℕ) → i < N → LowestWrong (P i) (f i))
     → LowestWrong (λ n at b. (i : ℕ) × (i < N) × P i n at b) (lowest_below N f)
 unfolding lowest_below
 lowest_over_lem zero P f each = lowest_none (λ n at b h. let lt = h.1 in omega arith)
@@ -164,7 +155,7 @@ module _ (φs : List Items) (chosen : ℕ) (test : ℕ → Test) where
   unfolding SomeElement
   none_in_first at b (l, c, e) = subst (SomeElement (λ e mark δ φ. (mark ≡ at) × (test 0 e mark δ φ ≡ some b))) (first_template φs) e
 
-  pub looked_none : (t : ℕ) → ((x : ℕ) → 1 ≤ x → x < t → member chosen x ≡ false) → LowestWrong (Below t) Nowhere
+  pub looked_none : (t : ℕ) → ((x : ℕ) → 1 ≤ x → x < t → member chosen x ≡ false) → LowestWrong (Below t) None
   looked_none t skips = lowest_none (λ n at b h. go n at b h (ltb 0 n) refl)
     where
       go : (n at : ℕ) (b : Breach) → Below t n at b → (c : Bool) → ltb 0 n ≡ c → ⊥
@@ -176,7 +167,7 @@ module _ (φs : List Items) (chosen : ℕ) (test : ℕ → Test) where
 
   module _ (t next : ℕ) (is_chosen : member chosen t ≡ true) (there : t ≤ length φs) (after : t + 1 ≤ next)
       (skips : (x : ℕ) → t + 1 ≤ x → x < next → member chosen x ≡ false) where
-    pub looked_more : (w own : Wrong) → own ≡ lowest_in t (test t) (template_at φs t) → LowestWrong (Below t) w
+    pub looked_more : (w own : MaybeWrong) → own ≡ lowest_in t (test t) (template_at φs t) → LowestWrong (Below t) w
         → LowestWrong (Below next) (lower_wrong w own)
     looked_more w own is before =
         rw is (lowest_iff (λ n at b. (to n at b, back n at b)) (lowest_lower before (lowest_in_lem t (test t) (template_at φs t))))
@@ -193,7 +184,7 @@ module _ (φs : List Items) (chosen : ℕ) (test : ℕ → Test) where
             go false q (yes e) = inr (e, (subst (λ (k : ℕ). Passing φs chosen test k at b) e p).2)
             go false q (no ne) = let le = ltb-false n t q in absurd (false≢true (sym (skips n (omega arith) l) ∙ p.1))
 
-  pub looked_all : (t : ℕ) (w : Wrong) → length φs < t → LowestWrong (Below t) w → LowestWrong (Passing φs chosen test) w
+  pub looked_all : (t : ℕ) (w : MaybeWrong) → length φs < t → LowestWrong (Below t) w → LowestWrong (Passing φs chosen test) w
   looked_all t w past = lowest_iff (λ n at b. (λ (l, p). p, λ p. (let there = p.0 in omega arith, p)))
 
 -- ---- two tests
@@ -236,7 +227,7 @@ module _ (φs : List Items) (chosen : ℕ) (p q : ℕ → Test) where
       only_second_in (Items.element e mark δ χ) (inr t) k = inr (only_second χ t (λ d u. k d (inr u)))
 
   -- The lower of what two searches find.
-  pub lowest_either : (v w : Wrong) → LowestWrong (Passing φs chosen p) v → LowestWrong (Passing φs chosen q) w
+  pub lowest_either : (v w : MaybeWrong) → LowestWrong (Passing φs chosen p) v → LowestWrong (Passing φs chosen q) w
       → LowestWrong (Passing φs chosen (λ m e mark δ φ. or_first (p m e mark δ φ) (q m e mark δ φ))) (lower_wrong v w)
   lowest_either v w found found' = lowest_both found found' first second cases
     where
@@ -253,7 +244,7 @@ module _ (φs : List Items) (chosen : ℕ) (p q : ℕ → Test) where
           (λ e mark δ φ h. ⊎_elim (λ t. inl (h.0, t)) (λ t. inr (h.0, t)) (first_cases (p n e mark δ φ) (q n e mark δ φ) b h.1)) (template_at φs n) s))
 
 module _ (φs : List Items) (chosen : ℕ) (p q : ℕ → Test) (same : (n e mark : ℕ) (δ : List Attribute) (φ : Items) → p n e mark δ φ ≡ q n e mark δ φ) where
-  pub lowest_same : (w : Wrong) → LowestWrong (Passing φs chosen p) w → LowestWrong (Passing φs chosen q) w
+  pub lowest_same : (w : MaybeWrong) → LowestWrong (Passing φs chosen p) w → LowestWrong (Passing φs chosen q) w
   lowest_same w = lowest_iff (λ n at b. (
     λ (l, c, s). (
       l,
@@ -271,6 +262,6 @@ module _ (φs : List Items) (chosen : ℕ) (p q : ℕ → Test) (same : (n e mar
 
 -- A test that tells nothing.
 pub lowest_never : (φs : List Items) (chosen : ℕ) (test : ℕ → Test) → ((n e mark : ℕ) (δ : List Attribute) (φ : Items) → test n e mark δ φ ≡ none)
-    → LowestWrong (Passing φs chosen test) Nowhere
+    → LowestWrong (Passing φs chosen test) None
 lowest_never φs chosen test never = lowest_none (λ n at b (l, c, s). some_then (λ e mark δ φ. (mark ≡ at) × (test n e mark δ φ ≡ some b))
     (λ e mark δ φ h. let e : ◌≡◌ {A = ℕ} 0 1 = cc (never n e mark δ φ, h.1) in omega arith) (template_at φs n) s)

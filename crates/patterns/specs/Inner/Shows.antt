@@ -1,6 +1,6 @@
 -- The decision of a show (document 01, "Verdicts", 11 and 12; document 02, F-6), from tables worked out for its graph: the lowest root
 -- template with a page that is not exactly the root element, and the lowest element that is wrong in some page, with what it breaks.
-use Rattle.std.specs.Prelude.{ℕ, zero, suc, ◌≤◌, ◌≡◌, List, Bool, ◌&&◌, ◌||◌, length, leb}
+use Rattle.std.specs.Prelude.{ℕ, zero, suc, ◌≤◌, ◌≡◌, List, Bool, ◌&&◌, ◌||◌, length, leb, None}
 use Rattle.std.proofs.Math.Bool.{cond}
 use Rattle.std.proofs.Math.Option.{Option, some, none}
 use Rattle.vocabularies.specs.Vocabulary.{Formula, Rule, Vocabulary, rule_of}
@@ -13,10 +13,8 @@ use Rattle.summaries.specs.Summaries.{Summary}
 use Rattle.patterns.specs.Inner.Morphisms.{empty, other, root_morphism, fact_morphism}
 use Rattle.patterns.specs.Inner.Rounds.{Set, Sets}
 use Rattle.patterns.specs.Inner.Exactness.{Exact, ContentsExact, ReachedExact}
-use Rattle.patterns.specs.declared.Wrong.{Wrong}
-use Rattle.patterns.specs.declared.Wrong.TheVariants.{Nowhere}
 use Rattle.patterns.specs.Inner.Elements.{can_break}
-use Rattle.patterns.specs.Inner.LowestWrong.{Test, lowest_in, lowest_below}
+use Rattle.patterns.specs.Inner.LowestWrong.{MaybeWrong, Test, lowest_in, lowest_below}
 
 -- The least number of which P holds, or none if there is none.
 pub data Least (P : ℕ → Type 0) : Option ℕ → Type 0 where
@@ -68,6 +66,6 @@ module _ (φs : List Items) (G : Summary) (D : Vocabulary) (T : Tables) where
   tested n e mark δ φ = can_break φs G T.clauses T.contents D n e δ φ
 
   -- Verdicts 12, 14 and 15: the lowest wrong element of the templates that are reached.
-  unfoldable pub lowest_wrong : Wrong
+  unfoldable pub lowest_wrong : MaybeWrong
   unfolding lowest_below lowest_in
-  lowest_wrong = lowest_below (suc (length φs)) (λ n. cond (T.reached n) (lowest_in n (tested n) (template_at φs n)) Nowhere)
+  lowest_wrong = lowest_below (suc (length φs)) (λ n. cond (T.reached n) (lowest_in n (tested n) (template_at φs n)) None)
