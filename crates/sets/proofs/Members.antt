@@ -9,7 +9,7 @@ use lib.Dec.{eqb, ltb, lit<}
 use lib.Pow.{shr_le}
 use borrow.Author.Tests.{eq-eqb, ne_eqb, ltb-true, ltb-false}
 use Rattle.sets.specs.Sets.{member}
-use Rattle.sets.specs.Inner.Promises.{FirstMember}
+use Rattle.sets.specs.Inner.Promises.{FirstMember, MemberFrom}
 use Rattle.sets.proofs.Laws.{member_zero, member_high, member_head, member_tail, member_shift, same_members}
 
 -- A number doubled, with a lowest bit.
@@ -100,3 +100,27 @@ module _ (word from : ℕ) (h : from < 64) where
 
       within : from + count_trailing_zeros 64 (word / 2 ^ from) ≤ 64
       within = go (ltb 64 (from + count_trailing_zeros 64 (word / 2 ^ from))) refl
+
+  pub no_rest : word / 2 ^ from ≡ 0 → (k : ℕ) → from ≤ k → member word k ≡ false
+  no_rest e k l = shifted k l ∙ ap (λ (n : ℕ). member n (k - from)) e ∙ member_zero (k - from)
+
+  pub rest_from : word < 2 ^ 64 → (word / 2 ^ from ≡ 0 → ⊥) → MemberFrom word from (from + count_trailing_zeros 64 (word / 2 ^ from))
+  rest_from b ne = record {
+    after = omega arith;
+    within = within;
+    is_held = is_held;
+    skips = λ k l m. shifted k l ∙ trailing_skips 64 rest (k - from) (omega arith);
+  }
+    where
+      rest : ℕ
+      rest = word / 2 ^ from
+
+      is_held : member word (from + count_trailing_zeros 64 (word / 2 ^ from)) ≡ true
+      is_held = sym (member_shift word from (count_trailing_zeros 64 (word / 2 ^ from))) ∙ trailing_held 64 (word / 2 ^ from) (trailing_below (word / 2 ^ from) (let l : word / 2 ^ from ≤ word = shr_le word from in omega arith) ne)
+
+      go : (t : Bool) → ltb (from + count_trailing_zeros 64 (word / 2 ^ from)) 64 ≡ t → from + count_trailing_zeros 64 (word / 2 ^ from) < 64
+      go true e = ltb-true (from + count_trailing_zeros 64 (word / 2 ^ from)) 64 e
+      go false e = absurd (false≢true (sym (member_high 64 word (from + count_trailing_zeros 64 (word / 2 ^ from)) b (ltb-false (from + count_trailing_zeros 64 (word / 2 ^ from)) 64 e)) ∙ is_held))
+
+      within : from + count_trailing_zeros 64 (word / 2 ^ from) < 64
+      within = go (ltb (from + count_trailing_zeros 64 (word / 2 ^ from)) 64) refl

@@ -1,9 +1,9 @@
 // Sets of the numbers 0 to 63 as words.
 #![tactic(auto)]
 
-ghost use Rattle.std.specs.Prelude.{◌≡◌, not, ◌&&◌, ◌||◌, ℕ, ◌<◌, eqb};
+ghost use Rattle.std.specs.Prelude.{◌≡◌, not, ◌&&◌, ◌||◌, ℕ, ◌≤◌, ◌<◌, eqb};
 ghost use Rattle.sets.specs.Sets.{member};
-ghost use Rattle.sets.specs.Inner.Promises.{MembersWithin, FirstMember};
+ghost use Rattle.sets.specs.Inner.Promises.{MembersWithin, FirstMember, NextMember};
 
 pub fn has(set: u64, i: u8) -> bool
     requires { i < 64 }
@@ -75,4 +75,19 @@ pub fn first_member(word: u64, from: u32) -> u32
         return 64;
     }
     from + u64::trailing_zeros(rest)
+}
+
+// The first member at a place or after it.
+pub fn next_member(set: u64, from: u8) -> Option<u8>
+    requires { from ≤ 64 }
+    ensures { NextMember set from result }
+{
+    if from == 64 {
+        return None;
+    }
+    let rest = set >> from;
+    if rest == 0 {
+        return None;
+    }
+    Some(from + u64::trailing_zeros(rest) as u8)
 }

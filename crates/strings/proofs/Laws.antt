@@ -8,14 +8,15 @@ use native.Mathlib.Omega.{arith}
 use lib.Dec.{eqb, ltb, lit<}
 use borrow.Author.Tests.{ltb-true, ltb-false, eqb-true, eqb-false}
 use Rattle.sets.proofs.Booleans.{and_left, and_right}
+use Rattle.std.specs.Prelude.{None}
 use Rattle.sets.specs.Sets.{member}
-use Rattle.sets.specs.Inner.Promises.{MembersWithin, FirstMember}
+use Rattle.sets.specs.Inner.Promises.{MembersWithin, MemberFrom, NextMember}
 use Rattle.sets.proofs.Laws.{member_high}
 use Rattle.strings.specs.declared.StringSet.{StringSet}
 use Rattle.strings.specs.declared.Values.{Values}
 use Rattle.strings.specs.declared.AttributeValues.{AttributeValues}
 use Rattle.strings.specs.Strings.{strings}
-use Rattle.strings.specs.Inner.Promises.{has_string, StringsWithin, FirstString, holds_value, ValuesWithin, NoValues, NothingToTake}
+use Rattle.strings.specs.Inner.Promises.{has_string, StringsWithin, holds_value, ValuesWithin, NoValues, NothingToTake}
 
 -- The word that has every string.
 unfoldable all_below : ℕ → (ℕ → Bool) → Bool
@@ -45,18 +46,6 @@ outside set b s l = member_high 64 set.word s b l
 pub strings_within : (a b : StringSet) (t : Bool) → MembersWithin a.word b.word t → StringsWithin a b t
 strings_within a b true h = h
 strings_within a b false h = h
-
-pub first_string : (set : StringSet) (from first : ℕ) → FirstMember set.word from first → FirstString set from first
-first_string set from first f = record { after = f.after; within = f.within; is_held = f.is_held; skips = f.skips }
-
--- There is no string after the last.
-pub none_left : (set : StringSet) (from : ℕ) → from ≡ strings → FirstString set from strings
-none_left set from e = record {
-  after = omega arith;
-  within = omega arith;
-  is_held = λ l. absurd (omega arith);
-  skips = λ s l m. absurd (omega arith);
-}
 
 -- ---- what an attribute gap can take
 
@@ -94,17 +83,12 @@ pub union_named : (a b : Values) → a.any ≡ false → b.any ≡ false → (u 
     → (s : ℕ) → has_string u s ≡ (holds_value a s || holds_value b s)
 union_named a b n m u h s = rw (holds_named a n s, holds_named b m s) (h s)
 
--- The first string of what can be taken decides whether there is one.
-pub no_first : (v : Values) → v.named.word < 2 ^ 64 → v.any ≡ false → (first : ℕ) → FirstString v.named 0 first → (t : Bool) → eqb first strings ≡ t → NoValues v t
-no_first v b n first f true e = λ s. holds_named v n s ∙ by_place s (ltb s strings) refl
-  where
-    by_place : (s : ℕ) (t : Bool) → ltb s strings ≡ t → has_string v.named s ≡ false
-    by_place s true l = f.skips s (omega arith) (let k = ltb-true s strings l in let q = eqb-true first strings e in omega arith)
-    by_place s false l = outside v.named b s (ltb-false s strings l)
-no_first v b n first f false e =
-    let q = eqb-false first strings e in
-    let w = f.within in
-    (first, w, holds_named v n first ∙ f.is_held (omega (arith, q)))
+-- The first string of what can be taken.
+pub has_first : (v : Values) → v.any ≡ false → (s : ℕ) → MemberFrom v.named.word 0 s → NoValues v false
+has_first v n s m = let w : s < 64 = m.within in (s, omega arith, holds_named v n s ∙ m.is_held)
+
+pub no_first : (v : Values) → v.any ≡ false → NextMember v.named.word 0 None → NoValues v true
+no_first v n m = λ s. holds_named v n s ∙ m s (omega arith)
 
 -- Where absence cannot be taken, the strings decide.
 pub no_absence : (v : AttributeValues) → v.absent ≡ false → (r : Bool) → NoValues v.strings r → NothingToTake v r

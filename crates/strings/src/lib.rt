@@ -2,11 +2,12 @@
 #![tactic(auto)]
 
 ghost use Rattle.std.specs.Prelude.{◌≡◌, true, false, not, ◌&&◌, ◌||◌, ℕ, ◌≤◌, ◌<◌, eqb, ltb};
+ghost use Rattle.sets.specs.Inner.Promises.{NextMember};
 ghost use Rattle.strings.specs.Strings.{strings};
-ghost use Rattle.strings.specs.Inner.Promises.{set_number, has_string, StringsWithin, FirstString, holds_value, ValuesWithin, NoValues, NothingToTake};
+ghost use Rattle.strings.specs.Inner.Promises.{set_number, has_string, StringsWithin, holds_value, ValuesWithin, NoValues, NothingToTake};
 
 // A set of named strings.
-#[derive(Clone, Copy)]
+#[derive(Clone, Copy, PartialEq, Eq)]
 pub struct StringSet {
     pub word: u64,
 }
@@ -98,21 +99,12 @@ pub fn is_within(a: StringSet, b: StringSet) -> bool
     sets::is_within(a.word, b.word)
 }
 
-pub fn same(a: StringSet, b: StringSet) -> bool
-    ensures { result ≡ eqb (set_number a) (set_number b) }
-{
-    a.word == b.word
-}
-
-// The first string of a set at a place or after it, or `OUTSIDE` where there is none.
-pub fn next(set: StringSet, from: u8) -> u8
+// The first string of a set at a place or after it.
+pub fn next(set: StringSet, from: u8) -> Option<u8>
     requires { from ≤ strings }
-    ensures { FirstString set from result }
+    ensures { NextMember (set_number set) from result }
 {
-    if from == OUTSIDE {
-        return OUTSIDE;
-    }
-    sets::first_member(set.word, from as u32) as u8
+    sets::next_member(set.word, from)
 }
 
 pub fn no_values() -> Values
@@ -179,7 +171,7 @@ pub fn is_empty(values: Values) -> bool
     if values.any {
         return false;
     }
-    next(values.named, 0) == OUTSIDE
+    next(values.named, 0).is_none()
 }
 
 // Whether an attribute gap has nothing to take: neither a string nor absence.

@@ -1,5 +1,5 @@
 -- What the code over sets as words promises.
-use Rattle.std.specs.Prelude.{ℕ, zero, suc, ◌+◌, ◌<◌, ◌≤◌, ◌≡◌, Bool, true, false, cond}
+use Rattle.std.specs.Prelude.{ℕ, zero, suc, ◌+◌, ◌<◌, ◌≤◌, ◌≡◌, Bool, true, false, cond, Option, Some, None}
 use Rattle.sets.specs.Sets.{member}
 
 -- How many numbers a word can hold: 0 to 63.
@@ -22,3 +22,15 @@ pub record FirstMember (word from first : ℕ) : Type 0 where
   pub within : first ≤ word_size
   pub is_held : first < word_size → member word first ≡ true
   pub skips : (x : ℕ) → from ≤ x → x < first → member word x ≡ false
+
+-- A member at a place or after it, with none in between.
+pub record MemberFrom (set from n : ℕ) : Type 0 where
+  pub after : from ≤ n
+  pub within : n < word_size
+  pub is_held : member set n ≡ true
+  pub skips : (k : ℕ) → from ≤ k → k < n → member set k ≡ false
+
+-- The first member of a word at a place or after it, or that there is none.
+abbrev pub NextMember : ℕ → ℕ → Option ℕ → Type 0
+NextMember set from None = (k : ℕ) → from ≤ k → member set k ≡ false
+NextMember set from (Some n) = MemberFrom set from n

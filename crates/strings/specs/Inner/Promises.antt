@@ -19,13 +19,6 @@ abbrev pub StringsWithin : StringSet → StringSet → Bool → Type 0
 StringsWithin a b true = (s : ℕ) → has_string a s ≡ true → has_string b s ≡ true
 StringsWithin a b false = (s : ℕ) × (s < strings) × (has_string a s ≡ true) × (has_string b s ≡ false)
 
--- The first string of a set at a place or after it, or the number of named strings where there is none.
-pub record FirstString (set : StringSet) (from first : ℕ) : Type 0 where
-  pub after : from ≤ first
-  pub within : first ≤ strings
-  pub is_held : first < strings → has_string set first ≡ true
-  pub skips : (s : ℕ) → from ≤ s → s < first → has_string set s ≡ false
-
 -- Whether a string is among them.
 abbrev pub holds_value : Values → ℕ → Bool
 holds_value values s = values.any || has_string values.named s
