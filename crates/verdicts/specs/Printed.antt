@@ -1,6 +1,6 @@
 -- The numbers N A B C that document 01, "Verdicts", gives each verdict: N is the kind, A B C are its places, unused ones 0. 13 is
 -- document 02's, F-1; 14 and 15, and 12 for attributes alone, are F-6's.
-use Rattle.std.specs.Prelude.{ℕ}
+use Rattle.std.specs.Prelude.{ℕ, Result, Ok, Err}
 use Rattle.verdicts.specs.declared.Form.{Form}
 use Rattle.verdicts.specs.declared.Form.TheVariants.{TooLong, Ended, NotAllowed, OutOfRange, NotRising, TooMany, TooManyFacts, Missing}
 use Rattle.verdicts.specs.declared.Cover.{Cover}
@@ -14,9 +14,6 @@ use Rattle.verdicts.specs.declared.Refusal.TheVariants as Refusals
 use Rattle.verdicts.specs.declared.Verdict.{Verdict}
 use Rattle.verdicts.specs.declared.Verdict.TheVariants.{Accepted, Refused}
 use Rattle.verdicts.specs.declared.Numbers.{Numbers}
-use Rattle.verdicts.specs.declared.Writing.{Writing}
-use Rattle.verdicts.specs.declared.Writing.TheVariants.{Written}
-use Rattle.verdicts.specs.declared.Writing.TheVariants as Writings
 
 -- N A B C.
 abbrev pub prints : ℕ → ℕ → ℕ → ℕ → Numbers
@@ -49,6 +46,10 @@ element_fault p t at Breaches.Attribute = AttributeNotAllowed p t at
 element_fault p t at Breaches.Content = ContentNotAllowed p t at
 element_fault p t at (Breaches.Clause i) = ClauseFails p i at
 
+-- The refusal of bytes that cannot be read, at an offset of a slice.
+abbrev pub unreadable : Form → ℕ → ℕ → Refusal
+unreadable f at slice = Refusals.Form f (record { at = at; slice = slice })
+
 abbrev pub refusal_numbers : Refusal → Numbers
 refusal_numbers (Refusals.Form f place) = prints (form_number f) place.at place.slice 0
 refusal_numbers (Refusals.Cover c) = cover_numbers c
@@ -59,12 +60,17 @@ abbrev pub numbers_of : Verdict → Numbers
 numbers_of Accepted = prints 0 0 0 0
 numbers_of (Refused r) = refusal_numbers r
 
+-- The answer of a call that writes: how many bytes it has written, or a refusal.
+abbrev pub Writing : Type 0
+Writing = Result ℕ Refusal
+
+-- The verdict of an answer that holds a value where nothing is refused.
+abbrev pub verdict_of : {A : Type 0} → Result A Refusal → Verdict
+verdict_of (Ok x) = Accepted
+verdict_of (Err r) = Refused r
+
 -- What a call that writes tells (document 02, F-1: "success also tells the bytes written"): its verdict, and the bytes written, 0 on a
 -- refusal.
-abbrev pub verdict_of : Writing → Verdict
-verdict_of (Written n) = Accepted
-verdict_of (Writings.Refused r) = Refused r
-
 abbrev pub bytes_written : Writing → ℕ
-bytes_written (Written n) = n
-bytes_written (Writings.Refused r) = 0
+bytes_written (Ok n) = n
+bytes_written (Err r) = 0

@@ -1,29 +1,32 @@
 // What a call answers: acceptance, or a refusal with its kind and place (document 01, "Verdicts").
 #![tactic(auto)]
 
-ghost use Rattle.std.specs.Prelude.{◌≡◌};
-ghost use Rattle.verdicts.specs.Printed.{form_number, cover_numbers, fault_numbers, element_fault, refusal_numbers, numbers_of, verdict_of, bytes_written};
+ghost use Rattle.std.specs.Prelude.{◌≡◌, Some};
+ghost use Rattle.verdicts.specs.Printed.{form_number, cover_numbers, fault_numbers, element_fault, refusal_numbers, unreadable, numbers_of, verdict_of, bytes_written};
 ghost use Rattle.verdicts.specs.Inner.Acceptance.{accepts};
+ghost use Rattle.verdicts.specs.Inner.Spelled.{spelled};
 
-// Why bytes cannot be read.
-#[derive(Clone, Copy)]
+use std::fmt::{self, Display, Formatter};
+
+// Why bytes cannot be read, with the number that document 01 prints for it.
+#[derive(Clone, Copy, PartialEq, Eq)]
 pub enum Form {
-    // 1: more than 65,535 bytes.
-    TooLong,
-    // 2: the bytes end in a command, or before one.
-    Ended,
-    // 3: a command that is unknown or not allowed there, or a byte after the end.
-    NotAllowed,
-    // 4: an operand outside its range.
-    OutOfRange,
-    // 5: not rising, a rule given twice, an attribute twice in one element.
-    NotRising,
-    // 6: nesting or count too high.
-    TooMany,
-    // 7: too many facts in a clause.
-    TooManyFacts,
-    // 8: an element without a rule, or a template or point that is not there.
-    Missing,
+    // More than 65,535 bytes.
+    TooLong = 1,
+    // The bytes end in a command, or before one.
+    Ended = 2,
+    // A command that is unknown or not allowed there, or a byte after the end.
+    NotAllowed = 3,
+    // An operand outside its range.
+    OutOfRange = 4,
+    // Not rising, a rule given twice, an attribute twice in one element.
+    NotRising = 5,
+    // Nesting or count too high.
+    TooMany = 6,
+    // Too many facts in a clause.
+    TooManyFacts = 7,
+    // An element without a rule, or a template or point that is not there.
+    Missing = 8,
 }
 
 // Where bytes cannot be read: an offset of a slice. A job is slice 0; a page is slice 1 beside its vocabulary.
@@ -119,20 +122,23 @@ pub enum Verdict {
     Refused(Refusal),
 }
 
-// What a call that writes answers (document 02): how many bytes it has written, or a refusal.
-#[derive(Clone, Copy)]
-pub enum Writing {
-    Written(usize),
-    Refused(Refusal),
+// The refusal of bytes that cannot be read.
+pub fn unreadable(form: Form, at: usize, slice: usize) -> Refusal
+    ensures { result ≡ unreadable form at slice }
+{
+    Refusal::Form(form, Place { at, slice })
 }
 
-// Its verdict: what is written was accepted.
-pub fn verdict_of(answer: Writing) -> Verdict
+// What a call that writes answers (document 02): how many bytes it has written, or a refusal.
+pub type Writing = Result<usize, Refusal>;
+
+// The verdict of an answer: what is not refused is accepted.
+pub fn verdict_of<T: Drop>(answer: Result<T, Refusal>) -> Verdict
     ensures { result ≡ verdict_of answer }
 {
     match answer {
-        Writing::Written(_) => Verdict::Accepted,
-        Writing::Refused(refusal) => Verdict::Refused(refusal),
+        Ok(_) => Verdict::Accepted,
+        Err(refusal) => Verdict::Refused(refusal),
     }
 }
 
@@ -140,20 +146,14 @@ pub fn verdict_of(answer: Writing) -> Verdict
 pub fn bytes_written(answer: Writing) -> usize
     ensures { result ≡ bytes_written answer }
 {
-    match answer {
-        Writing::Written(n) => n,
-        Writing::Refused(_) => 0,
-    }
+    answer.unwrap_or(0)
 }
 
 // Whether a verdict is acceptance.
 pub fn is_accepted(v: Verdict) -> bool
     ensures { result ≡ accepts v }
 {
-    match v {
-        Verdict::Accepted => true,
-        Verdict::Refused(_) => false,
-    }
+    matches!(v, Verdict::Accepted)
 }
 
 // A verdict as document 01 prints it: the number, and the places, unused ones 0.
@@ -165,19 +165,19 @@ pub struct Numbers {
     pub c: usize,
 }
 
+impl Display for Numbers {
+    ghost output = { λ v. Some (spelled v) };
+
+    fn fmt<W: fmt::Write>(&self, f: &mut Formatter<W>) -> fmt::Result {
+        let Numbers { n, a, b, c } = *self;
+        write!(f, "{n} {a} {b} {c}")
+    }
+}
+
 fn form_number(f: Form) -> usize
     ensures { result ≡ form_number f }
 {
-    match f {
-        Form::TooLong => 1,
-        Form::Ended => 2,
-        Form::NotAllowed => 3,
-        Form::OutOfRange => 4,
-        Form::NotRising => 5,
-        Form::TooMany => 6,
-        Form::TooManyFacts => 7,
-        Form::Missing => 8,
-    }
+    f as usize
 }
 
 fn cover_numbers(c: Cover) -> Numbers
