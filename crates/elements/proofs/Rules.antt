@@ -10,6 +10,7 @@ use native.Mathlib.Omega.{arith}
 use lib.ListN.{length, get_or}
 use lib.Dec.{eqb, ltb}
 use borrow.Author.Tests.{eqb-true, eqb-false, ltb-true, ltb-false, lt-ltb}
+use Rattle.std.specs.Prelude.{None}
 use Rattle.sets.specs.Sets.{member}
 use Rattle.sets.specs.Inner.Promises.{FirstMember}
 use Rattle.sets.proofs.Laws.{member_zero, member_high}
@@ -33,12 +34,10 @@ use Rattle.pages.proofs.Whole.{never_unfinished}
 use Rattle.programs.specs.Program.{template_at}
 use Rattle.judging.specs.Inner.Judgement.{broken_if, or_first, first_failing}
 use Rattle.summaries.specs.Summaries.{Summary}
-use Rattle.patterns.specs.declared.Wrong.{Wrong}
-use Rattle.patterns.specs.declared.Wrong.TheVariants.{Nowhere}
 use Rattle.patterns.specs.Inner.Rounds.{Sets}
 use Rattle.patterns.specs.Inner.Exactness.{Exact}
 use Rattle.patterns.specs.Inner.Elements.{clause_fails, first_clause}
-use Rattle.patterns.specs.Inner.LowestWrong.{lower_wrong, Test, LowestWrong, Passing}
+use Rattle.patterns.specs.Inner.LowestWrong.{MaybeWrong, lower_wrong, Test, LowestWrong, Passing}
 use Rattle.sets.proofs.Booleans.{and_both, and_left}
 use Rattle.patterns.proofs.Bits.{facts_distinct}
 use Rattle.patterns.proofs.LowestOf.{lower_assoc, lower_nowhere, lowest_iff, lowest_none, lowest_either, lowest_same, lowest_never}
@@ -70,17 +69,17 @@ whole_same p n e = cc
 
 module _ (s : List ℕ) (e : ℕ) (words starts : List ℕ) (count chosen : ℕ) where
   -- No template is chosen.
-  pub rule_nowhere : (at k : ℕ) → chosen ≡ 0 → SearchesRule s e at k words starts count chosen Nowhere
+  pub rule_nowhere : (at k : ℕ) → chosen ≡ 0 → SearchesRule s e at k words starts count chosen None
   rule_nowhere at k z φs G X S f end ψs reads exact = lowest_none (λ n m b (l, c, h). false≢true (sym (member_zero n) ∙ sym (ap (λ (w : ℕ). member w n) z) ∙ c))
 
   module _ (at k : ℕ) where
     -- No clause is left.
-    pub rule_ends : (byte s at ≡ 0x04 → ⊥) → SearchesRule s e at k words starts count chosen Nowhere
+    pub rule_ends : (byte s at ≡ 0x04 → ⊥) → SearchesRule s e at k words starts count chosen None
     unfolding Reading.clauses first_failing
     rule_ends n φs G X S zero end ψs reads exact = never_unfinished reads
     rule_ends n φs G X S (suc f) end ψs reads exact = go (clauses_formed f s at ψs end reads)
       where
-        go : Clausal f s at ψs end → LowestWrong (Passing φs chosen (λ n e' mark δ φ. told_if (eqb e' e) (first_clause φs G X k ψs n δ φ))) Nowhere
+        go : Clausal f s at ψs end → LowestWrong (Passing φs chosen (λ n e' mark δ φ. told_if (eqb e' e) (first_clause φs G X k ψs n δ φ))) None
         go (no_more here q z) = rw q (lowest_never φs chosen (λ n e' mark δ φ. told_if (eqb e' e) none) (λ n e' mark δ φ. told_none (eqb e' e)))
         go (one_more here ψ next rest r l t q) = absurd (n here)
 
@@ -91,21 +90,21 @@ module _ (s : List ℕ) (e : ℕ) (words starts : List ℕ) (count chosen : ℕ)
     -- A clause, whose formula was read, and then the others.
     module _ (formula : Position) (over : formula.at ≡ at + 1) (read : Part) (reads_formula : FormulaReads s 0 formula.at read) where
       -- A formula that is not whole stands in no rule that was read.
-      pub rule_unread : (i : Form) (n : ℕ) → read ≡ Refused i n → byte s at ≡ 0x04 → SearchesRule s e at k words starts count chosen Nowhere
+      pub rule_unread : (i : Form) (n : ℕ) → read ≡ Refused i n → byte s at ≡ 0x04 → SearchesRule s e at k words starts count chosen None
       unfolding Reading.clauses
       rule_unread i n broken code φs G X S zero end ψs reads exact = never_unfinished reads
       rule_unread i n broken code φs G X S (suc f) end ψs reads exact = go (clauses_formed f s at ψs end reads)
         where
-          go : Clausal f s at ψs end → LowestWrong (Passing φs chosen (λ n e' mark δ φ. told_if (eqb e' e) (first_clause φs G X k ψs n δ φ))) Nowhere
+          go : Clausal f s at ψs end → LowestWrong (Passing φs chosen (λ n e' mark δ φ. told_if (eqb e' e) (first_clause φs G X k ψs n δ φ))) None
           go (no_more here q z) = absurd (here code)
           go (one_more here ψ next rest reads_ψ few reads_rest q) =
               let w = formula_whole s 0 formula.at read reads_formula f ψ next (rw over reads_ψ) in
               let z : ◌≡◌ {A = ℕ} 0 1 = cc in absurd (omega arith)
 
       module _ (after : Position) (ended : read ≡ Whole after) (facts : Facts) (gathered : FactsRead s formula.at after.at facts) (r : Schemes.Scheme) (keeps : KeepsFacts facts r) where
-        pub rule_goes : byte s at ≡ 0x04 → (found : Wrong)
+        pub rule_goes : byte s at ≡ 0x04 → (found : MaybeWrong)
             → SearchesClause s (record { element = e; place = k; formula = formula; facts = facts; scheme = r }) words starts count chosen found
-            → (later : Wrong) → SearchesRule s e after.at (k + 1) words starts count chosen later
+            → (later : MaybeWrong) → SearchesRule s e after.at (k + 1) words starts count chosen later
             → SearchesRule s e at k words starts count chosen (lower_wrong found later)
         unfolding Reading.clauses first_failing
         rule_goes code found here later others φs G X S zero end ψs reads exact = never_unfinished reads
@@ -137,21 +136,21 @@ module _ (s : List ℕ) (e : ℕ) (words starts : List ℕ) (count chosen : ℕ)
                 (lowest_either φs chosen (λ n. fails_at φs G ψ (X ψ) k n e) (λ n e' mark δ φ. told_if (eqb e' e) (first_clause φs G X (suc k) rest n δ φ)) found later first later_ones))
 
   -- Where the search has come: what the clauses from here on find, lowered by what was found, is what all of them find.
-  pub record Ruling (from at place : ℕ) (lowest : Wrong) : Type 0 where
+  pub record Ruling (from at place : ℕ) (lowest : MaybeWrong) : Type 0 where
     pub few : place ≤ at
-    pub goes : (r : Wrong) → SearchesRule s e at place words starts count chosen r → SearchesRule s e from 0 words starts count chosen (lower_wrong lowest r)
+    pub goes : (r : MaybeWrong) → SearchesRule s e at place words starts count chosen r → SearchesRule s e from 0 words starts count chosen (lower_wrong lowest r)
 
-  pub ruling_more : (from at place after : ℕ) (lowest found lower : Wrong) → lower ≡ lower_wrong lowest found → at < after → Ruling from at place lowest
-      → ((r : Wrong) → SearchesRule s e after (place + 1) words starts count chosen r → SearchesRule s e at place words starts count chosen (lower_wrong found r))
+  pub ruling_more : (from at place after : ℕ) (lowest found lower : MaybeWrong) → lower ≡ lower_wrong lowest found → at < after → Ruling from at place lowest
+      → ((r : MaybeWrong) → SearchesRule s e after (place + 1) words starts count chosen r → SearchesRule s e at place words starts count chosen (lower_wrong found r))
       → Ruling from after (place + 1) lower
   ruling_more from at place after lowest found lower is onward R more = rw is (record {
     few = omega (arith, R.few);
     goes = λ r later. subst (SearchesRule s e from 0 words starts count chosen) (sym (lower_assoc lowest found r)) (R.goes (lower_wrong found r) (more r later));
   })
 
-  pub ruling_ends : (from at place : ℕ) (lowest : Wrong) → Ruling from at place lowest → SearchesRule s e at place words starts count chosen Nowhere
+  pub ruling_ends : (from at place : ℕ) (lowest : MaybeWrong) → Ruling from at place lowest → SearchesRule s e at place words starts count chosen None
       → SearchesRule s e from 0 words starts count chosen lowest
-  ruling_ends from at place lowest R ends = subst (SearchesRule s e from 0 words starts count chosen) (lower_nowhere lowest) (R.goes Nowhere ends)
+  ruling_ends from at place lowest R ends = subst (SearchesRule s e from 0 words starts count chosen) (lower_nowhere lowest) (R.goes None ends)
 
 -- ---- all rules
 
@@ -163,7 +162,7 @@ no_rule (some R) h = absurd (false≢true (sym h))
 module _ (φs : List Items) (reached standing chosen : ℕ) (table : List ℕ) (e : ℕ) (is : standing ≡ get_or table e 0)
     (common : (k : ℕ) → member chosen k ≡ (member reached k && member standing k)) (H : Occurrences φs table)
     (test : ℕ → Test) where
-  pub chosen_wider : (w : Wrong) → LowestWrong (Passing φs chosen (λ n e' mark δ φ. told_if (eqb e' e) (test n e' mark δ φ))) w
+  pub chosen_wider : (w : MaybeWrong) → LowestWrong (Passing φs chosen (λ n e' mark δ φ. told_if (eqb e' e) (test n e' mark δ φ))) w
       → LowestWrong (Passing φs reached (λ n e' mark δ φ. told_if (eqb e' e) (test n e' mark δ φ))) w
   chosen_wider w = lowest_iff (λ n at b. (to n at b, back n at b))
     where
@@ -182,7 +181,7 @@ module _ (φs : List Items) (reached standing chosen : ℕ) (table : List ℕ) (
 
 module _ (s : List ℕ) (declared : ℕ) (clauses standing words starts : List ℕ) (count reached : ℕ) where
   -- The rules of the elements below a number.
-  pub record Ruled (e : ℕ) (lowest : Wrong) : Type 0 where
+  pub record Ruled (e : ℕ) (lowest : MaybeWrong) : Type 0 where
     pub most : e ≤ 64
     pub is_declared : e < 64 → member declared e ≡ true
     pub told : (φs : List Items) (G : Summary) (D : Vocabulary) (X : Formula → Sets) → Standing s φs G words starts count
@@ -226,7 +225,7 @@ module _ (s : List ℕ) (declared : ℕ) (clauses standing words starts : List �
               let l = ltb-false e' e q in
               sym (skipped (e + 1) next is e' n δ φ (omega arith))
 
-  pub ruled_none : (e : ℕ) → FirstMember declared 0 e → Ruled e Nowhere
+  pub ruled_none : (e : ℕ) → FirstMember declared 0 e → Ruled e None
   ruled_none e is = record {
     most = is.within;
     is_declared = is.is_held;
@@ -234,9 +233,9 @@ module _ (s : List ℕ) (declared : ℕ) (clauses standing words starts : List �
         (λ n e' mark δ φ. skipped φs G D X R 0 e is e' n δ φ (omega arith));
   }
 
-  pub ruled_more : (e : ℕ) (lowest : Wrong) → Ruled e lowest → e < 64 → (chosen : ℕ) → ((k : ℕ) → member chosen k ≡ (member reached k && member (get_or standing e 0) k))
-      → (found : Wrong) → SearchesRule s e (get_or clauses e 0) 0 words starts count chosen found
-      → (lower : Wrong) → lower ≡ lower_wrong lowest found → (next : ℕ) → FirstMember declared (e + 1) next → Ruled next lower
+  pub ruled_more : (e : ℕ) (lowest : MaybeWrong) → Ruled e lowest → e < 64 → (chosen : ℕ) → ((k : ℕ) → member chosen k ≡ (member reached k && member (get_or standing e 0) k))
+      → (found : MaybeWrong) → SearchesRule s e (get_or clauses e 0) 0 words starts count chosen found
+      → (lower : MaybeWrong) → lower ≡ lower_wrong lowest found → (next : ℕ) → FirstMember declared (e + 1) next → Ruled next lower
   ruled_more e lowest before low chosen common found searched lower is_lower next is = rw is_lower (record {
     most = is.within;
     is_declared = is.is_held;
@@ -254,7 +253,7 @@ module _ (s : List ℕ) (declared : ℕ) (clauses standing words starts : List �
         (chosen_wider φs reached (get_or standing e 0) chosen standing e refl common H (λ n e' mark δ φ. first_clause φs G X 0 r.clauses n δ φ) found here));
   })
 
-  pub ruled_all : (e : ℕ) (lowest : Wrong) → Ruled e lowest → 64 ≤ e → declared < 2 ^ 64
+  pub ruled_all : (e : ℕ) (lowest : MaybeWrong) → Ruled e lowest → 64 ≤ e → declared < 2 ^ 64
       → SearchesRules s declared clauses standing words starts count reached lowest
   ruled_all e lowest all l narrow φs G D X S R H exact = lowest_same φs reached
       (λ n e' mark δ φ. told_if (ltb e' e) (wrong_by_clause φs G X D n e' δ φ)) (λ n e' mark δ φ. wrong_by_clause φs G X D n e' δ φ)

@@ -6,6 +6,7 @@ use mathlib.Core.List.{List, []}
 use mathlib.Core.Bool.{Bool, true, false, not, ◌&&◌, and-false, false≢true}
 use mathlib.Core.Logic.{inl, inr}
 use borrow.Author.Tests.{ne_eqb, eq-eqb}
+use Rattle.std.specs.Prelude.{None}
 use Rattle.verdicts.specs.declared.Breach.TheVariants as Breaches
 use Rattle.commands.specs.declared.Position.{Position}
 use Rattle.commands.specs.Reading.{whole}
@@ -21,13 +22,11 @@ use Rattle.pages.specs.Inner.Steps.{item_here}
 use Rattle.pages.proofs.Steps.{LeafFirst, text_first, blank_first, gap_first, element_first, end_first, element_item, no_attribute}
 use Rattle.judging.specs.Inner.Judgement.{broken_if}
 use Rattle.summaries.specs.Summaries.{Summary}
-use Rattle.patterns.specs.declared.Wrong.{Wrong}
-use Rattle.patterns.specs.declared.Wrong.TheVariants.{Nowhere}
 use Rattle.patterns.specs.Inner.Morphisms.{Morphism}
 use Rattle.patterns.specs.Inner.Given.{Bounded}
 use Rattle.patterns.specs.Inner.Rounds.{Sets, any_below, attributes_take, all_take, item_takes, patterns}
 use Rattle.patterns.specs.Inner.Elements.{attribute_patterns, element_patterns, clause_fails}
-use Rattle.patterns.specs.Inner.LowestWrong.{lower_wrong, wrong_at, Test, lowest_in, lowest_of}
+use Rattle.patterns.specs.Inner.LowestWrong.{MaybeWrong, lower_wrong, wrong_at, Test, lowest_in, lowest_of}
 use Rattle.patterns.proofs.Tests.{any_below_lem, below_any}
 use Rattle.sets.proofs.Booleans.{and_both, refuted}
 use Rattle.patterns.proofs.LowestOf.{lower_nowhere, lower_assoc}
@@ -108,8 +107,8 @@ module _ (s : List ℕ) (at e : ℕ) (start : Position) (c : Clause) (words : Li
   -- One of the clause's name: itself, and those inside it.
   pub own_element : e ≡ c.element → (named : Attributes) → AttributePatterns s start.at c.facts c.scheme words n named
       → SearchesItems s named.next.at c words takes n list → (fails : Bool) → CanFail s c named.set list.set fails
-      → (own : Wrong) → own ≡ wrong_at n at (broken_if fails (Breaches.Clause c.place)) → (y : Bool) → HasPattern named.takes list.set y
-      → (wrong : Wrong) → wrong ≡ lower_wrong own list.wrong → SearchesElement s at e start c words takes n (record { yields = y; wrong = wrong; next = list.next })
+      → (own : MaybeWrong) → own ≡ wrong_at n at (broken_if fails (Breaches.Clause c.place)) → (y : Bool) → HasPattern named.takes list.set y
+      → (wrong : MaybeWrong) → wrong ≡ lower_wrong own list.wrong → SearchesElement s at e start c words takes n (record { yields = y; wrong = wrong; next = list.next })
   unfolding lowest_in
   own_element same named N L fails F own is_own y Y wrong is_wrong φs G ψ X S ruled f depth end i reads here =
       let I = element_item f Template ruled s depth at i end reads (Element e start) here e start refl in
@@ -149,30 +148,30 @@ module _ (s : List ℕ) (c : Clause) (words : List ℕ) (takes : List (List ℕ)
       (w.yields ∙ ap (λ (M : Morphism). item_takes φs G M X n i) (sym same), w.ends)
 
   -- What the items from an offset on add to what was found before.
-  pub record Added (φs : List Items) (G : Summary) (ψ : Formula) (X : Sets) (wrong : Wrong) (φ : Items) (end : ℕ) (next : Position) (found : Wrong) : Type 0 where
+  pub record Added (φs : List Items) (G : Summary) (ψ : Formula) (X : Sets) (wrong : MaybeWrong) (φ : Items) (end : ℕ) (next : Position) (found : MaybeWrong) : Type 0 where
     pub ends : next.at ≡ end
     pub finds : found ≡ lower_wrong wrong (lowest_in n (fails_at φs G ψ X c.place n c.element) φ)
 
-  abbrev pub Adds : Wrong → ℕ → Position → Wrong → Type 0
+  abbrev pub Adds : MaybeWrong → ℕ → Position → MaybeWrong → Type 0
   Adds wrong at next found = OfSearch s c words takes n (λ φs G ψ X. (ruled : ℕ → Bool) (f depth end : ℕ) (φ : Items)
       → items f Template ruled s depth at ≡ whole φ end → Added φs G ψ X wrong φ end next found)
 
-  pub adds_all : (at : ℕ) (r : FoundItems) → Adds Nowhere at r.next r.wrong
+  pub adds_all : (at : ℕ) (r : FoundItems) → Adds None at r.next r.wrong
       → ListHas s c.scheme words n takes SearchedBy searched_lent at (record { set = r.set; next = r.next }) → SearchesItems s at c words takes n r
   adds_all at r A L φs G ψ X S ruled f depth end φ e =
       let a = A φs G ψ X S ruled f depth end φ e in
       record { ends = a.ends; is = (L φs G (patterns_by ψ) X (ψ, refl, S) ruled f depth end φ e).is; finds = a.finds }
 
-  module _ (wrong : Wrong) (at : ℕ) (h : ItemHere) (is : h ≡ item_here s at) where
+  module _ (wrong : MaybeWrong) (at : ℕ) (h : ItemHere) (is : h ≡ item_here s at) where
     pub adds_end : (next : Position) → h ≡ End next → Adds wrong at next wrong
     unfolding lowest_in
     adds_end next q φs G ψ X S ruled f depth end φ e =
         let F = end_first f Template ruled s depth at φ end e h is next q in
         rw F.no_more (record { ends = F.after; finds = sym (lower_nowhere wrong) })
 
-    module _ (after : Position) (found : Wrong) where
+    module _ (after : Position) (found : MaybeWrong) where
       -- An item that is no element adds none.
-      adds_leaf : (i : Item) → ((test : Test) → lowest_of n test i ≡ Nowhere) → (next : Position)
+      adds_leaf : (i : Item) → ((test : Test) → lowest_of n test i ≡ None) → (next : Position)
           → ((ruled : ℕ → Bool) (f depth end : ℕ) (φ : Items) → items f Template ruled s depth at ≡ whole φ end → LeafFirst Template ruled s depth at i next φ end)
           → Adds wrong next.at after found → Adds wrong at after found
       unfolding lowest_in
@@ -194,7 +193,7 @@ module _ (s : List ℕ) (c : Clause) (words : List ℕ) (takes : List (List ℕ)
       adds_gap g next q = adds_leaf (Items.gap g) (λ test. refl) next λ ruled f depth end φ e. (gap_first f Template ruled s depth at φ end e h is g next q).leaf
 
       pub adds_element : (e : ℕ) (start : Position) → h ≡ Element e start → (own : FoundElement) → SearchesElement s at e start c words takes n own
-          → (wrong' : Wrong) → wrong' ≡ lower_wrong wrong own.wrong → Adds wrong' own.next.at after found → Adds wrong at after found
+          → (wrong' : MaybeWrong) → wrong' ≡ lower_wrong wrong own.wrong → Adds wrong' own.next.at after found → Adds wrong at after found
       unfolding lowest_in
       adds_element e start q own E wrong' is_wrong A φs G ψ X S ruled f depth end φ reads =
           let F = element_first f Template ruled s depth at φ end reads h is e start q in
@@ -205,12 +204,12 @@ module _ (s : List ℕ) (c : Clause) (words : List ℕ) (takes : List (List ℕ)
           let rest = lowest_in n p F.rest in
           rw F.is_more (record {
             ends = a.ends;
-            finds = a.finds ∙ ap (λ (x : Wrong). lower_wrong x rest) is_wrong ∙ lower_assoc wrong own.wrong rest
-                ∙ ap (λ (x : Wrong). lower_wrong wrong (lower_wrong x rest)) w.finds;
+            finds = a.finds ∙ ap (λ (x : MaybeWrong). lower_wrong x rest) is_wrong ∙ lower_assoc wrong own.wrong rest
+                ∙ ap (λ (x : MaybeWrong). lower_wrong wrong (lower_wrong x rest)) w.finds;
           })
 
   -- Where the search has come: what is left from here on, added to what was found, is what all of it adds to nothing; and the patterns
   -- of the list so far.
-  pub record Going (first : ℕ) (line : Line) (at : ℕ) (wrong : Wrong) : Type 0 where
+  pub record Going (first : ℕ) (line : Line) (at : ℕ) (wrong : MaybeWrong) : Type 0 where
     pub listed : ListTo s c.scheme words n takes SearchedBy searched_lent first line at
-    pub goes : (next : Position) (found : Wrong) → Adds wrong at next found → Adds Nowhere first next found
+    pub goes : (next : Position) (found : MaybeWrong) → Adds wrong at next found → Adds None first next found

@@ -6,19 +6,18 @@ use mathlib.Core.Bool.{true}
 use mathlib.Core.Logic.{◌⊎◌, ⊎_elim}
 use native.Mathlib.Omega.{arith}
 use lib.ListN.{length, get_or}
+use Rattle.std.specs.Prelude.{None}
 use Rattle.sets.specs.Sets.{member}
 use Rattle.sets.specs.Inner.Promises.{FirstMember}
 use Rattle.vocabularies.specs.Vocabulary.{Formula}
 use Rattle.pages.specs.Items.{Items}
 use Rattle.programs.specs.Program.{template_at}
 use Rattle.summaries.specs.Summaries.{Summary}
-use Rattle.patterns.specs.declared.Wrong.{Wrong}
-use Rattle.patterns.specs.declared.Wrong.TheVariants.{Nowhere}
 use Rattle.patterns.specs.Inner.Morphisms.{Morphism}
 use Rattle.patterns.specs.Inner.Given.{Bounded}
 use Rattle.patterns.specs.Inner.Rounds.{Sets}
 use Rattle.patterns.specs.Inner.Exactness.{Exact}
-use Rattle.patterns.specs.Inner.LowestWrong.{lower_wrong, LowestWrong}
+use Rattle.patterns.specs.Inner.LowestWrong.{MaybeWrong, lower_wrong, LowestWrong}
 use Rattle.patterns.proofs.LowestOf.{Below, looked_none, looked_more, looked_all}
 use Rattle.schemes.specs.declared.Scheme.{Scheme}
 use Rattle.schemes.specs.Inner.Schemes.{StandsFor, of_facts}
@@ -54,7 +53,7 @@ settled_same a b s words starts count sets same (made, settles) = (
 )
 
 -- The templates below t have been searched.
-pub record Turning (s : List ℕ) (c : Clause) (words starts : List ℕ) (count chosen t : ℕ) (lowest : Wrong) : Type 0 where
+pub record Turning (s : List ℕ) (c : Clause) (words starts : List ℕ) (count chosen t : ℕ) (lowest : MaybeWrong) : Type 0 where
   pub least : 1 ≤ t
   pub most : t ≤ 64
   pub is_chosen : t < 64 → member chosen t ≡ true
@@ -71,7 +70,7 @@ module _ (s : List ℕ) (c : Clause) (words starts : List ℕ) (count chosen : �
       let lent : Lent c.scheme words φs G (patterns_by ψ) = record { used = of_clause ψ; reads = of_facts C.reads; bounded = S.graph.bounded; keeps = S.graph.keeps } in
       settled_exact lent made sets (settles φs G (patterns_by ψ) (record { lent = lent; few = omega arith; stand = S.stand }) k) X exact
 
-  pub turning_begin : (t : ℕ) → FirstMember chosen 1 t → Turning s c words starts count chosen t Nowhere
+  pub turning_begin : (t : ℕ) → FirstMember chosen 1 t → Turning s c words starts count chosen t None
   turning_begin t first = record {
     least = first.after;
     most = first.within;
@@ -79,10 +78,10 @@ module _ (s : List ℕ) (c : Clause) (words starts : List ℕ) (count chosen : �
     told = λ φs G ψ X S C exact. looked_none φs chosen (λ n. fails_at φs G ψ X c.place n c.element) t first.skips;
   }
 
-  module _ (t : ℕ) (lowest : Wrong) (T : Turning s c words starts count chosen t lowest) where
+  module _ (t : ℕ) (lowest : MaybeWrong) (T : Turning s c words starts count chosen t lowest) where
     pub turning_more : t < 32 → t ≤ count → (made : ℕ) (sets : List (List ℕ)) → Settles c.scheme s words starts count made sets
-        → (found : Wrong) → SearchesTemplate s (get_or starts t 0) c words sets t found
-        → (lower : Wrong) → lower ≡ lower_wrong lowest found → (next : ℕ) → FirstMember chosen (t + 1) next → Turning s c words starts count chosen next lower
+        → (found : MaybeWrong) → SearchesTemplate s (get_or starts t 0) c words sets t found
+        → (lower : MaybeWrong) → lower ≡ lower_wrong lowest found → (next : ℕ) → FirstMember chosen (t + 1) next → Turning s c words starts count chosen next lower
     turning_more low there made sets settles found searched lower is next first = record {
       least = let a = first.after in omega arith;
       most = first.within;

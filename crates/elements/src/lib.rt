@@ -11,7 +11,7 @@ ghost use Rattle.elements.specs.Inner.Search.{CanFail, HasPattern, SearchesEleme
 
 use commands::{Part, Past, Position};
 use graphs::Graph;
-use pages::{AttributeHere, ItemHere, TEXT};
+use pages::{AttributeHere, ItemHere, TEXT, Templates};
 use patterns::Wrong;
 use schemes::{EMPTY, Scheme};
 use verdicts::Breach;
@@ -39,7 +39,7 @@ struct Attributes {
 #[derive(Clone, Copy)]
 struct FoundElement {
     yields: bool,
-    wrong: Wrong,
+    wrong: Option<Wrong>,
     next: Position,
 }
 
@@ -47,7 +47,7 @@ struct FoundElement {
 #[derive(Clone, Copy)]
 struct FoundItems {
     set: [u64; 4],
-    wrong: Wrong,
+    wrong: Option<Wrong>,
     next: Position,
 }
 
@@ -115,17 +115,17 @@ fn can_fail(s: &[u8], clause: Clause, outer: [u64; 4], inner: [u64; 4]) -> bool
 }
 
 // The element at an offset of template n, if it fails the clause at a place of its rule.
-fn wrong_if(fails: bool, n: usize, at: usize, place: usize) -> Wrong
+fn wrong_if(fails: bool, n: usize, at: usize, place: usize) -> Option<Wrong>
     ensures { result ≡ wrong_at n at (broken_if fails (Breach.Clause place)) }
 {
     if fails {
-        return Wrong::At {
+        return Some(Wrong {
             template: n,
             at,
             breach: Breach::Clause(place),
-        };
+        });
     }
-    Wrong::Nowhere
+    None
 }
 
 // Whether an element has a pattern: its attributes have something to take, and the list inside it has a pattern.
@@ -201,7 +201,7 @@ fn search_items(
     let scheme = clause.scheme;
     let mut line = languages::line_of(pattern_sets::only(EMPTY));
     let mut here = start;
-    let mut wrong = Wrong::Nowhere;
+    let mut wrong = None;
     loop {
         match pages::item_here(s, here) {
             ItemHere::Text(next) => {
@@ -243,7 +243,7 @@ fn search_template(
     n: usize,
     graph: &Graph,
     sets: &[[u64; 4]; 32],
-) -> Wrong
+) -> Option<Wrong>
     requires { n < 32 }
     ensures { SearchesTemplate s.now start.at clause graph.now sets.now n result }
 {
@@ -258,22 +258,21 @@ fn search_clause(
     s: &[u8],
     clause: Clause,
     graph: &Graph,
-    starts: &[usize; 32],
-    count: usize,
+    templates: &Templates,
     chosen: u64,
     sets: &[[u64; 4]; 32],
-) -> Wrong
-    requires { SettledBy clause.scheme s.now graph.now starts.now count sets.now }
-    ensures { SearchesClause s.now clause graph.now starts.now count chosen result }
+) -> Option<Wrong>
+    requires { SettledBy clause.scheme s.now graph.now templates.now.starts templates.now.count sets.now }
+    ensures { SearchesClause s.now clause graph.now templates.now.starts templates.now.count chosen result }
 {
-    let mut lowest = Wrong::Nowhere;
+    let mut lowest = None;
     let mut t = sets::first_member(chosen, 1);
     while t < 32 {
         let n = t as usize;
-        if count < n {
+        if templates.count < n {
             return lowest;
         }
-        let found = search_template(s, Position::new(starts[n]), clause, n, graph, sets);
+        let found = search_template(s, Position::new(templates.starts[n]), clause, n, graph, sets);
         lowest = patterns::lower(lowest, found);
         t = sets::first_member(chosen, t + 1);
     }
@@ -293,13 +292,12 @@ fn settle_by(
     last: AtHand,
     scheme: Scheme,
     graph: &Graph,
-    starts: &[usize; 32],
-    count: usize,
+    templates: &Templates,
     sets: &mut [[u64; 4]; 32],
 ) -> AtHand
-    requires { last.known ≡ true → SettledBy last.scheme s.now graph.now starts.now count sets.old }
+    requires { last.known ≡ true → SettledBy last.scheme s.now graph.now templates.now.starts templates.now.count sets.old }
     ensures known { result.scheme ≡ scheme }
-    ensures settled { SettledBy scheme s.now graph.now starts.now count sets.new }
+    ensures settled { SettledBy scheme s.now graph.now templates.now.starts templates.now.count sets.new }
 {
     let settled = last.scheme;
     if last.known {
@@ -310,7 +308,7 @@ fn settle_by(
             };
         }
     }
-    languages::settle(s, scheme, graph, starts, count, sets);
+    languages::settle(s, scheme, graph, templates, sets);
     AtHand {
         known: true,
         scheme,
@@ -323,13 +321,12 @@ fn search_rule(
     e: u8,
     from: usize,
     graph: &Graph,
-    starts: &[usize; 32],
-    count: usize,
+    templates: &Templates,
     chosen: u64,
-) -> Wrong
-    ensures { SearchesRule s.now e from 0 graph.now starts.now count chosen result }
+) -> Option<Wrong>
+    ensures { SearchesRule s.now e from 0 graph.now templates.now.starts templates.now.count chosen result }
 {
-    let mut lowest = Wrong::Nowhere;
+    let mut lowest = None;
     if chosen == 0 {
         return lowest;
     }
@@ -351,7 +348,7 @@ fn search_rule(
         };
         let facts = vocabularies::facts_of(s, formula, next);
         let scheme = schemes::facts_scheme(facts);
-        let settled = settle_by(s, at_hand, scheme, graph, starts, count, &mut sets);
+        let settled = settle_by(s, at_hand, scheme, graph, templates, &mut sets);
         at_hand = settled;
         let clause = Clause {
             element: e,
@@ -360,7 +357,7 @@ fn search_rule(
             facts,
             scheme,
         };
-        let found = search_clause(s, clause, graph, starts, count, chosen, &sets);
+        let found = search_clause(s, clause, graph, templates, chosen, &sets);
         lowest = patterns::lower(lowest, found);
         here = next;
         place += 1;
@@ -384,20 +381,19 @@ pub fn search_rules(
     rules: Tables,
     standing: &[u64; 64],
     graph: &Graph,
-    starts: &[usize; 32],
-    count: usize,
+    templates: &Templates,
     reached: u64,
-) -> Wrong
-    ensures { SearchesRules s.now rules.declared rules.clauses standing.now graph.now starts.now count reached result }
+) -> Option<Wrong>
+    ensures { SearchesRules s.now rules.declared rules.clauses standing.now graph.now templates.now.starts templates.now.count reached result }
 {
     let declared = rules.declared;
     let clauses = rules.clauses;
-    let mut lowest = Wrong::Nowhere;
+    let mut lowest = None;
     let mut e = sets::first_member(declared, 0);
     while e < 64 {
         let i = e as usize;
         let chosen = sets::common(reached, standing[i]);
-        let found = search_rule(s, e as u8, clauses[i], graph, starts, count, chosen);
+        let found = search_rule(s, e as u8, clauses[i], graph, templates, chosen);
         lowest = patterns::lower(lowest, found);
         e = next_element(declared, e + 1);
     }

@@ -14,7 +14,7 @@ ghost use Rattle.languages.specs.Inner.Promises.{UnionOf, AttributesTake, LineOf
 
 use commands::Position;
 use graphs::Graph;
-use pages::{AttributeHere, ItemHere, TEXT};
+use pages::{AttributeHere, ItemHere, TEXT, Templates};
 use schemes::{EMPTY, Scheme};
 
 // The patterns of the templates of a set, from the sets of all templates.
@@ -278,18 +278,18 @@ fn template_patterns(
     s: &[u8],
     r: Scheme,
     graph: &Graph,
-    starts: &[usize; 32],
+    templates: &Templates,
     sets: &[[u64; 4]; 32],
     n: usize,
 ) -> [u64; 4]
     requires { n < 32 }
-    ensures { IsRound r s.now graph.now starts.now sets.now n result }
+    ensures { IsRound r s.now graph.now templates.now.starts sets.now n result }
 {
     if n == 0 {
         return pattern_sets::only(EMPTY);
     }
     let takes = gaps_from(graph, sets, n);
-    let list = list_patterns(s, Position::new(starts[n]), r, graph, n, &takes);
+    let list = list_patterns(s, Position::new(templates.starts[n]), r, graph, n, &takes);
     let set = list.set;
     set
 }
@@ -333,13 +333,12 @@ fn round(
     s: &[u8],
     r: Scheme,
     graph: &Graph,
-    starts: &[usize; 32],
+    templates: &Templates,
     targets: &[u64; 32],
     sets: &[[u64; 4]; 32],
-    count: usize,
     changed: u64,
 ) -> [[u64; 4]; 32]
-    ensures { Rounds r s.now graph.now starts.now targets.now sets.now count changed result }
+    ensures { Rounds r s.now graph.now templates.now.starts targets.now sets.now templates.now.count changed result }
 {
     let mut next = [[0u64; 4]; 32];
     let mut n = 0;
@@ -397,11 +396,10 @@ pub fn settle(
     s: &[u8],
     r: Scheme,
     graph: &Graph,
-    starts: &[usize; 32],
-    count: usize,
+    templates: &Templates,
     sets: &mut [[u64; 4]; 32],
 ) -> usize
-    ensures { Settles r s.now graph.now starts.now count result sets.new }
+    ensures { Settles r s.now graph.now templates.now.starts templates.now.count result sets.new }
 {
     let targets = all_targets(graph, count);
     *sets = [[0u64; 4]; 32];

@@ -6,7 +6,7 @@ ghost use Rattle.occurrences.specs.Inner.Occurrences.{Keeps};
 ghost use Rattle.occurrences.specs.Inner.Promises.{TellsElement, TellsItems, TellsTemplates};
 
 use commands::Position;
-use pages::{ItemHere, TEXT};
+use pages::{ItemHere, TEXT, Templates};
 
 // The contents and the gaps that stand among the outer ones of a list of items, and the position after what ends them.
 #[derive(Clone, Copy)]
@@ -80,9 +80,9 @@ fn outline_items(s: &[u8], start: Position, n: u8, table: &mut [u64; 64]) -> Out
 }
 
 // The outlines of all templates, of which template 0 is empty; their elements are put into the table.
-pub fn of_templates(s: &[u8], starts: &[usize; 32], count: usize, table: &mut [u64; 64]) -> Outlines
+pub fn of_templates(s: &[u8], templates: &Templates, table: &mut [u64; 64]) -> Outlines
     requires { length table.old ≡ 64 }
-    ensures { TellsTemplates s.now starts.now count result table.new }
+    ensures { TellsTemplates s.now templates.now.starts templates.now.count result table.new }
 {
     let mut contents = [0u64; 32];
     let mut gaps = [0u64; 32];

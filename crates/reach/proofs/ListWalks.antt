@@ -5,6 +5,7 @@ use mathlib.Core.List.{List, []}
 use mathlib.Core.Bool.{Bool, true, ◌||◌}
 use lib.ListN.{length, get_or}
 use lib.Dec.{eqb}
+use Rattle.std.specs.Prelude.{None}
 use Rattle.sets.specs.Sets.{member}
 use Rattle.commands.specs.declared.Position.{Position}
 use Rattle.commands.specs.Reading.{whole}
@@ -19,11 +20,9 @@ use Rattle.pages.specs.ItemReading.{items}
 use Rattle.pages.specs.Inner.Steps.{item_here}
 use Rattle.pages.proofs.Steps.{LeafFirst, text_first, blank_first, gap_first, element_first, end_first, element_item, no_attribute}
 use Rattle.summaries.specs.Summaries.{Summary}
-use Rattle.patterns.specs.declared.Wrong.{Wrong}
-use Rattle.patterns.specs.declared.Wrong.TheVariants.{Nowhere}
 use Rattle.patterns.specs.Inner.Rounds.{Sets}
 use Rattle.patterns.specs.Inner.Elements.{plain_breach}
-use Rattle.patterns.specs.Inner.LowestWrong.{lower_wrong, wrong_at, Test, lowest_in, lowest_of}
+use Rattle.patterns.specs.Inner.LowestWrong.{MaybeWrong, lower_wrong, wrong_at, Test, lowest_in, lowest_of}
 use Rattle.patterns.proofs.LowestOf.{lower_nowhere, lower_assoc}
 use Rattle.reach.specs.declared.Carriable.{Carriable}
 use Rattle.reach.specs.declared.WalkedElement.{WalkedElement}
@@ -37,23 +36,23 @@ module _ (s allowed_in held_in graph brings : List ℕ) (n : ℕ) where
   -- ---- items
 
   -- What the items from an offset on add to what was walked over before.
-  pub record Added (ruled : ℕ → Bool) (inside gaps : ℕ) (wrong : Wrong) (φ : Items) (end : ℕ) (r : WalkedItems) : Type 0 where
+  pub record Added (ruled : ℕ → Bool) (inside gaps : ℕ) (wrong : MaybeWrong) (φ : Items) (end : ℕ) (r : WalkedItems) : Type 0 where
     pub ends : r.next.at ≡ end
     pub outlined : Outlined inside gaps φ r.inside r.gaps
     pub lowers : (φs : List Items) (G : Summary) (C : Sets) (D : Vocabulary) → RulesKept D allowed_in held_in → GraphTold φs G C n graph brings
         → ((e : ℕ) → ruled e ≡ true → declared D.rules e ≡ true)
         → r.wrong ≡ lower_wrong wrong (lowest_in n (λ e mark δ χ. plainly_wrong φs G C D n e δ χ) φ)
 
-  abbrev pub Adds : ℕ → ℕ → Wrong → ℕ → WalkedItems → Type 0
+  abbrev pub Adds : ℕ → ℕ → MaybeWrong → ℕ → WalkedItems → Type 0
   Adds inside gaps wrong at r = (ruled : ℕ → Bool) (f depth end : ℕ) (φ : Items) → items f Template ruled s depth at ≡ whole φ end
       → Added ruled inside gaps wrong φ end r
 
-  pub adds_all : (at : ℕ) (r : WalkedItems) → Adds 0 0 Nowhere at r → WalksItems s allowed_in held_in graph brings n at r
+  pub adds_all : (at : ℕ) (r : WalkedItems) → Adds 0 0 None at r → WalksItems s allowed_in held_in graph brings n at r
   adds_all at r A ruled f depth end φ e =
       let a = A ruled f depth end φ e in
       record { ends = a.ends; outline = outlined_all φ r.inside r.gaps a.outlined; finds = a.lowers }
 
-  module _ (inside gaps : ℕ) (wrong : Wrong) (at : ℕ) (h : ItemHere) (is : h ≡ item_here s at) where
+  module _ (inside gaps : ℕ) (wrong : MaybeWrong) (at : ℕ) (h : ItemHere) (is : h ≡ item_here s at) where
     pub list_ends : (next : Position) → h ≡ End next → Adds inside gaps wrong at (record { inside = inside; gaps = gaps; next = next; wrong = wrong })
     unfolding lowest_in
     list_ends next q ruled f depth end φ e =
@@ -65,7 +64,7 @@ module _ (s allowed_in held_in graph brings : List ℕ) (n : ℕ) where
         })
 
     -- An item that is no element, by what it adds to the outline.
-    list_leaf : (i : Item) → ((test : Test) → lowest_of n test i ≡ Nowhere) → (next : Position) (inside' gaps' : ℕ)
+    list_leaf : (i : Item) → ((test : Test) → lowest_of n test i ≡ None) → (next : Position) (inside' gaps' : ℕ)
         → ((φ : Items) (inside'' gaps'' : ℕ) → Outlined inside' gaps' φ inside'' gaps'' → Outlined inside gaps (more i φ) inside'' gaps'')
         → ((ruled : ℕ → Bool) (f depth end : ℕ) (φ : Items) → items f Template ruled s depth at ≡ whole φ end → LeafFirst Template ruled s depth at i next φ end)
         → (r : WalkedItems) → Adds inside' gaps' wrong next.at r → Adds inside gaps wrong at r
@@ -99,8 +98,8 @@ module _ (s allowed_in held_in graph brings : List ℕ) (n : ℕ) where
     -- An element: itself, by the two tests, and those inside it.
     pub list_element : (e : ℕ) (start : Position) → h ≡ Element e start → (inside' : ℕ) → ((k : ℕ) → member inside' k ≡ (eqb k e || member inside k))
         → (walked : WalkedElement) → WalksElement s allowed_in held_in graph brings n start.at walked
-        → (own : Wrong) → TellsOutside n at walked.names (get_or allowed_in e 0) walked.gets (get_or held_in e 0) own
-        → (lowest : Wrong) → lowest ≡ lower_wrong own walked.wrong → (wrong' : Wrong) → wrong' ≡ lower_wrong wrong lowest
+        → (own : MaybeWrong) → TellsOutside n at walked.names (get_or allowed_in e 0) walked.gets (get_or held_in e 0) own
+        → (lowest : MaybeWrong) → lowest ≡ lower_wrong own walked.wrong → (wrong' : MaybeWrong) → wrong' ≡ lower_wrong wrong lowest
         → (r : WalkedItems) → Adds inside' gaps wrong' walked.next.at r → Adds inside gaps wrong at r
     unfolding lowest_in
     list_element e start q inside' is_inside walked W own O lowest is_lowest wrong' is_wrong r A ruled f depth end φ reads =
@@ -128,15 +127,15 @@ module _ (s allowed_in held_in graph brings : List ℕ) (n : ℕ) where
               }) in
               let itself : own ≡ wrong_at n at (plainly_wrong φs G C D n e δ χ) = rw is_rule told in
               let first : lowest ≡ lower_wrong (wrong_at n at (plainly_wrong φs G C D n e δ χ)) (lowest_in n test χ) = is_lowest ∙ ap₂ lower_wrong itself (w.finds φs G C D rules graph_told ruled_are) in
-              a.lowers φs G C D rules graph_told ruled_are ∙ ap (λ (v : Wrong). lower_wrong v (lowest_in n test F.rest)) is_wrong
+              a.lowers φs G C D rules graph_told ruled_are ∙ ap (λ (v : MaybeWrong). lower_wrong v (lowest_in n test F.rest)) is_wrong
               ∙ lower_assoc wrong lowest (lowest_in n test F.rest)
-              ∙ ap (λ (v : Wrong). lower_wrong wrong (lower_wrong v (lowest_in n test F.rest))) first;
+              ∙ ap (λ (v : MaybeWrong). lower_wrong wrong (lower_wrong v (lowest_in n test F.rest))) first;
         })
 
   -- Where walking has come: what the items from here on add is what all of them add to nothing.
-  pub record Going (first at inside gaps : ℕ) (wrong : Wrong) : Type 0 where
+  pub record Going (first at inside gaps : ℕ) (wrong : MaybeWrong) : Type 0 where
     pub forward : first ≤ at
-    pub goes : (r : WalkedItems) → Adds inside gaps wrong at r → Adds 0 0 Nowhere first r
+    pub goes : (r : WalkedItems) → Adds inside gaps wrong at r → Adds 0 0 None first r
 
   -- ---- an element
 

@@ -3,6 +3,7 @@ use Prim.Native.Nat.{ℕ, ◌<◌}
 use mathlib.Core.Path.{◌≡◌, sym, ap, ◌∙◌}
 use mathlib.Core.List.{List}
 use mathlib.Core.Bool.{Bool, true, false, not, ◌&&◌, false≢true}
+use Rattle.std.specs.Prelude.{None}
 use Rattle.sets.specs.Sets.{member}
 use Rattle.sets.specs.Inner.Promises.{MembersWithin}
 use Rattle.verdicts.specs.declared.Breach.TheVariants as Breaches
@@ -11,7 +12,6 @@ use Rattle.pages.specs.Items.{Items}
 use Rattle.judging.specs.Inner.Judgement.{all_in}
 use Rattle.judging.proofs.Rules.{within_lists}
 use Rattle.summaries.specs.Summaries.{Summary}
-use Rattle.patterns.specs.declared.Wrong.TheVariants.{Nowhere, At}
 use Rattle.patterns.specs.Inner.Given.{contents}
 use Rattle.patterns.specs.Inner.Rounds.{Sets, any_below}
 use Rattle.patterns.specs.Inner.Reached.{contents_of}
@@ -49,7 +49,7 @@ module _ (n at named allowed inside held : ℕ) where
       let b : content_outside φs G C R.contents n φ ≡ true = content_test φs G C n R.contents φ inside held c.has_contents c.holds u v ∙ ap not q in
       rw (a, b)
 
-  pub none_outside : (t u : Bool) → MembersWithin named allowed t → t ≡ true → MembersWithin inside held u → u ≡ true → TellsOutside n at named allowed inside held Nowhere
+  pub none_outside : (t u : Bool) → MembersWithin named allowed t → t ≡ true → MembersWithin inside held u → u ≡ true → TellsOutside n at named allowed inside held None
   unfolding plain_breach
   none_outside t u w e v q φs G C R δ φ c =
       let a : all_in (carriable_names G n δ) R.attributes ≡ true = within_lists named allowed (carriable_names G n δ) R.attributes c.has_names c.allows t w ∙ e in

@@ -6,6 +6,7 @@ use mathlib.Core.List.{List, [], ◌∷◌}
 use mathlib.Core.Bool.{true}
 use mathlib.Core.Logic.{◌⊎◌, ⊎_elim}
 use lib.ListN.{length, get_or}
+use Rattle.std.specs.Prelude.{None}
 use Rattle.sets.specs.Sets.{member}
 use Rattle.sets.specs.Inner.Promises.{FirstMember}
 use Rattle.commands.specs.Reading.{whole}
@@ -16,10 +17,8 @@ use Rattle.pages.specs.Items.{Items, none}
 use Rattle.pages.specs.Inner.Promises.{Located}
 use Rattle.programs.specs.Program.{template_at}
 use Rattle.summaries.specs.Summaries.{Summary}
-use Rattle.patterns.specs.declared.Wrong.{Wrong}
-use Rattle.patterns.specs.declared.Wrong.TheVariants.{Nowhere}
 use Rattle.patterns.specs.Inner.Rounds.{Sets}
-use Rattle.patterns.specs.Inner.LowestWrong.{lower_wrong, LowestWrong}
+use Rattle.patterns.specs.Inner.LowestWrong.{MaybeWrong, lower_wrong, LowestWrong}
 use Rattle.patterns.proofs.LowestOf.{Below, looked_none, looked_more, looked_all}
 use Rattle.reach.specs.Inner.PlainlyWrong.{plainly_wrong}
 use Rattle.reach.specs.Inner.Promises.{GraphKept}
@@ -47,7 +46,7 @@ rules_kept s D t d = record { allows = λ e r h. (d.rule e r h).allows; holds = 
 
 module _ (s allowed held starts : List ℕ) (count : ℕ) (graph within : List ℕ) (reached : ℕ) where
   -- The templates below t have been looked at.
-  pub record Looked (t : ℕ) (w : Wrong) : Type 0 where
+  pub record Looked (t : ℕ) (w : MaybeWrong) : Type 0 where
     pub most : t ≤ 64
     pub positive : 1 ≤ t
     pub is_reached : t < 64 → member reached t ≡ true
@@ -55,7 +54,7 @@ module _ (s allowed held starts : List ℕ) (count : ℕ) (graph within : List �
         → Located (declared D.rules) s φs count starts → ContentsKept φs C within
         → LowestWrong (Below φs reached (λ n e mark δ φ. plainly_wrong φs G C D n e δ φ) t) w
 
-  pub looked_begin : (t : ℕ) → FirstMember reached 1 t → Looked t Nowhere
+  pub looked_begin : (t : ℕ) → FirstMember reached 1 t → Looked t None
   looked_begin t first = record {
     most = first.within;
     positive = first.after;
@@ -63,9 +62,9 @@ module _ (s allowed held starts : List ℕ) (count : ℕ) (graph within : List �
     told = λ φs G C D kept rules located same. looked_none φs reached _ t first.skips;
   }
 
-  module _ (t : ℕ) (w : Wrong) (L : Looked t w) where
-    pub looked_next : t < 32 → t ≤ count → (own : Wrong) → TellsWrongIn s allowed held (get_or starts t 0) graph t within own
-        → (lowest : Wrong) → lowest ≡ lower_wrong w own → (next : ℕ) → FirstMember reached (t + 1) next → Looked next lowest
+  module _ (t : ℕ) (w : MaybeWrong) (L : Looked t w) where
+    pub looked_next : t < 32 → t ≤ count → (own : MaybeWrong) → TellsWrongIn s allowed held (get_or starts t 0) graph t within own
+        → (lowest : MaybeWrong) → lowest ≡ lower_wrong w own → (next : ℕ) → FirstMember reached (t + 1) next → Looked next lowest
     looked_next low there own T lowest is next first = record {
       most = first.within;
       positive = let a = first.after in omega arith;

@@ -12,7 +12,7 @@ ghost use Rattle.reach.specs.Inner.Walking.{TellsCarriable, TellsOutside, WalksE
 
 use commands::Position;
 use graphs::Graph;
-use pages::{AttributeHere, ItemHere, TEXT};
+use pages::{AttributeHere, ItemHere, TEXT, Templates};
 use patterns::Wrong;
 use verdicts::Breach;
 
@@ -149,7 +149,7 @@ pub struct WalkedElement {
     pub names: u64,
     pub gets: u64,
     pub next: Position,
-    pub wrong: Wrong,
+    pub wrong: Option<Wrong>,
 }
 
 // A list of items that was walked over: the contents and the gaps among the outer ones, the position after it, and the lowest element in it
@@ -159,28 +159,28 @@ pub struct WalkedItems {
     pub inside: u64,
     pub gaps: u64,
     pub next: Position,
-    pub wrong: Wrong,
+    pub wrong: Option<Wrong>,
 }
 
 // The element at an offset of template n, if it can carry an attribute that is not allowed, or else get a content that is not allowed.
-fn outside_at(n: usize, at: usize, names: u64, attributes: u64, inside: u64, contents: u64) -> Wrong
+fn outside_at(n: usize, at: usize, names: u64, attributes: u64, inside: u64, contents: u64) -> Option<Wrong>
     ensures { TellsOutside n at names attributes inside contents result }
 {
     if !sets::is_within(names, attributes) {
-        return Wrong::At {
+        return Some(Wrong {
             template: n,
             at,
             breach: Breach::Attribute,
-        };
+        });
     }
     if !sets::is_within(inside, contents) {
-        return Wrong::At {
+        return Some(Wrong {
             template: n,
             at,
             breach: Breach::Content,
-        };
+        });
     }
-    Wrong::Nowhere
+    None
 }
 
 // The element of template n whose attributes stand at `start`, under the rules whose tables are given; `brings` has the contents that each
@@ -230,7 +230,7 @@ fn walk_items(
     let mut here = start;
     let mut inside: u64 = 0;
     let mut gaps: u64 = 0;
-    let mut wrong = Wrong::Nowhere;
+    let mut wrong = None;
     loop {
         match pages::item_here(s, here) {
             ItemHere::Text(next) => {
@@ -326,7 +326,7 @@ fn wrong_in(
     graph: &Graph,
     n: usize,
     within: &[u64; 32],
-) -> Wrong
+) -> Option<Wrong>
     requires { n < 32 }
     ensures { TellsWrongIn s.now attributes.now contents.now at graph.now n within.now result }
 {
@@ -350,15 +350,14 @@ pub fn plainly_wrong(
     s: &[u8],
     attributes: &[u64; 64],
     contents: &[u64; 64],
-    starts: &[usize; 32],
-    count: usize,
+    templates: &Templates,
     graph: &Graph,
     within: &[u64; 32],
     reached: u64,
-) -> Wrong
-    ensures { TellsPlainlyWrong s.now attributes.now contents.now starts.now count graph.now within.now reached result }
+) -> Option<Wrong>
+    ensures { TellsPlainlyWrong s.now attributes.now contents.now templates.now.starts templates.now.count graph.now within.now reached result }
 {
-    let mut lowest = Wrong::Nowhere;
+    let mut lowest = None;
     let mut t = sets::first_member(reached, 1);
     while t < 32 {
         let n = t as usize;

@@ -7,6 +7,7 @@ use mathlib.Core.Option.{Option, some, none}
 use lib.ListN.{length}
 use lib.Dec.{ltb}
 use borrow.Author.Tests.{ltb-true, ltb-false}
+use Rattle.std.specs.Prelude.{None}
 use Rattle.verdicts.specs.declared.Numbers.{Numbers}
 use Rattle.verdicts.specs.declared.Breach.{Breach}
 use Rattle.verdicts.specs.declared.Fault.TheVariants.{NotRoot}
@@ -17,9 +18,7 @@ use Rattle.summaries.specs.Languages.{graph_shown}
 use Rattle.jobs.specs.Job.{Script, Job}
 use Rattle.jobs.specs.JobVerdict.{AllCovered, ShowHolds, NotRootAt, WrongIn, ScriptVerdict, not_root, wrong_element, accepted}
 use Rattle.programs.proofs.Points.{past_stops}
-use Rattle.patterns.specs.declared.Wrong.{Wrong}
-use Rattle.patterns.specs.declared.Wrong.TheVariants.{Nowhere, At}
-use Rattle.patterns.specs.Inner.LowestWrong.{LowestBreach, nowhere_wrong, found_lowest}
+use Rattle.patterns.specs.Inner.LowestWrong.{MaybeWrong, At, LowestBreach, nowhere_wrong, found_lowest}
 use Rattle.patterns.specs.Inner.Shows.{Tables, ExactTables, Least, lowest_root, lowest_wrong}
 use Rattle.patterns.proofs.Lowest.{least_of, least_below, none_of}
 use Rattle.patterns.proofs.ReadJobs.{GivenShows}
@@ -35,9 +34,9 @@ pub data Found : Type 0 where
   wrong : ℕ → ℕ → Breach → Found
   undecided : Found
 
-abbrev by_lowest : Option ℕ → Wrong → Found
+abbrev by_lowest : Option ℕ → MaybeWrong → Found
 by_lowest (some r) w = other_page r
-by_lowest none Nowhere = right
+by_lowest none None = right
 by_lowest none (At n at b) = wrong n at b
 
 abbrev only_enough : Bool → Found → Found
@@ -75,7 +74,7 @@ module _ (π : Script) (E : ℕ → Environment) (p : ℕ) where
 module _ (t : ℕ) (π : Script) (E : ℕ → Environment) (read : GivenShows π E) (p : ℕ) where
   module _ (G : Summary) (shows : graph_shown π.templates π.program E p ≡ some G) (T : Tables)
       (exact : ExactTables π.templates G π.vocabulary T) where
-    by_wrong : ((r : ℕ) → NotRootAt π E p r → ⊥) → (w : Wrong) → LowestBreach (WrongIn π E p) w → (w ≡ Nowhere → ShowHolds π E p) → FoundAt π E p (by_lowest none w)
+    by_wrong : ((r : ℕ) → NotRootAt π E p r → ⊥) → (w : MaybeWrong) → LowestBreach (WrongIn π E p) w → (w ≡ None → ShowHolds π E p) → FoundAt π E p (by_lowest none w)
     by_wrong no_other _ (nowhere_wrong h) holds = holds refl
     by_wrong no_other _ (found_lowest f l) holds = record { no_other = no_other; element = f; lowest = l }
 

@@ -11,11 +11,10 @@ use Rattle.vocabularies.specs.VocabularyReading as Grammar
 use Rattle.pages.specs.Items.{Items}
 use Rattle.pages.specs.RightPages.{◌∈◌}
 use Rattle.summaries.specs.Summaries.{Summary}
-use Rattle.patterns.specs.declared.Wrong.{Wrong}
 use Rattle.patterns.specs.Inner.Rounds.{Sets}
 use Rattle.patterns.specs.Inner.Exactness.{Exact}
 use Rattle.patterns.specs.Inner.Elements.{first_clause}
-use Rattle.patterns.specs.Inner.LowestWrong.{lowest_in, LowestWrong, Passing}
+use Rattle.patterns.specs.Inner.LowestWrong.{MaybeWrong, lowest_in, LowestWrong, Passing}
 use Rattle.pages.specs.Inner.Gaps.{ItemsStand, StartsAt}
 use Rattle.schemes.specs.declared.Scheme.{Scheme}
 use Rattle.languages.specs.Inner.Tables.{SetsAre}
@@ -37,19 +36,19 @@ abbrev pub SettledBy : Scheme → List ℕ → List ℕ → List ℕ → ℕ →
 SettledBy r s words starts count sets = (made : ℕ) × Settles r s words starts count made sets
 
 -- The lowest element of items of template n for which the clause can fail.
-abbrev pub SearchesTemplate : List ℕ → ℕ → Clause → List ℕ → List (List ℕ) → ℕ → Wrong → Type 0
+abbrev pub SearchesTemplate : List ℕ → ℕ → Clause → List ℕ → List (List ℕ) → ℕ → MaybeWrong → Type 0
 SearchesTemplate s from c words sets n r = (φs : List Items) (G : Summary) (ψ : Formula) (X : Sets) (count : ℕ) → GraphKept φs G words count
     → ClauseAt s ψ c → SetsAre φs (patterns_by ψ) X sets → (φ : Items) → ItemsStand s from φ
     → r ≡ lowest_in n (fails_at φs G ψ X c.place n c.element) φ
 
 -- One clause, in the templates of a set.
-abbrev pub SearchesClause : List ℕ → Clause → List ℕ → List ℕ → ℕ → ℕ → Wrong → Type 0
+abbrev pub SearchesClause : List ℕ → Clause → List ℕ → List ℕ → ℕ → ℕ → MaybeWrong → Type 0
 SearchesClause s c words starts count chosen r = (φs : List Items) (G : Summary) (ψ : Formula) (X : Sets)
     → Standing s φs G words starts count → ClauseAt s ψ c → Exact φs G (patterns_by ψ) X
     → LowestWrong (Passing φs chosen (λ n. fails_at φs G ψ X c.place n c.element)) r
 
 -- The clauses of the rule of element e, which stand from an offset on and the places of which count from k.
-abbrev pub SearchesRule : List ℕ → ℕ → ℕ → ℕ → List ℕ → List ℕ → ℕ → ℕ → Wrong → Type 0
+abbrev pub SearchesRule : List ℕ → ℕ → ℕ → ℕ → List ℕ → List ℕ → ℕ → ℕ → MaybeWrong → Type 0
 SearchesRule s e from k words starts count chosen r = (φs : List Items) (G : Summary) (X : Formula → Sets)
     → Standing s φs G words starts count
     → (f end : ℕ) (ψs : List Formula) → Grammar.clauses f s from ≡ whole ψs end → ((ψ : Formula) → ψ ∈ ψs → Exact φs G (patterns_by ψ) (X ψ))
@@ -66,7 +65,7 @@ abbrev pub ExactClauses : List Items → Summary → Vocabulary → (Formula →
 ExactClauses φs G D X = (e : ℕ) (r : Rule) (ψ : Formula) → rule_of D.rules e ≡ some r → ψ ∈ r.clauses → Exact φs G (patterns_by ψ) (X ψ)
 
 -- All clauses of all rules.
-abbrev pub SearchesRules : List ℕ → ℕ → List ℕ → List ℕ → List ℕ → List ℕ → ℕ → ℕ → Wrong → Type 0
+abbrev pub SearchesRules : List ℕ → ℕ → List ℕ → List ℕ → List ℕ → List ℕ → ℕ → ℕ → MaybeWrong → Type 0
 SearchesRules s declared clauses standing words starts count reached r = (φs : List Items) (G : Summary) (D : Vocabulary) (X : Formula → Sets)
     → Standing s φs G words starts count → RulesStand s D declared clauses → Occurrences φs standing → ExactClauses φs G D X
     → LowestWrong (Passing φs reached (λ n e mark δ φ. wrong_by_clause φs G X D n e δ φ)) r

@@ -17,8 +17,7 @@ use Rattle.patterns.specs.Inner.Given.{contents}
 use Rattle.patterns.specs.Inner.Rounds.{Sets, any_template}
 use Rattle.patterns.specs.Inner.Reached.{contents_of}
 use Rattle.patterns.specs.Inner.Elements.{carriable_names, plain_breach}
-use Rattle.patterns.specs.declared.Wrong.{Wrong}
-use Rattle.patterns.specs.Inner.LowestWrong.{wrong_at, lowest_in, LowestWrong, Passing}
+use Rattle.patterns.specs.Inner.LowestWrong.{MaybeWrong, wrong_at, lowest_in, LowestWrong, Passing}
 use Rattle.graphs.specs.Inner.Graphs.{Keeps}
 use Rattle.reach.specs.declared.Carriable.{Carriable}
 use Rattle.reach.specs.declared.WalkedElement.{WalkedElement}
@@ -55,12 +54,12 @@ module _ (φs : List Items) (G : Summary) (C : Sets) (n : ℕ) where
     pub holds : (c : ℕ) → member held c ≡ is_in c R.contents
 
 -- The element at an offset of template n, if it is plainly wrong.
-abbrev pub TellsOutside : ℕ → ℕ → ℕ → ℕ → ℕ → ℕ → Wrong → Type 0
+abbrev pub TellsOutside : ℕ → ℕ → ℕ → ℕ → ℕ → ℕ → MaybeWrong → Type 0
 TellsOutside n at named allowed inside held r = (φs : List Items) (G : Summary) (C : Sets) (R : Rule) (δ : List Attribute) (φ : Items)
     → Compared φs G C n R δ φ named allowed inside held → r ≡ wrong_at n at (plain_breach φs G C R n δ φ)
 
 -- The lowest element of some items of template n that is plainly wrong, where elements that have a rule are read alone.
-abbrev pub FindsWrong : (ℕ → Bool) → List ℕ → List ℕ → List ℕ → List ℕ → ℕ → Items → Wrong → Type 0
+abbrev pub FindsWrong : (ℕ → Bool) → List ℕ → List ℕ → List ℕ → List ℕ → ℕ → Items → MaybeWrong → Type 0
 FindsWrong ruled allowed held graph brings n φ wrong = (φs : List Items) (G : Summary) (C : Sets) (D : Vocabulary) → RulesKept D allowed held
     → GraphTold φs G C n graph brings → ((e : ℕ) → ruled e ≡ true → declared D.rules e ≡ true)
     → wrong ≡ lowest_in n (λ e mark δ χ. plainly_wrong φs G C D n e δ χ) φ
@@ -95,14 +94,14 @@ TellsBrings graph n within r = (φs : List Items) (G : Summary) (C : Sets) (coun
     → Brings φs G C n r
 
 -- The lowest element that is plainly wrong in items of template n that stand at an offset.
-abbrev pub TellsWrongIn : List ℕ → List ℕ → List ℕ → ℕ → List ℕ → ℕ → List ℕ → Wrong → Type 0
+abbrev pub TellsWrongIn : List ℕ → List ℕ → List ℕ → ℕ → List ℕ → ℕ → List ℕ → MaybeWrong → Type 0
 TellsWrongIn s allowed held at graph n within r = (φs : List Items) (G : Summary) (C : Sets) (D : Vocabulary) (count : ℕ)
     → GraphKept φs G graph count → RulesKept D allowed held → ContentsKept φs C within
     → (f end : ℕ) (φ : Items) → items f Template (declared D.rules) s 0 at ≡ whole φ end
     → r ≡ lowest_in n (λ e mark δ χ. plainly_wrong φs G C D n e δ χ) φ
 
 -- The lowest element of the templates of a set that is plainly wrong.
-abbrev pub TellsPlainlyWrong : List ℕ → List ℕ → List ℕ → List ℕ → ℕ → List ℕ → List ℕ → ℕ → Wrong → Type 0
+abbrev pub TellsPlainlyWrong : List ℕ → List ℕ → List ℕ → List ℕ → ℕ → List ℕ → List ℕ → ℕ → MaybeWrong → Type 0
 TellsPlainlyWrong s allowed held starts count graph within reached r = (φs : List Items) (G : Summary) (C : Sets) (D : Vocabulary)
     → GraphKept φs G graph count → RulesKept D allowed held → Located (declared D.rules) s φs count starts → ContentsKept φs C within
     → LowestWrong (Passing φs reached (λ n e mark δ φ. plainly_wrong φs G C D n e δ φ)) r
