@@ -11,7 +11,7 @@ ghost use Rattle.pages.specs.Inner.Gaps.{AttributeGaps, ElementGaps, ItemsGaps, 
 ghost use Rattle.pages.specs.Items.{Items, template_at};
 ghost use Rattle.pages.specs.Inner.Promises.{AttributesRead, ItemsRead, ItemRead, TemplatesFrom};
 
-use commands::{Context, Decoded, Part, Past, Position};
+use commands::{Context, Decoded, Position, ReadError};
 use verdicts::Form;
 
 pub const MOST_BYTES: usize = 65535;
@@ -28,10 +28,9 @@ pub enum Kind {
     Page,
 }
 
-// The templates that were read: how many, and where the items of each stand, from template 1 on.
+// The templates of a job: how many, and where the items of each stand, from template 1 on.
 #[derive(Clone, Copy)]
-pub struct TemplatesRead {
-    pub part: Part,
+pub struct Templates {
     pub count: usize,
     pub starts: [usize; 32],
 }
@@ -164,16 +163,7 @@ pub fn after_attributes(s: &[u8], here: Position) -> Position
     loop {
         let attribute = attribute_here(s, p);
         match attribute {
-            AttributeHere::Fixed {
-                name: _,
-                string: _,
-                next,
-            } => p = next,
-            AttributeHere::Open {
-                name: _,
-                gap: _,
-                next,
-            } => p = next,
+            AttributeHere::Fixed { next, .. } | AttributeHere::Open { next, .. } => p = next,
             AttributeHere::Done => return p,
         }
     }
@@ -189,12 +179,8 @@ fn attribute_gaps(s: &[u8], here: Position, gaps: u64) -> GapsFound
     loop {
         let attribute = attribute_here(s, p);
         match attribute {
-            AttributeHere::Fixed {
-                name: _,
-                string: _,
-                next,
-            } => p = next,
-            AttributeHere::Open { name: _, gap, next } => {
+            AttributeHere::Fixed { next, .. } => p = next,
+            AttributeHere::Open { gap, next, .. } => {
                 all = sets::with(all, 8 + gap);
                 p = next;
             }
@@ -224,7 +210,7 @@ fn items_gaps(s: &[u8], here: Position, gaps: u64) -> GapsFound
     loop {
         let item = item_here(s, p);
         match item {
-            ItemHere::Text(next) => p = next,
+            ItemHere::Text(next) | ItemHere::Blank(next) => p = next,
             ItemHere::Gap(g, next) => {
                 all = sets::with(all, g);
                 p = next;
@@ -234,7 +220,6 @@ fn items_gaps(s: &[u8], here: Position, gaps: u64) -> GapsFound
                 all = inside.gaps;
                 p = inside.next;
             }
-            ItemHere::Blank(next) => p = next,
             ItemHere::End(next) => return GapsFound { gaps: all, next },
         }
     }
@@ -248,68 +233,64 @@ fn gaps_at(s: &[u8], here: Position) -> u64
 }
 
 // The gaps of every template. Template 0 has none.
-pub fn gaps_of(s: &[u8], starts: &[usize; 32], count: usize) -> [u64; 32]
-    ensures { (φs : List Items) → StartsAt s.now φs starts.now → count ≡ length φs → (t : ℕ) → t ≤ count → t < 32 → GapsAre (get_or result t 0) (template_at φs t) }
+pub fn gaps_of(s: &[u8], templates: &Templates) -> [u64; 32]
+    ensures { (φs : List Items) → StartsAt s.now φs templates.now.starts → templates.now.count ≡ length φs → (t : ℕ) → t ≤ templates.now.count → t < 32 → GapsAre (get_or result t 0) (template_at φs t) }
 {
     let mut table = [0u64; 32];
-    let mut t = 1;
-    while t < 32 {
-        if count < t {
+    for t in 1..32 {
+        if templates.count < t {
             return table;
         }
-        table[t] = gaps_at(s, Position::new(starts[t]));
-        t += 1;
+        table[t] = gaps_at(s, Position::new(templates.starts[t]));
     }
     table
 }
 
 // A list of items below `depth` open elements, up to and with what ends it; `declared` is the set of elements that have a rule.
 #[cycle(read_item_read_items)]
-fn read_items(kind: Kind, declared: u64, s: &[u8], here: Position, depth: usize) -> Part
+fn read_items(kind: Kind, declared: u64, s: &[u8], here: Position, depth: usize) -> Result<Position, ReadError>
     ensures { ItemsRead kind (member declared) s.now depth here.at result }
 {
     let end = end_of(depth);
     let mut p = here;
     loop {
-        let past = p.past(s, end);
-        if let Past::Over(next) = past {
-            return Part::Whole(next);
+        if let Some(next) = p.past(s, end) {
+            return Ok(next);
         }
-        let part = read_item(kind, declared, s, p, depth);
-        let Part::Whole(next) = part else {
-            return part;
-        };
-        p = next;
+        p = read_item(kind, declared, s, p, depth)?;
     }
 }
 
 // Text, blank text, a gap, or an element with its attributes and contents.
 #[cycle(read_item_read_items)]
-fn read_item(kind: Kind, declared: u64, s: &[u8], here: Position, depth: usize) -> Part
+fn read_item(kind: Kind, declared: u64, s: &[u8], here: Position, depth: usize) -> Result<Position, ReadError>
     ensures { ItemRead kind (member declared) s.now depth here.at result }
 {
     let d = here.item_command(s, item_context(kind));
     let Decoded::Moved(code, next) = d else {
-        return d.part();
+        return Err(d.refusal());
     };
     if code != 0x23 {
-        return Part::Whole(next);
+        return Ok(next);
     }
     if !sets::has(declared, here.operand(s, 1)) {
-        return Part::Refused(Form::Missing, here.at);
+        return Err(ReadError {
+            form: Form::Missing,
+            at: here.at,
+        });
     }
     if most_nested(kind) <= depth {
-        return Part::Refused(Form::TooMany, here.at);
+        return Err(ReadError {
+            form: Form::TooMany,
+            at: here.at,
+        });
     }
-    let attributes = read_attributes(kind, s, next);
-    let Part::Whole(inside) = attributes else {
-        return attributes;
-    };
+    let inside = read_attributes(kind, s, next)?;
     read_items(kind, declared, s, inside, depth + 1)
 }
 
 // The attributes straight after `23 e`: none is named twice.
-fn read_attributes(kind: Kind, s: &[u8], here: Position) -> Part
+fn read_attributes(kind: Kind, s: &[u8], here: Position) -> Result<Position, ReadError>
     ensures { AttributesRead kind s.now [] here.at result }
 {
     let context = attribute_context(kind);
@@ -318,39 +299,30 @@ fn read_attributes(kind: Kind, s: &[u8], here: Position) -> Part
     while commands::is_allowed(context, commands::byte_at(s, p.at)) {
         let d = p.attribute_command(s, context);
         let Decoded::Moved(_, next) = d else {
-            return d.part();
+            return Err(d.refusal());
         };
         let name = p.operand(s, 1);
         if sets::has(seen, name) {
-            return Part::Refused(Form::NotRising, p.at);
+            return Err(ReadError {
+                form: Form::NotRising,
+                at: p.at,
+            });
         }
         seen = sets::with(seen, name);
         p = next;
     }
-    Part::Whole(p)
+    Ok(p)
 }
 
 // A page, from the first byte on.
-pub fn read_page(declared: u64, s: &[u8]) -> Part
+pub fn read_page(declared: u64, s: &[u8]) -> Result<Position, ReadError>
     ensures { Agrees (items (enough s.now) Kind.Page (member declared) s.now 0 0) result }
 {
     read_items(Kind::Page, declared, s, Position::new(0), 0)
 }
 
-impl TemplatesRead {
-    fn new(part: Part, count: usize, starts: [usize; 32]) -> Self
-        ensures { (result.part ≡ part) × (result.count ≡ count) × (result.starts ≡ starts) }
-    {
-        TemplatesRead {
-            part,
-            count,
-            starts,
-        }
-    }
-}
-
 // The templates of a job, up to `2F`.
-pub fn read_templates(declared: u64, s: &[u8], here: Position) -> TemplatesRead
+pub fn read_templates(declared: u64, s: &[u8], here: Position) -> Result<(Templates, Position), ReadError>
     ensures { TemplatesFrom (member declared) s.now here.at result }
 {
     let mut count: usize = 0;
@@ -359,20 +331,19 @@ pub fn read_templates(declared: u64, s: &[u8], here: Position) -> TemplatesRead
     loop {
         let d = p.command(s, Context::Templates);
         let Decoded::Moved(code, next) = d else {
-            return TemplatesRead::new(d.part(), count, starts);
+            return Err(d.refusal());
         };
         if code == 0x2F {
-            return TemplatesRead::new(Part::Whole(next), count, starts);
+            return Ok((Templates { count, starts }, next));
         }
         if MOST_TEMPLATES <= count {
-            return TemplatesRead::new(Part::Refused(Form::TooMany, p.at), count, starts);
+            return Err(ReadError {
+                form: Form::TooMany,
+                at: p.at,
+            });
         }
         count += 1;
         starts[count] = next.at;
-        let template = read_items(Kind::Template, declared, s, next, 0);
-        let Part::Whole(after) = template else {
-            return TemplatesRead::new(template, count, starts);
-        };
-        p = after;
+        p = read_items(Kind::Template, declared, s, next, 0)?;
     }
 }

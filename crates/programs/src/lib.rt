@@ -6,16 +6,15 @@ ghost use Rattle.std.proofs.Math.Seq.{slice};
 ghost use Rattle.commands.specs.Commands.{byte};
 ghost use Rattle.programs.specs.Program.{act_names, statement_names};
 ghost use Rattle.programs.specs.ProgramReading.{statement_context, act_templates_there, templates_there, points_there, strayed};
-ghost use Rattle.programs.specs.Inner.Promises.{as_act, as_statement, statement_here, ActFits, StatementFits, tested_statement, is_template, is_string, Adds, Names, StatementsRead, placed, stray_of, ProgramReads};
+ghost use Rattle.programs.specs.Inner.Promises.{as_act, as_statement, statement_here, ActFits, StatementFits, tested_statement, is_template, is_string, Adds, Names, StatementsRead, placed, ProgramReads};
 
-use commands::{Context, Decoded, Part, Position};
+use commands::{Context, Decoded, Position, ReadError};
 use verdicts::Form;
 
-// What reading a program keeps: how many points it has, the offset of each point's statement, and as a set the variables that
-// some statement names: x for template variable x, 4 + y for string variable y.
+// The points of a program: how many, the offset of each point's statement, and as a set the variables that some statement names:
+// x for template variable x, 4 + y for string variable y.
 #[derive(Clone, Copy)]
-pub struct ProgramRead {
-    pub part: Part,
+pub struct Points {
     pub count: usize,
     pub places: [usize; 32],
     pub named: u64,
@@ -35,7 +34,7 @@ pub enum Act {
     ShowFramed(u8, u8, u8),
 }
 
-// A statement with its two next points, or `38`.
+// A statement with its two next points, or `38`, which is a statement too and no lack of one.
 #[derive(Clone, Copy)]
 pub enum Statement {
     Step {
@@ -96,15 +95,8 @@ fn act_template_there(act: Act, templates: usize) -> bool
     ensures { result ≡ act_templates_there templates (as_act act) }
 {
     match act {
-        Act::CopyTemplate(_, _) => true,
-        Act::SetTemplate(_, t) => (t as usize) <= templates,
-        Act::CopyString(_, _) => true,
-        Act::SetString(_, _) => true,
-        Act::AnyString(_) => true,
-        Act::Plug(_, _, _, _) => true,
-        Act::PlugString(_, _, _, _) => true,
-        Act::Show(_) => true,
-        Act::ShowFramed(_, t, _) => (t as usize) <= templates,
+        Act::SetTemplate(_, t) | Act::ShowFramed(_, t, _) => (t as usize) <= templates,
+        _ => true,
     }
 }
 
@@ -112,11 +104,7 @@ fn template_there(statement: Statement, templates: usize) -> bool
     ensures { result ≡ templates_there templates (as_statement statement) }
 {
     match statement {
-        Statement::Step {
-            act,
-            first: _,
-            second: _,
-        } => act_template_there(act, templates),
+        Statement::Step { act, .. } => act_template_there(act, templates),
         Statement::Stop => true,
     }
 }
@@ -181,17 +169,13 @@ fn named_by(statement: Statement) -> u64
     ensures { Names (statement_names (as_statement statement)) result }
 {
     match statement {
-        Statement::Step {
-            act,
-            first: _,
-            second: _,
-        } => act_names(act),
+        Statement::Step { act, .. } => act_names(act),
         Statement::Stop => 0,
     }
 }
 
 // The statements up to `3F`.
-fn read_statements(s: &[u8], here: Position, templates: usize) -> ProgramRead
+fn read_statements(s: &[u8], here: Position, templates: usize) -> Result<(Points, Position), ReadError>
     ensures { StatementsRead s.now templates 0 0 here.at result }
 {
     let mut at = here;
@@ -201,20 +185,15 @@ fn read_statements(s: &[u8], here: Position, templates: usize) -> ProgramRead
     loop {
         let d = statement_here(s, at, templates, count);
         let Decoded::Moved(code, next) = d else {
-            return ProgramRead {
-                part: d.part(),
-                count,
-                places,
-                named,
-            };
+            return Err(d.refusal());
         };
         if code == 0x3F {
-            return ProgramRead {
-                part: Part::Whole(next),
+            let points = Points {
                 count,
                 places,
                 named,
             };
+            return Ok((points, next));
         }
         places[count] = at.at;
         named = sets::union(named, named_by(statement_at(s, at)));
@@ -228,61 +207,34 @@ fn points_there(statement: Statement, points: usize) -> bool
     ensures { result ≡ points_there points (as_statement statement) }
 {
     match statement {
-        Statement::Step {
-            act: _,
-            first,
-            second,
-        } => {
-            if points <= first {
-                return false;
-            }
-            second < points
-        }
+        Statement::Step { first, second, .. } => first < points && second < points,
         Statement::Stop => true,
     }
 }
 
-// The offset of a statement with a next point that is not there, if there is one.
-#[derive(Clone, Copy)]
-enum Stray {
-    At(usize),
-    Nowhere,
-}
-
-// The earliest such statement.
-fn strayed(s: &[u8], places: [usize; 32], count: usize) -> Stray
-    requires { count ≤ 32 }
-    ensures { stray_of result ≡ strayed count (placed s.now (slice 0 count places)) }
+// The offset of the earliest statement with a next point that is not there.
+fn strayed(s: &[u8], points: &Points) -> Option<usize>
+    requires { points.now.count ≤ 32 }
+    ensures { result ≡ strayed points.now.count (placed s.now (slice 0 points.now.count points.now.places)) }
 {
-    let mut i = 0;
-    while i < count {
-        let at = places[i];
-        if !points_there(statement_at(s, Position::new(at)), count) {
-            return Stray::At(at);
+    for place in &points.places[..points.count] {
+        if !points_there(statement_at(s, Position::new(*place)), points.count) {
+            return Some(*place);
         }
-        i += 1;
     }
-    Stray::Nowhere
+    None
 }
 
 // The program from here on, up to `3F`, of a job with this many templates; next points are tested when all statements are read.
-pub fn read_program(s: &[u8], here: Position, templates: usize) -> ProgramRead
+pub fn read_program(s: &[u8], here: Position, templates: usize) -> Result<(Points, Position), ReadError>
     ensures { ProgramReads s.now templates here.at result }
 {
-    let read = read_statements(s, here, templates);
-    let part = read.part;
-    let Part::Whole(_) = part else {
-        return read;
-    };
-    let places = read.places;
-    let count = read.count;
-    match strayed(s, places, count) {
-        Stray::Nowhere => read,
-        Stray::At(at) => ProgramRead {
-            part: Part::Refused(Form::Missing, at),
-            count,
-            places,
-            named: read.named,
-        },
+    let (points, next) = read_statements(s, here, templates)?;
+    if let Some(at) = strayed(s, &points) {
+        return Err(ReadError {
+            form: Form::Missing,
+            at,
+        });
     }
+    Ok((points, next))
 }

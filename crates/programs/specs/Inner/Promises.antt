@@ -1,17 +1,16 @@
 -- What the code that reads programs promises, in terms of the definitions that read them.
-use Rattle.std.specs.Prelude.{ℕ, ◌+◌, ◌≤◌, ◌<◌, ◌≡◌, List, map, Bool, true, false, cond, ◌||◌, length, get_or, eqb, ltb}
-use Rattle.std.proofs.Math.Option.{Option, some, none}
+use Rattle.std.specs.Prelude.{ℕ, ◌+◌, ◌≤◌, ◌<◌, ◌≡◌, List, map, Bool, true, false, cond, ◌||◌, length, get_or, eqb, ltb, Result}
 use Rattle.std.proofs.Math.Seq.{slice}
 use Rattle.verdicts.specs.declared.Form.TheVariants.{TooMany, Missing}
 use Rattle.sets.specs.Sets.{member}
+use Rattle.commands.specs.declared.Position.{Position}
+use Rattle.commands.specs.declared.ReadError.{ReadError}
 use Rattle.commands.specs.declared.Decoded.{Decoded}
 use Rattle.commands.specs.declared.Decoded.TheVariants.{Moved, Refused}
 use Rattle.commands.specs.Commands as Commands
 use Rattle.commands.specs.Commands.{byte, operands_of, operand_bytes, all_in_range, command}
-use Rattle.commands.specs.Inner.Parts.{AgreesAs, Enough}
-use Rattle.programs.specs.declared.ProgramRead.{ProgramRead}
-use Rattle.programs.specs.declared.Stray.{Stray}
-use Rattle.programs.specs.declared.Stray.TheVariants.{At, Nowhere}
+use Rattle.commands.specs.Inner.Parts.{AgreesWith, Enough}
+use Rattle.programs.specs.declared.Points.{Points}
 use Rattle.programs.specs.declared.Act as Acts
 use Rattle.programs.specs.declared.Act.TheVariants.{CopyTemplate, SetTemplate, CopyString, SetString, AnyString, Plug, PlugString, Show, ShowFramed}
 use Rattle.programs.specs.declared.Statement as Statements
@@ -75,7 +74,7 @@ pub record Stands (s : List ℕ) (count at : ℕ) : Type 0 where
   pub template_there : templates_there count (statement_read s at (byte s at)) ≡ true
 
 -- What is kept of a program: where the statement of each point stands, and which variables some statement names.
-pub record Tabled (s : List ℕ) (count : ℕ) (r : ProgramRead) (ts : List Statement) : Type 0 where
+pub record Tabled (s : List ℕ) (count : ℕ) (r : Points) (ts : List Statement) : Type 0 where
   pub points : r.count ≡ length ts
   pub most : r.count ≤ most_points
   pub statement : (i : ℕ) → i < r.count → statement_read s (get_or r.places i 0) (byte s (get_or r.places i 0)) ≡ statement_at ts i
@@ -84,8 +83,8 @@ pub record Tabled (s : List ℕ) (count : ℕ) (r : ProgramRead) (ts : List Stat
   pub names : Names (named ts) r.named
 
 -- At every fuel that is enough.
-abbrev pub ProgramReads : List ℕ → ℕ → ℕ → ProgramRead → Type 0
-ProgramReads s count at r = (f : ℕ) → Enough s at f → AgreesAs (λ ts end. Tabled s count r ts) (program f count s at) r.part
+abbrev pub ProgramReads : List ℕ → ℕ → ℕ → Result (Points × Position) ReadError → Type 0
+ProgramReads s count at r = (f : ℕ) → Enough s at f → AgreesWith (λ ts points. Tabled s count points ts) (program f count s at) r
 
 -- The steps on the way. The command of a statement with what is tested on it alone, in document 01's order: 8 before 6.
 abbrev pub tested_here : ℕ → List ℕ → ℕ → ℕ → Decoded → Decoded
@@ -119,12 +118,8 @@ placed_at s at = record { at = at; statement = statement_here s at }
 abbrev pub placed : List ℕ → List ℕ → List Placed
 placed s places = map (placed_at s) places
 
-abbrev pub stray_of : Stray → Option ℕ
-stray_of (At at) = some at
-stray_of Nowhere = none
-
 -- The statements from point `before` on stand at the places that are kept; `now` are the variables that were named before.
-pub record Kept (s : List ℕ) (count before now : ℕ) (r : ProgramRead) (ts : List Placed) : Type 0 where
+pub record Kept (s : List ℕ) (count before now : ℕ) (r : Points) (ts : List Placed) : Type 0 where
   pub least : before ≤ r.count
   pub most : r.count ≤ most_points
   pub wide : length r.places ≡ most_points
@@ -132,6 +127,6 @@ pub record Kept (s : List ℕ) (count before now : ℕ) (r : ProgramRead) (ts : 
   pub stands : (i : ℕ) → before ≤ i → i < r.count → Stands s count (get_or r.places i 0)
   pub names : Names (λ v. member now (number_of v) || named (map (λ t. t.statement) ts) v) r.named
 
-abbrev pub StatementsRead : List ℕ → ℕ → ℕ → ℕ → ℕ → ProgramRead → Type 0
+abbrev pub StatementsRead : List ℕ → ℕ → ℕ → ℕ → ℕ → Result (Points × Position) ReadError → Type 0
 StatementsRead s count before now at r =
-    (f : ℕ) → Enough s at f → AgreesAs (λ ts end. Kept s count before now r ts) (statements f count s before at) r.part
+    (f : ℕ) → Enough s at f → AgreesWith (λ ts points. Kept s count before now points ts) (statements f count s before at) r
