@@ -1,16 +1,17 @@
 -- Laws of sets of strings, and of what an attribute gap can take.
 use Prim.Native.Nat.{ℕ, zero, suc, ◌^◌, ◌≤◌, ◌<◌}
 use mathlib.Core.Path.{◌≡◌, refl, sym, ap, ◌∙◌}
-use mathlib.Core.Bool.{Bool, true, false, ◌&&◌, ◌||◌, or-true, false≢true}
+use mathlib.Core.Bool.{Bool, true, false, not, ◌&&◌, ◌||◌, or-true, false≢true}
 use mathlib.Core.Logic.{inl, inr}
 use native.Mathlib.Nat.{eq-or-lt_of_le, le_of_suc-le-suc}
 use native.Mathlib.Omega.{arith}
 use lib.Dec.{eqb, ltb, lit<}
 use borrow.Author.Tests.{ltb-true, ltb-false, eqb-true, eqb-false}
 use Rattle.sets.proofs.Booleans.{and_left, and_right}
-use Rattle.std.specs.Prelude.{None}
+use Rattle.std.specs.Prelude.{Option, Some, None}
+use Rattle.std.specs.Option.{is_some}
 use Rattle.sets.specs.Sets.{member}
-use Rattle.sets.specs.Inner.Promises.{MembersWithin, MemberFrom, NextMember}
+use Rattle.sets.specs.Inner.Promises.{MembersWithin, NextMember}
 use Rattle.sets.proofs.Laws.{member_high}
 use Rattle.strings.specs.declared.StringSet.{StringSet}
 use Rattle.strings.specs.declared.Values.{Values}
@@ -83,12 +84,12 @@ pub union_named : (a b : Values) → a.any ≡ false → b.any ≡ false → (u 
     → (s : ℕ) → has_string u s ≡ (holds_value a s || holds_value b s)
 union_named a b n m u h s = rw (holds_named a n s, holds_named b m s) (h s)
 
--- The first string of what can be taken.
-pub has_first : (v : Values) → v.any ≡ false → (s : ℕ) → MemberFrom v.named.word 0 s → NoValues v false
-has_first v n s m = let w : s < 64 = m.within in (s, omega arith, holds_named v n s ∙ m.is_held)
-
-pub no_first : (v : Values) → v.any ≡ false → NextMember v.named.word 0 None → NoValues v true
-no_first v n m = λ s. holds_named v n s ∙ m s (omega arith)
+-- The first string of what can be taken decides whether there is one.
+pub first_decides : (v : Values) → v.any ≡ false → (next : Option ℕ) → NextMember v.named.word 0 next → (r : Bool) → is_some next ≡ not r → NoValues v r
+first_decides v n (Some s) is true e = absurd (false≢true (sym e))
+first_decides v n (Some s) is false e = let w : s < 64 = is.within in (s, omega arith, holds_named v n s ∙ is.is_held)
+first_decides v n None is true e = λ s. holds_named v n s ∙ is s (omega arith)
+first_decides v n None is false e = absurd (false≢true e)
 
 -- Where absence cannot be taken, the strings decide.
 pub no_absence : (v : AttributeValues) → v.absent ≡ false → (r : Bool) → NoValues v.strings r → NothingToTake v r
