@@ -5,36 +5,46 @@ use mathlib.Core.List.{List}
 use mathlib.Core.Bool.{Bool, true, false}
 use native.Mathlib.Omega.{arith}
 use lib.ListN.{length}
-use Rattle.verdicts.specs.declared.Form.{Form}
+use Rattle.std.specs.Prelude.{Result, Ok, Err}
 use Rattle.commands.specs.declared.Context.{Context}
 use Rattle.commands.specs.declared.Position.{Position}
 use Rattle.commands.specs.declared.Decoded.{Decoded}
 use Rattle.commands.specs.declared.Decoded.TheVariants as Decodeds
-use Rattle.commands.specs.declared.Part.{Part}
-use Rattle.commands.specs.declared.Part.TheVariants.{Whole, Refused}
+use Rattle.commands.specs.declared.ReadError.{ReadError}
 use Rattle.commands.specs.Commands.{command}
 use Rattle.commands.specs.Reading.{Read, whole, refused, unfinished, and_then, when}
-use Rattle.commands.specs.Inner.Parts.{Agrees, AgreesAs, Enough}
+use Rattle.commands.specs.Inner.Parts.{Agrees, AgreesAs, AgreesWith, Enough}
 use Rattle.commands.proofs.Laws.{moved, MovedOver}
 
 module _ {A : Type 0} (P : A → ℕ → Type 0) where
-  pub agrees_whole : (x : Read A) (p : Position) → AgreesAs P x (Whole p) → (a : A) × (x ≡ whole a p.at) × P a p.at
+  pub agrees_whole : (x : Read A) (p : Position) → AgreesAs P x (Ok p) → (a : A) × (x ≡ whole a p.at) × P a p.at
   agrees_whole (whole a end) p h = (a, rw h.0, rw h.0 h.1)
   agrees_whole (refused f at) p h = absurd h
   agrees_whole unfinished p h = absurd h
 
-  pub agrees_refused : (x : Read A) (f : Form) (n : ℕ) → AgreesAs P x (Refused f n) → x ≡ refused f n
-  agrees_refused (whole a end) f n h = absurd h
-  agrees_refused (refused g m) f n h = rw (h.0, h.1)
-  agrees_refused unfinished f n h = absurd h
+  pub agrees_refused : (x : Read A) (e : ReadError) → AgreesAs P x (Err e) → x ≡ refused e.form e.at
+  agrees_refused (whole a end) e h = absurd h
+  agrees_refused (refused f n) e h = rw (h.0, h.1)
+  agrees_refused unfinished e h = absurd h
+
+module _ {A B : Type 0} (P : A → B → Type 0) where
+  pub agrees_with_whole : (x : Read A) (b : B) (p : Position) → AgreesWith P x (Ok (b, p)) → (a : A) × (x ≡ whole a p.at) × P a b
+  agrees_with_whole (whole a end) b p h = (a, rw h.0, h.1)
+  agrees_with_whole (refused f at) b p h = absurd h
+  agrees_with_whole unfinished b p h = absurd h
+
+  pub agrees_with_refused : (x : Read A) (e : ReadError) → AgreesWith P x (Err e) → x ≡ refused e.form e.at
+  agrees_with_refused (whole a end) e h = absurd h
+  agrees_with_refused (refused f n) e h = rw (h.0, h.1)
+  agrees_with_refused unfinished e h = absurd h
 
 module _ {A : Type 0} where
   -- What is read whole is what is read.
-  pub agrees_itself : (x : Read A) (r : Part) → Agrees x r → AgreesAs (λ a end. x ≡ whole a end) x r
-  agrees_itself (whole a end) (Whole p) h = (h.0, refl)
-  agrees_itself (whole a end) (Refused f n) h = h
-  agrees_itself (refused f n) (Whole p) h = h
-  agrees_itself (refused f n) (Refused g m) h = h
+  pub agrees_itself : (x : Read A) (r : Result Position ReadError) → Agrees x r → AgreesAs (λ a end. x ≡ whole a end) x r
+  agrees_itself (whole a end) (Ok p) h = (h.0, refl)
+  agrees_itself (whole a end) (Err e) h = h
+  agrees_itself (refused f n) (Ok p) h = h
+  agrees_itself (refused f n) (Err e) h = h
   agrees_itself unfinished r h = h
 
 module _ {A B : Type 0} where
@@ -44,19 +54,19 @@ module _ {A B : Type 0} where
   and_then_same x unfinished k k' e h = rw e
 
   -- The last part of a reading: what is made of its tree changes neither its end nor its refusal.
-  pub last_agrees : (x : Read A) (k : A → B) (r : Part) → Agrees x r → Agrees (and_then x (λ a end. whole (k a) end)) r
-  last_agrees (whole a end) k (Whole p) h = h
-  last_agrees (whole a end) k (Refused f n) h = h
-  last_agrees (refused f n) k (Whole p) h = h
-  last_agrees (refused f n) k (Refused g m) h = h
+  pub last_agrees : (x : Read A) (k : A → B) (r : Result Position ReadError) → Agrees x r → Agrees (and_then x (λ a end. whole (k a) end)) r
+  last_agrees (whole a end) k (Ok p) h = h
+  last_agrees (whole a end) k (Err e) h = h
+  last_agrees (refused f n) k (Ok p) h = h
+  last_agrees (refused f n) k (Err e) h = h
   last_agrees unfinished k r h = h
 
-  pub last_agrees_as : (P : A → ℕ → Type 0) (Q : B → ℕ → Type 0) (x : Read A) (k : A → B) (r : Part) → ((a : A) (end : ℕ) → P a end → Q (k a) end) → AgreesAs P x r
+  pub last_agrees_as : (P : A → ℕ → Type 0) (Q : B → ℕ → Type 0) (x : Read A) (k : A → B) (r : Result Position ReadError) → ((a : A) (end : ℕ) → P a end → Q (k a) end) → AgreesAs P x r
       → AgreesAs Q (and_then x (λ a end. whole (k a) end)) r
-  last_agrees_as P Q (whole a end) k (Whole p) q h = (h.0, q a end h.1)
-  last_agrees_as P Q (whole a end) k (Refused f n) q h = h
-  last_agrees_as P Q (refused f n) k (Whole p) q h = h
-  last_agrees_as P Q (refused f n) k (Refused g m) q h = h
+  last_agrees_as P Q (whole a end) k (Ok p) q h = (h.0, q a end h.1)
+  last_agrees_as P Q (whole a end) k (Err e) q h = h
+  last_agrees_as P Q (refused f n) k (Ok p) q h = h
+  last_agrees_as P Q (refused f n) k (Err e) q h = h
   last_agrees_as P Q unfinished k r q h = h
 
   pub last_whole : (x : Read A) (k : A → B) (b : B) (end : ℕ) → and_then x (λ a end. whole (k a) end) ≡ whole b end → (a : A) × (x ≡ whole a end) × (b ≡ k a)

@@ -1,23 +1,22 @@
 -- What the code that reads vocabularies promises, in terms of the definitions that read them.
-use Rattle.std.specs.Prelude.{ℕ, ◌+◌, ◌<◌, min, ◌≡◌, List, [], ◌∷◌, ◌++◌, Bool, false, length, get_or, ltb}
+use Rattle.std.specs.Prelude.{ℕ, ◌+◌, ◌<◌, min, ◌≡◌, List, [], ◌∷◌, ◌++◌, Bool, false, length, get_or, ltb, Result}
 use Rattle.std.proofs.Math.Option.{some}
 use Rattle.sets.specs.Sets.{member}
 use Rattle.strings.specs.Inner.Promises.{set_number}
 use Rattle.commands.specs.declared.Context.{Context}
-use Rattle.commands.specs.declared.Part.{Part}
+use Rattle.commands.specs.declared.Position.{Position}
+use Rattle.commands.specs.declared.ReadError.{ReadError}
 use Rattle.commands.specs.Commands.{byte, operand_bytes}
 use Rattle.commands.specs.Reading.{whole}
-use Rattle.commands.specs.Inner.Parts.{Agrees, AgreesAs, Enough}
+use Rattle.commands.specs.Inner.Parts.{Agrees, AgreesWith, Enough}
 pub use Rattle.commands.specs.Inner.Parts.{part_of}
 use Rattle.vocabularies.specs.declared.Tables.{Tables}
-use Rattle.vocabularies.specs.declared.VocabularyRead.{VocabularyRead}
+use Rattle.vocabularies.specs.declared.Rule as Tabled
 use Rattle.vocabularies.specs.declared.FormulaHere.{FormulaHere}
 use Rattle.vocabularies.specs.declared.FormulaHere.TheVariants.{Conj, Disj, Neg, Truth, Attr, Content, Order, Value, Nothing}
 use Rattle.vocabularies.specs.declared.Fact as Kept
 use Rattle.vocabularies.specs.declared.Fact.TheVariants.{Carried, Present, Ordered, Valued}
 use Rattle.vocabularies.specs.declared.Facts.{Facts}
-use Rattle.vocabularies.specs.declared.Names.{Names}
-use Rattle.vocabularies.specs.declared.RuleRead.{RuleRead}
 use Rattle.vocabularies.specs.Facts.{Fact, carried, present, ordered, valued, is_among, add, with_facts, facts_of}
 use Rattle.vocabularies.specs.Vocabulary.{Formula, conj, disj, neg, truth, attr, content, order, value, Rule, Vocabulary, rule_of, declared, is_in}
 use Rattle.vocabularies.specs.VocabularyReading.{Shape, binary, unary, leaf, shape_at, most_facts, formula, rising, clauses, rule_body, vocabulary}
@@ -31,7 +30,7 @@ meaning_of (Valued a set) = valued a (set_number set)
 
 -- The fact that is kept at a place.
 abbrev pub kept_at : Facts → ℕ → Kept.Fact
-kept_at t i = (get_or t.kept i (record { fact = Carried 0 })).fact
+kept_at t i = get_or t.kept i (Carried 0)
 
 abbrev pub Stored : Facts → ℕ → Fact → Type 0
 Stored t i x = meaning_of (kept_at t i) ≡ x
@@ -77,7 +76,7 @@ abbrev pub Walks : (Formula → Type 0) → List ℕ → ℕ → ℕ → Type 0
 Walks P s at next = (f depth end : ℕ) (ψ : Formula) → formula f s depth at ≡ whole ψ end → (next ≡ end) × P ψ
 
 -- A formula below so many open connectives.
-abbrev pub FormulaReads : List ℕ → ℕ → ℕ → Part → Type 0
+abbrev pub FormulaReads : List ℕ → ℕ → ℕ → Result Position ReadError → Type 0
 FormulaReads s depth at r = (f : ℕ) → Enough s at f → Agrees (formula f s depth at) r
 
 -- The facts of the formula that stands between two offsets.
@@ -89,10 +88,10 @@ abbrev pub ManyFacts : List ℕ → ℕ → ℕ → Bool → Type 0
 ManyFacts s at end r = (f depth : ℕ) (ψ : Formula) → formula f s depth at ≡ whole ψ end → r ≡ ltb most_facts (length (facts_of ψ))
 
 -- The names of a rising list as a set.
-abbrev pub NamesRead : List ℕ → Context → ℕ → Names → Type 0
-NamesRead s x at r = (f : ℕ) → Enough s at f → AgreesAs (λ ns end. (k : ℕ) → member r.set k ≡ is_in k ns) (rising f x s 0 at) r.part
+abbrev pub NamesRead : List ℕ → Context → ℕ → Result (ℕ × Position) ReadError → Type 0
+NamesRead s x at r = (f : ℕ) → Enough s at f → AgreesWith (λ ns set. (k : ℕ) → member set k ≡ is_in k ns) (rising f x s 0 at) r
 
-abbrev pub ClausesRead : List ℕ → ℕ → Part → Type 0
+abbrev pub ClausesRead : List ℕ → ℕ → Result Position ReadError → Type 0
 ClausesRead s at r = (f : ℕ) → Enough s at f → Agrees (clauses f s at) r
 
 -- The allowed names of a rule as sets, and the offset where its clauses stand.
@@ -102,8 +101,8 @@ pub record RuleTables (s : List ℕ) (r : Rule) (attributes contents at : ℕ) :
   pub stands : (f : ℕ) → Enough s at f → (end : ℕ) × (clauses f s at ≡ whole r.clauses end)
 
 -- What follows `01 e`, as tables.
-abbrev pub RuleReads : List ℕ → ℕ → RuleRead → Type 0
-RuleReads s at t = (e f : ℕ) → Enough s at f → AgreesAs (λ r end. RuleTables s r t.attributes t.contents t.clauses) (rule_body f s e at) t.part
+abbrev pub RuleReads : List ℕ → ℕ → Result (Tabled.Rule × Position) ReadError → Type 0
+RuleReads s at r = (e f : ℕ) → Enough s at f → AgreesWith (λ rule t. RuleTables s rule t.attributes t.contents t.clauses.at) (rule_body f s e at) r
 
 pub record Describes (s : List ℕ) (D : Vocabulary) (t : Tables) : Type 0 where
   pub declares : (e : ℕ) → member t.declared e ≡ declared D.rules e
@@ -122,9 +121,9 @@ abbrev pub DescribesRules : List ℕ → List Rule → Tables → Type 0
 DescribesRules s rs t = Describes s (record { rules = rs; root = t.root }) t
 
 -- The tables with the rule of one element more.
-abbrev pub AddsRule : Tables → ℕ → RuleRead → Tables → Type 0
+abbrev pub AddsRule : Tables → ℕ → Tabled.Rule → Tables → Type 0
 AddsRule t e x r = (s : List ℕ) (rs : List Rule) (rule : Rule) → DescribesRules s rs t → declared rs e ≡ false → rule.element ≡ e
-    → RuleTables s rule x.attributes x.contents x.clauses → DescribesRules s (rs ++ (rule ∷ [])) r
+    → RuleTables s rule x.attributes x.contents x.clauses.at → DescribesRules s (rs ++ (rule ∷ [])) r
 
-abbrev pub VocabularyReads : List ℕ → VocabularyRead → Type 0
-VocabularyReads s r = AgreesAs (λ D end. Describes s D r.tables) (vocabulary s) r.part
+abbrev pub VocabularyReads : List ℕ → Result (Tables × Position) ReadError → Type 0
+VocabularyReads s r = AgreesWith (Describes s) (vocabulary s) r
