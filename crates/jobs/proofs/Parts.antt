@@ -2,38 +2,63 @@
 use Prim.Native.Nat.{ℕ, ◌≤◌, ◌<◌}
 use mathlib.Core.Path.{◌≡◌, refl, sym, ap, ◌∙◌, subst, fun_ext}
 use mathlib.Core.List.{List}
-use mathlib.Core.Bool.{Bool, true, false, cond, false≢true}
+use mathlib.Core.Bool.{Bool, true, false}
 use lib.ListN.{length}
 use lib.Dec.{leb, ltb}
 use borrow.Author.Tests.{le-leb, lt-leb, lt-ltb, le-ltb}
-use Rattle.verdicts.specs.declared.Form.{Form}
+use Rattle.std.specs.Prelude.{Result, Ok, Err}
 use Rattle.verdicts.specs.declared.Form.TheVariants.{TooLong, NotAllowed}
 use Rattle.sets.specs.Sets.{member}
 use Rattle.commands.specs.declared.Position.{Position}
-use Rattle.commands.specs.declared.Part.{Part}
-use Rattle.commands.specs.declared.Part.TheVariants.{Whole, Refused}
+use Rattle.commands.specs.declared.ReadError.{ReadError}
 use Rattle.commands.specs.Reading.{Read, whole, refused, unfinished, and_then, when, enough}
-use Rattle.commands.specs.Inner.Parts.{AgreesAs}
-use Rattle.vocabularies.specs.declared.VocabularyRead.{VocabularyRead}
+use Rattle.commands.specs.Inner.Parts.{AgreesAs, AgreesWith}
+use Rattle.vocabularies.specs.declared.Tables.{Tables}
 use Rattle.vocabularies.specs.Vocabulary.{Vocabulary, declared}
 use Rattle.vocabularies.specs.VocabularyReading.{vocabulary, most_bytes, alone}
 use Rattle.vocabularies.specs.Inner.Promises.{Describes, VocabularyReads}
-use Rattle.pages.specs.declared.TemplatesRead.{TemplatesRead}
+use Rattle.pages.specs.declared.Templates.{Templates}
 use Rattle.pages.specs.Items.{Items}
 use Rattle.pages.specs.ItemReading.{templates}
 use Rattle.pages.specs.Inner.Promises.{Located, TemplatesFrom}
-use Rattle.programs.specs.declared.ProgramRead.{ProgramRead}
+use Rattle.programs.specs.declared.Points.{Points}
 use Rattle.programs.specs.Program.{Statement}
 use Rattle.programs.specs.ProgramReading.{program}
 use Rattle.programs.specs.Inner.Promises.{Tabled, ProgramReads}
-use Rattle.programs.proofs.Laws.{WholeAs, agrees_map, agrees_whole, agrees_refuses, refused_agrees, whole_then, enough_enough}
+use Rattle.programs.proofs.Laws.{WholeAs, agrees_whole, agrees_refuses, enough_enough}
 use Rattle.summaries.specs.Proposal.{Head}
 use Rattle.summaries.specs.ProposalReading.{proposal}
 use Rattle.summaries.specs.Inner.Promises.{Kept, ProposalReads}
 use Rattle.jobs.specs.declared.ScriptRead.{ScriptRead}
 use Rattle.jobs.specs.Job.{Script, Job, script, job}
 use Rattle.jobs.specs.Inference.{script_slice}
-use Rattle.jobs.specs.Inner.Promises.{ScriptKept, JobKept, short, ended_by, with_part, ScriptReads, SliceReads, JobReads}
+use Rattle.jobs.specs.Inner.Promises.{ScriptKept, JobKept, short, EndedAt, ScriptReads, SliceReads, JobReads}
+use Rattle.jobs.proofs.Alone.{whole_alone, refusal_alone}
+
+-- ---- parts that are read with a value
+
+module _ {A B : Type 0} (P : A → B → Type 0) where
+  -- A part that was read whole.
+  pub record Held (r : Read A) (b : B) (p : Position) : Type 0 where
+    pub tree : A
+    pub reads : r ≡ whole tree p.at
+    pub holds : P tree b
+
+  pub held : (r : Read A) (b : B) (p : Position) → AgreesWith P r (Ok (b, p)) → Held r b p
+  held (whole a end) b p h = record { tree = a; reads = rw h.0; holds = h.1 }
+  held (refused f at) b p h = absurd h
+  held unfinished b p h = absurd h
+
+  pub with_refuses : (r : Read A) (e : ReadError) → AgreesWith P r (Err e) → r ≡ refused e.form e.at
+  with_refuses (whole a end) e h = absurd h
+  with_refuses (refused f at) e h = rw (h.0, h.1)
+  with_refuses unfinished e h = absurd h
+
+  pub holds_with : (r : Read A) (a : A) (b : B) (p : Position) → r ≡ whole a p.at → P a b → AgreesWith P r (Ok (b, p))
+  holds_with r a b p e h = rw e (refl, h)
+
+  pub refusal_with : (r : Read A) (e : ReadError) → r ≡ refused e.form e.at → AgreesWith P r (Err e)
+  refusal_with r e q = rw q (refl, refl)
 
 -- What is read after each part.
 module _ (s : List ℕ) where
@@ -47,97 +72,79 @@ module _ (s : List ℕ) where
   after_vocabulary D next = and_then (templates (enough s) (declared D.rules) s 0 next) λ φs after. after_templates D φs after
 
   -- Bytes that are too many are refused; otherwise the script is what its parts are.
-  module _ (r : ScriptRead) where
-    pub too_long : most_bytes < length s → r.part ≡ Refused TooLong 0 → ScriptReads s r
-    too_long l e = refused_agrees (λ π end. ScriptKept s π r) (short s (script s)) r.part TooLong 0 (rw (lt-leb (length s) most_bytes l)) e
+  pub too_long : most_bytes < length s → ScriptReads s (Err (record { form = TooLong; at = 0 }))
+  too_long l = refusal_with (ScriptKept s) (short s (script s)) (record { form = TooLong; at = 0 }) (rw (lt-leb (length s) most_bytes l))
 
-    module _ (fits : length s ≤ most_bytes) where
-      script_reads : AgreesAs (λ π end. ScriptKept s π r) (script s) r.part → ScriptReads s r
-      script_reads h = rw (le-leb (length s) most_bytes fits) h
+  module _ (fits : length s ≤ most_bytes) where
+    script_whole : (π : Script) (r : ScriptRead) (p : Position) → script s ≡ whole π p.at → ScriptKept s π r → ScriptReads s (Ok (r, p))
+    script_whole π r p e K = holds_with (ScriptKept s) (short s (script s)) π r p (rw (le-leb (length s) most_bytes fits) e) K
 
-      script_refuses : (f : Form) (n : ℕ) → script s ≡ refused f n → r.part ≡ Refused f n → ScriptReads s r
-      script_refuses f n q e = script_reads (refused_agrees (λ π end. ScriptKept s π r) (script s) r.part f n q e)
+    script_refuses : (e : ReadError) → script s ≡ refused e.form e.at → ScriptReads s (Err e)
+    script_refuses e q = refusal_with (ScriptKept s) (short s (script s)) e (rw (le-leb (length s) most_bytes fits) q)
 
 -- The vocabulary is refused, or is there.
-pub vocabulary_refuses : (s : List ℕ) (v : VocabularyRead) (r : ScriptRead) (f : Form) (n : ℕ) → length s ≤ most_bytes → VocabularyReads s v → v.part ≡ Refused f n → r.part ≡ v.part
-    → ScriptReads s r
+pub vocabulary_refuses : (s : List ℕ) (e : ReadError) → length s ≤ most_bytes → VocabularyReads s (Err e) → ScriptReads s (Err e)
 unfolding script
-vocabulary_refuses s v r f n fits reads q e =
-    let refuses = agrees_refuses (λ D end. Describes s D v.tables) (vocabulary s) v.part f n q reads in
-    script_refuses s r fits f n (rw refuses) (e ∙ q)
+vocabulary_refuses s e fits reads = script_refuses s fits e (rw (with_refuses (Describes s) (vocabulary s) e reads))
 
-pub record VocabularyThere (s : List ℕ) (v : VocabularyRead) (next : Position) : Type 0 where
+pub record VocabularyThere (s : List ℕ) (v : Tables) (next : Position) : Type 0 where
   pub fits : length s ≤ most_bytes
-  pub reads : VocabularyReads s v
-  pub is_whole : v.part ≡ Whole next
+  pub reads : VocabularyReads s (Ok (v, next))
 
-module _ {s : List ℕ} {v : VocabularyRead} {next : Position} (there : VocabularyThere s v next) where
-  v_tree : WholeAs (λ D end. Describes s D v.tables) (vocabulary s) next
-  v_tree = agrees_whole (λ D end. Describes s D v.tables) (vocabulary s) v.part next there.is_whole there.reads
+module _ {s : List ℕ} {v : Tables} {next : Position} (there : VocabularyThere s v next) where
+  v_tree : Held (Describes s) (vocabulary s) v next
+  v_tree = held (Describes s) (vocabulary s) v next there.reads
 
   abbrev D : Vocabulary
   D = v_tree.tree
 
   after_v : script s ≡ after_vocabulary s D next.at
   unfolding script
-  after_v = whole_then (λ D end. Describes s D v.tables) (vocabulary s) next v_tree (after_vocabulary s)
+  after_v = rw v_tree.reads
+
+  abbrev LocatedHere : List Items → Templates → Type 0
+  LocatedHere φs t = Located (declared D.rules) s φs t.count t.starts
 
   -- The templates are refused, or are there.
-  module _ (t : TemplatesRead) (reads : TemplatesFrom (member v.tables.declared) s next.at t) where
-    t_agree : AgreesAs (λ φs end. Located (declared D.rules) s φs t.count t.starts) (templates (enough s) (declared D.rules) s 0 next.at) t.part
-    t_agree =
-        subst (λ (ruled : ℕ → Bool). TemplatesFrom ruled s next.at t) (fun_ext v_tree.holds.declares) reads
-        (enough s) (enough_enough s next.at)
+  t_agree : (x : Result (Templates × Position) ReadError) → TemplatesFrom (member v.declared) s next.at x
+      → AgreesWith LocatedHere (templates (enough s) (declared D.rules) s 0 next.at) x
+  t_agree x reads = subst (λ (ruled : ℕ → Bool). TemplatesFrom ruled s next.at x) (fun_ext v_tree.holds.declares) reads (enough s) (enough_enough s next.at)
 
-    pub templates_refuse : (r : ScriptRead) (f : Form) (n : ℕ) → t.part ≡ Refused f n → r.part ≡ t.part → ScriptReads s r
-    templates_refuse r f n q e =
-        let refuses = agrees_refuses (λ φs end. Located (declared D.rules) s φs t.count t.starts) (templates (enough s) (declared D.rules) s 0 next.at) t.part f n q t_agree in
-        script_refuses s r there.fits f n (after_v ∙ rw refuses) (e ∙ q)
+  pub templates_refuse : (e : ReadError) → TemplatesFrom (member v.declared) s next.at (Err e) → ScriptReads s (Err e)
+  templates_refuse e reads =
+      script_refuses s there.fits e (after_v ∙ rw (with_refuses LocatedHere (templates (enough s) (declared D.rules) s 0 next.at) e (t_agree (Err e) reads)))
 
-pub record TemplatesThere (s : List ℕ) (v : VocabularyRead) (next : Position) (t : TemplatesRead) (next' : Position) : Type 0 where
+pub record TemplatesThere (s : List ℕ) (v : Tables) (next : Position) (t : Templates) (next' : Position) : Type 0 where
   pub before : VocabularyThere s v next
-  pub reads : TemplatesFrom (member v.tables.declared) s next.at t
-  pub is_whole : t.part ≡ Whole next'
+  pub reads : TemplatesFrom (member v.declared) s next.at (Ok (t, next'))
 
-module _ {s : List ℕ} {v : VocabularyRead} {next : Position} {t : TemplatesRead} {next' : Position} (there : TemplatesThere s v next t next') where
-  t_tree : WholeAs (λ φs end. Located (declared (D there.before).rules) s φs t.count t.starts) (templates (enough s) (declared (D there.before).rules) s 0 next.at) next'
+module _ {s : List ℕ} {v : Tables} {next : Position} {t : Templates} {next' : Position} (there : TemplatesThere s v next t next') where
+  t_tree : Held (LocatedHere there.before) (templates (enough s) (declared (D there.before).rules) s 0 next.at) t next'
   t_tree =
-      agrees_whole (λ φs end. Located (declared (D there.before).rules) s φs t.count t.starts) (templates (enough s) (declared (D there.before).rules) s 0 next.at) t.part next'
-      there.is_whole (t_agree there.before t there.reads)
+      held (LocatedHere there.before) (templates (enough s) (declared (D there.before).rules) s 0 next.at) t next' (t_agree there.before (Ok (t, next')) there.reads)
 
   abbrev φs : List Items
   φs = t_tree.tree
 
   after_t : script s ≡ after_templates s (D there.before) φs next'.at
-  after_t =
-      after_v there.before
-      ∙ whole_then (λ φs end. Located (declared (D there.before).rules) s φs t.count t.starts) (templates (enough s) (declared (D there.before).rules) s 0 next.at) next' t_tree
-      (after_templates s (D there.before))
+  after_t = after_v there.before ∙ rw t_tree.reads
+
+  abbrev TabledHere : List Statement → Points → Type 0
+  TabledHere ts p = Tabled s (length φs) p ts
 
   -- The program is the last part.
-  module _ (p : ProgramRead) (reads : ProgramReads s t.count next'.at p) where
-    p_agrees : AgreesAs (λ ts end. Tabled s (length φs) p ts) (program (enough s) (length φs) s next'.at) p.part
-    p_agrees = subst (λ (n : ℕ). ProgramReads s n next'.at p) t_tree.holds.counted reads (enough s) (enough_enough s next'.at)
+  p_agrees : (x : Result (Points × Position) ReadError) → ProgramReads s t.count next'.at x → AgreesWith TabledHere (program (enough s) (length φs) s next'.at) x
+  p_agrees x reads = subst (λ (n : ℕ). ProgramReads s n next'.at x) t_tree.holds.counted reads (enough s) (enough_enough s next'.at)
 
-    abbrev r : ScriptRead
-    r = record { part = p.part; tables = v.tables; templates = t; program = p }
+  pub program_refuses : (e : ReadError) → ProgramReads s t.count next'.at (Err e) → ScriptReads s (Err e)
+  program_refuses e reads =
+      script_refuses s there.before.fits e (after_t ∙ rw (with_refuses TabledHere (program (enough s) (length φs) s next'.at) e (p_agrees (Err e) reads)))
 
-    pub program_last : ScriptReads s r
-    program_last = script_reads s r there.before.fits (
-        rw after_t
-        (agrees_map (λ ts end. Tabled s (length φs) p ts) (λ π end. ScriptKept s π r) (of_parts s (D there.before) φs) (program (enough s) (length φs) s next'.at) p.part
-        (λ ts end h. record { vocabulary = (v_tree there.before).holds; templates = t_tree.holds; program = h }) p_agrees))
-
--- What is kept of a script does not depend on the part that its bytes end with.
-with_part_lem : {s : List ℕ} {π : Script} {r : ScriptRead} {part : Part} → ScriptKept s π r → ScriptKept s π (with_part r part)
-with_part_lem K = record { vocabulary = K.vocabulary; templates = K.templates; program = K.program }
-
-agrees_as : {A : Type 0} {P Q : A → ℕ → Type 0} → ((a : A) (end : ℕ) → P a end → Q a end) → (r : Read A) (part : Part) → AgreesAs P r part → AgreesAs Q r part
-agrees_as h (whole a end) (Whole p) w = (w.0, h a end w.1)
-agrees_as h (whole a end) (Refused f at) w = absurd w
-agrees_as h (refused f at) (Whole p) w = absurd w
-agrees_as h (refused f at) (Refused f' at') w = w
-agrees_as h unfinished part w = absurd w
+  pub program_last : (p : Points) (end : Position) → ProgramReads s t.count next'.at (Ok (p, end)) → ScriptReads s (Ok (record { tables = v; templates = t; points = p }, end))
+  program_last p end reads =
+      let h = held TabledHere (program (enough s) (length φs) s next'.at) p end (p_agrees (Ok (p, end)) reads) in
+      script_whole s there.before.fits (of_parts s (D there.before) φs h.tree) (record { tables = v; templates = t; points = p }) end (after_t ∙ rw h.reads)
+      (record { vocabulary = (v_tree there.before).holds; templates = t_tree.holds; program = h.holds })
 
 -- Bytes that are read alone: not too many, and nothing after the last part.
 module _ (s : List ℕ) where
@@ -159,32 +166,33 @@ module _ (s : List ℕ) where
       go false = refl
 
   -- Where a byte follows, and where none does.
-  module _ (last : Part) (end : Position) (e : last ≡ Whole end) where
-    pub more_follows : end.at < length s → Refused NotAllowed end.at ≡ ended_by s last
-    more_follows l = rw (e, lt-ltb end.at (length s) l)
+  more_follows : {A : Type 0} (a : A) (end : Position) (e : ReadError) → EndedAt s end.at (Err e) → stops a end.at ≡ refused e.form e.at
+  more_follows a end e h = rw (h.1, lt-ltb end.at (length s) h.0)
 
-    pub nothing_follows : length s ≤ end.at → Whole end ≡ ended_by s last
-    nothing_follows l = rw (e, le-ltb end.at (length s) l)
-
-  stops_agrees : {A : Type 0} (P : A → ℕ → Type 0) (r : Read A) (part : Part) → AgreesAs P r part → AgreesAs P (and_then r stops) (ended_by s part)
-  stops_agrees {A} P (whole a end) (Whole p) w = go (ltb end (length s)) (ltb p.at (length s)) (rw w.0)
-    where
-      go : (b c : Bool) → c ≡ b → AgreesAs P (when b (λ _. refused NotAllowed end) (λ _. whole a end)) (cond c (Refused NotAllowed p.at) (Whole p))
-      go true true e = (refl, sym w.0)
-      go true false e = absurd (false≢true e)
-      go false true e = absurd (false≢true (sym e))
-      go false false e = w
-  stops_agrees P (whole a end) (Refused f at) w = absurd w
-  stops_agrees P (refused f at) (Whole p) w = absurd w
-  stops_agrees P (refused f at) (Refused f' at') w = w
-  stops_agrees P unfinished part w = absurd w
+  nothing_follows : {A : Type 0} (a : A) (end : ℕ) → length s ≤ end → stops a end ≡ whole a end
+  nothing_follows a end l = rw (le-ltb end (length s) l)
 
 -- A script that is a slice of its own.
-pub slice_reads : (s : List ℕ) (r : ScriptRead) → ScriptReads s r → (last : Part) → last ≡ ended_by s r.part → (w : ScriptRead) → w ≡ with_part r last → SliceReads s w
-unfolding script_slice
-slice_reads s r reads last e w is = rw (is, e, alone_is s (script s)) (
-    stops_agrees s (λ π end. ScriptKept s π (with_part r (ended_by s r.part))) (short s (script s)) r.part
-    (agrees_as (λ π end K. with_part_lem K) (short s (script s)) r.part reads))
+module _ (s : List ℕ) where
+  slice_is : script_slice s ≡ and_then (short s (script s)) (stops s)
+  unfolding script_slice
+  slice_is = alone_is s (script s)
+
+  pub slice_refused : (e : ReadError) → ScriptReads s (Err e) → SliceReads s (Err e)
+  slice_refused e reads = refusal_alone (ScriptKept s) (script_slice s) e (slice_is ∙ rw (with_refuses (ScriptKept s) (short s (script s)) e reads))
+
+  module _ (r : ScriptRead) (end : Position) (reads : ScriptReads s (Ok (r, end))) where
+    slice_there : Held (ScriptKept s) (short s (script s)) r end
+    slice_there = held (ScriptKept s) (short s (script s)) r end reads
+
+    slice_stops : script_slice s ≡ stops s slice_there.tree end.at
+    slice_stops = slice_is ∙ rw slice_there.reads
+
+    pub slice_longer : (e : ReadError) → EndedAt s end.at (Err e) → SliceReads s (Err e)
+    slice_longer e h = refusal_alone (ScriptKept s) (script_slice s) e (slice_stops ∙ more_follows s slice_there.tree end e h)
+
+    pub slice_whole : length s ≤ end.at → SliceReads s (Ok r)
+    slice_whole l = whole_alone (ScriptKept s) (script_slice s) slice_there.tree end.at r (slice_stops ∙ nothing_follows s slice_there.tree end.at l) slice_there.holds
 
 -- A job: its script is refused, or is there.
 module _ (s : List ℕ) where
@@ -196,38 +204,53 @@ module _ (s : List ℕ) where
   unfolding job
   job_is = alone_is s (and_then (script s) after_script) ∙ ap (λ (r : Read Job). and_then r (stops s)) (short_then s (script s) after_script)
 
-  module _ (r : ScriptRead) (reads : ScriptReads s r) where
-    pub script_refused : (f : Form) (n : ℕ) → r.part ≡ Refused f n → (heads : List ℕ) → JobReads s heads r
-    script_refused f n e heads =
-        let refuses = agrees_refuses (λ π end. ScriptKept s π r) (short s (script s)) r.part f n e reads in
-        refused_agrees (λ j end. JobKept s heads j r) (job s) r.part f n (job_is ∙ rw refuses) e
+  pub script_refused : (e : ReadError) (heads : List ℕ) → ScriptReads s (Err e) → JobReads s heads (Err e)
+  script_refused e heads reads = refusal_alone (JobKept s heads) (job s) e (job_is ∙ rw (with_refuses (ScriptKept s) (short s (script s)) e reads))
 
-    module _ (next : Position) (is_whole : r.part ≡ Whole next) where
-      there : WholeAs (λ π end. ScriptKept s π r) (short s (script s)) next
-      there = agrees_whole (λ π end. ScriptKept s π r) (short s (script s)) r.part next is_whole reads
+  module _ (r : ScriptRead) (next : Position) (reads : ScriptReads s (Ok (r, next))) where
+    there : Held (ScriptKept s) (short s (script s)) r next
+    there = held (ScriptKept s) (short s (script s)) r next reads
 
-      abbrev π : Script
-      π = there.tree
+    abbrev π : Script
+    π = there.tree
 
-      pub points_low : r.program.count ≤ 32
-      points_low = there.holds.program.most
+    pub points_low : r.points.count ≤ 32
+    points_low = there.holds.program.most
 
-      -- The proposal is the last part.
-      module _ (heads : List ℕ) (h : Part) (proposal_reads : ProposalReads r.templates.count r.program.count s 0 next.at heads h) where
-        abbrev heads_from : Read (List Head)
-        heads_from = proposal (enough s) (length π.templates) (length π.program) s 0 next.at
+    job_goes : job s ≡ and_then (after_script π next.at) (stops s)
+    job_goes = job_is ∙ rw there.reads
 
-        h_agrees : AgreesAs (λ hs end. Kept (length π.templates) s 0 heads hs) heads_from h
-        h_agrees =
-            subst (λ (n : ℕ). ProposalReads (length π.templates) n s 0 next.at heads h) there.holds.program.points
-            (subst (λ (n : ℕ). ProposalReads n r.program.count s 0 next.at heads h) there.holds.templates.counted proposal_reads)
-            (enough s) (enough_enough s next.at)
+    -- The proposal is the last part.
+    module _ (heads : List ℕ) where
+      abbrev heads_from : Read (List Head)
+      heads_from = proposal (enough s) (length π.templates) (length π.program) s 0 next.at
 
-        after_script_lem : job s ≡ and_then (after_script π next.at) (stops s)
-        after_script_lem = job_is ∙ ap (λ (x : Read Job). and_then x (stops s)) (whole_then (λ π end. ScriptKept s π r) (short s (script s)) next there after_script)
+      abbrev KeptHere : List Head → ℕ → Type 0
+      KeptHere hs end = Kept (length π.templates) s 0 heads hs
 
-        pub proposal_last : (last : Part) → last ≡ ended_by s h → (w : ScriptRead) → w ≡ with_part r last → JobReads s heads w
-        proposal_last last e w is = rw (is, e, after_script_lem) (
-            stops_agrees s (λ j end. JobKept s heads j (with_part r (ended_by s h))) (after_script π next.at) h
-            (agrees_map (λ hs end. Kept (length π.templates) s 0 heads hs) (λ j end. JobKept s heads j (with_part r (ended_by s h))) (λ hs. record { script = π; proposal = hs }) heads_from h
-            (λ hs end K. record { of_script = with_part_lem there.holds; proposal = K }) h_agrees))
+      h_agrees : (x : Result Position ReadError) → ProposalReads r.templates.count r.points.count s 0 next.at heads x → AgreesAs KeptHere heads_from x
+      h_agrees x h =
+          subst (λ (n : ℕ). ProposalReads (length π.templates) n s 0 next.at heads x) there.holds.program.points
+          (subst (λ (n : ℕ). ProposalReads n r.points.count s 0 next.at heads x) there.holds.templates.counted h)
+          (enough s) (enough_enough s next.at)
+
+      pub proposal_refused : (e : ReadError) → ProposalReads r.templates.count r.points.count s 0 next.at heads (Err e) → JobReads s heads (Err e)
+      proposal_refused e h =
+          refusal_alone (JobKept s heads) (job s) e (job_goes ∙ rw (agrees_refuses KeptHere heads_from (Err e) e.form e.at refl (h_agrees (Err e) h)))
+
+      module _ (end : Position) (h : ProposalReads r.templates.count r.points.count s 0 next.at heads (Ok end)) where
+        h_tree : WholeAs KeptHere heads_from end
+        h_tree = agrees_whole KeptHere heads_from (Ok end) end refl (h_agrees (Ok end) h)
+
+        abbrev whole_job : Job
+        whole_job = record { script = π; proposal = h_tree.tree }
+
+        job_stops : job s ≡ stops s whole_job end.at
+        job_stops = job_goes ∙ rw (h_tree.reads, h_tree.ends)
+
+        pub job_longer : (e : ReadError) → EndedAt s end.at (Err e) → JobReads s heads (Err e)
+        job_longer e q = refusal_alone (JobKept s heads) (job s) e (job_stops ∙ more_follows s whole_job end e q)
+
+        pub job_whole : length s ≤ end.at → JobReads s heads (Ok r)
+        job_whole l = whole_alone (JobKept s heads) (job s) whole_job end.at r (job_stops ∙ nothing_follows s whole_job end.at l)
+            (record { of_script = there.holds; proposal = h_tree.holds })

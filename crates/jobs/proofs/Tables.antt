@@ -126,7 +126,7 @@ names_are π names N v l = go (ltb v 4) refl
 
 -- The tables of a script that was read.
 pub script_tables : (s : List ℕ) (π : Script) (end : ℕ) (r : ScriptRead) → script s ≡ whole π end → ScriptKept s π r
-    → ScriptTables π s r.templates.count r.templates.starts r.program.count r.program.places r.program.named
+    → ScriptTables π s r.templates.count r.templates.starts r.points.count r.points.places r.points.named
 script_tables s π end r e K =
     let few = few_templates s π (script_parts s π end e) in
     let L = K.templates in

@@ -2,6 +2,7 @@
 use Prim.Native.Nat.{ℕ, zero, suc, ◌+◌, ◌*◌, ◌-◌, ◌≤◌, ◌<◌}
 use mathlib.Core.Path.{◌≡◌, refl, sym, ap, ◌∙◌}
 use mathlib.Core.List.{List, [], ◌∷◌}
+use Rattle.std.specs.Prelude.{Result, Ok, Err}
 use mathlib.Core.Bool.{Bool, true, false, cond, ◌&&◌, ◌||◌}
 use native.Mathlib.Omega.{arith}
 use lib.ListN.{length, get_or, set, replicate}
@@ -15,8 +16,7 @@ use Rattle.commands.specs.declared.Context.TheVariants.{Heads}
 use Rattle.commands.specs.declared.Position.{Position}
 use Rattle.commands.specs.declared.Decoded.{Decoded}
 use Rattle.commands.specs.declared.Decoded.TheVariants.{Moved, Refused}
-use Rattle.commands.specs.declared.Part.{Part}
-use Rattle.commands.specs.declared.Part.TheVariants as Parts
+use Rattle.commands.specs.declared.ReadError.{ReadError}
 use Rattle.commands.specs.Commands.{byte, allowed, command, operands_of}
 use Rattle.commands.specs.Reading.{Read, whole, refused, and_then, on_decoded, when, enough}
 use Rattle.commands.specs.Inner.Parts.{AgreesAs, Enough, part_of}
@@ -115,7 +115,7 @@ module _ (count points : ℕ) (s : List ℕ) (least at : ℕ) where
       by_decoded (Moved code next) = by_tests f code next (eqb code 0x4F) (ltb (byte s (at + 1)) points) (leb least number) refl
       by_decoded (Refused form n) = refl
 
-  pub heads_refused : (d : Decoded) (form : Form) (n : ℕ) (heads : List ℕ) (r : Part) → d ≡ head_here points s least at → d ≡ Refused form n → r ≡ part_of d
+  pub heads_refused : (d : Decoded) (form : Form) (n : ℕ) (heads : List ℕ) (r : Result Position ReadError) → d ≡ head_here points s least at → d ≡ Refused form n → r ≡ part_of d
       → ProposalReads count points s least at heads r
   heads_refused d form n heads r d_is e p zero h = absurd (omega arith)
   heads_refused d form n heads r d_is e p (suc f) h = rw (reads_here f, ← d_is, p, e) (refl, refl)
@@ -123,7 +123,7 @@ module _ (count points : ℕ) (s : List ℕ) (least at : ℕ) where
   -- `4F` ends the heads.
   pub heads_end : (d : Decoded) (code : ℕ) (next : Position) (heads : List ℕ) → d ≡ head_here points s least at → d ≡ Moved code next → code ≡ 0x4F
       → Unwritten least heads
-      → ProposalReads count points s least at heads (Parts.Whole next)
+      → ProposalReads count points s least at heads (Ok next)
   unfolding under
   heads_end d code next heads d_is e c z zero h = absurd (omega arith)
   heads_end d code next heads d_is e c z (suc f) h = rw (reads_here f, ← d_is, e, eq-eqb code 0x4F c) (
@@ -140,8 +140,8 @@ module _ (count points : ℕ) (s : List ℕ) (least at : ℕ) where
         and_then (proposal f count points s (number + 1) after) λ hs end. whole (made φs ∷ hs) end)
     reads_items f = reads_here f ∙ rw (← d_is, e, ne_eqb code 0x4F on)
 
-    pub items_refused : (part : Part) (form : Form) (n : ℕ) (heads : List ℕ) → HoldingsRead (holding_context (variable_of (byte s (at + 2)))) count s 0 next.at part
-        → part ≡ Parts.Refused form n → ProposalReads count points s least at heads part
+    pub items_refused : (part : Result Position ReadError) (form : Form) (n : ℕ) (heads : List ℕ) → HoldingsRead (holding_context (variable_of (byte s (at + 2)))) count s 0 next.at part
+        → part ≡ Err (record { form = form; at = n }) → ProposalReads count points s least at heads part
     items_refused part form n heads read q zero h = absurd (omega arith)
     items_refused part form n heads read q (suc f) h =
         rw (reads_items f)
@@ -219,17 +219,17 @@ module _ (count : ℕ) (s : List ℕ) (least p a at : ℕ) (φs : List Holding) 
 
 module _ (count points : ℕ) (s : List ℕ) (least at : ℕ) (d : Decoded) (code : ℕ) (next : Position) (d_is : d ≡ head_here points s least at) (e : d ≡ Moved code next)
     (on : code ≡ 0x4F → ⊥) (m : HeadStands points s least at code next) (v : ℕ) (v_is : v ≡ byte s (at + 2))
-    (x : Context) (x-is : x ≡ holding_context (variable_of v)) (part : Part) (read : HoldingsRead x count s 0 next.at part) where
+    (x : Context) (x-is : x ≡ holding_context (variable_of v)) (part : Result Position ReadError) (read : HoldingsRead x count s 0 next.at part) where
   abbrev context : Context
   context = holding_context (variable_of (byte s (at + 2)))
 
   read_there : HoldingsRead context count s 0 next.at part
   read_there = rw (x-is, v_is) at read
 
-  pub items_refuse : (form : Form) (k : ℕ) (heads : List ℕ) → part ≡ Parts.Refused form k → ProposalReads count points s least at heads part
+  pub items_refuse : (form : Form) (k : ℕ) (heads : List ℕ) → part ≡ Err (record { form = form; at = k }) → ProposalReads count points s least at heads part
   items_refuse form k heads q = items_refused count points s least at d code next d_is e on m part form k heads read_there q
 
-  module _ (after : Position) (is_whole : part ≡ Parts.Whole after) where
+  module _ (after : Position) (is_whole : part ≡ Ok after) where
     items : (f : ℕ) → Enough s next.at f → WholeAs (λ φs end. next.at ≤ end) (holdings f context count s 0 next.at) after
     items f h = agrees_whole (λ φs end. next.at ≤ end) (holdings f context count s 0 next.at) part after is_whole (read_there f h)
 
@@ -254,7 +254,7 @@ module _ (count points : ℕ) (s : List ℕ) (least at : ℕ) (d : Decoded) (cod
           (rw n-is at here) (let l = (over points s least at code next m on).forward in omega arith)
           (λ k l h. passed k l (omega arith)) stand (rw n-is at K)
 
-      pub heads_go_on : (r : Part) → ProposalReads count points s (n + 1) after.at heads' r → ProposalReads count points s least at heads' r
+      pub heads_go_on : (r : Result Position ReadError) → ProposalReads count points s (n + 1) after.at heads' r → ProposalReads count points s least at heads' r
       heads_go_on r later zero h = absurd (omega arith)
       heads_go_on r later (suc f) h =
           let fuel = enough_after Heads s at code next m.read f h in

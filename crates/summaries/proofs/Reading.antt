@@ -2,6 +2,7 @@
 use Prim.Native.Nat.{ℕ, zero, suc, ◌+◌, ◌≤◌, ◌<◌}
 use mathlib.Core.Path.{◌≡◌, refl, sym, ap, ◌∙◌}
 use mathlib.Core.List.{List, [], ◌∷◌}
+use Rattle.std.specs.Prelude.{Result, Ok, Err}
 use mathlib.Core.Bool.{Bool, true, false, cond, not}
 use native.Mathlib.Omega.{arith}
 use native.Mathlib.Nat.{le_refl}
@@ -13,8 +14,7 @@ use Rattle.commands.specs.declared.Context.{Context}
 use Rattle.commands.specs.declared.Position.{Position}
 use Rattle.commands.specs.declared.Decoded.{Decoded}
 use Rattle.commands.specs.declared.Decoded.TheVariants.{Moved, Refused}
-use Rattle.commands.specs.declared.Part.{Part}
-use Rattle.commands.specs.declared.Part.TheVariants as Parts
+use Rattle.commands.specs.declared.ReadError.{ReadError}
 use Rattle.commands.specs.Commands.{byte, allowed, command}
 use Rattle.commands.specs.Reading.{Read, whole, refused, and_then, on_decoded, when}
 use Rattle.commands.specs.Inner.Parts.{Enough, part_of}
@@ -54,7 +54,7 @@ module _ (x : Context) (count : ℕ) (s : List ℕ) (least at : ℕ) where
       by_decoded (Refused form n) = refl
 
   -- A command that is no item ends them.
-  pub holdings_end : (b : Bool) (code : ℕ) (here : Position) → here.at ≡ at → code ≡ byte s at → b ≡ allowed x code → not b ≡ true → HoldingsRead x count s least at (Parts.Whole here)
+  pub holdings_end : (b : Bool) (code : ℕ) (here : Position) → here.at ≡ at → code ≡ byte s at → b ≡ allowed x code → not b ≡ true → HoldingsRead x count s least at (Ok here)
   holdings_end b code here h c_is b_is n zero e = absurd (omega arith)
   holdings_end b code here h c_is b_is n (suc f) e =
       let no_item : allowed x (byte s at) ≡ false = rw c_is at (sym b_is ∙ not-true b n) in
@@ -64,23 +64,23 @@ module _ (x : Context) (count : ℕ) (s : List ℕ) (least at : ℕ) where
     an_item : allowed x (byte s at) ≡ true
     an_item = rw c_is at (sym b_is ∙ not-false b item)
 
-    reads_refusal : (form : Form) (n : ℕ) → Refused form n ≡ holding_here x count s least at → HoldingsRead x count s least at (Parts.Refused form n)
+    reads_refusal : (form : Form) (n : ℕ) → Refused form n ≡ holding_here x count s least at → HoldingsRead x count s least at (Err (record { form = form; at = n }))
     reads_refusal form n e zero h = absurd (omega arith)
     reads_refusal form n e (suc f) h = rw (reads_here f, an_item, ← e) (refl, refl)
 
     module _ (d : Decoded) (d_is : d ≡ command x s at) where
-      pub holdings_refused : (form : Form) (n : ℕ) (part : Part) → d ≡ Refused form n → part ≡ part_of d → HoldingsRead x count s least at part
+      pub holdings_refused : (form : Form) (n : ℕ) (part : Result Position ReadError) → d ≡ Refused form n → part ≡ part_of d → HoldingsRead x count s least at part
       holdings_refused form n part e p = rw (p, e) (reads_refusal form n (sym e ∙ holding_refused x count s least at d d_is form n e))
 
       module _ (code : ℕ) (next : Position) (e : d ≡ Moved code next) (b' : Bool) (there : b' ≡ holding_there count (holding_at s at code)) where
-        pub holdings_missing : not b' ≡ true → HoldingsRead x count s least at (Parts.Refused Missing at)
+        pub holdings_missing : not b' ≡ true → HoldingsRead x count s least at (Err (record { form = Missing; at = at }))
         holdings_missing h = reads_refusal Missing at (holding_missing x count s least at d d_is code next e b' there h)
 
         module _ (h : not b' ≡ false) (r : ℕ) (ranks : Ranked s at code r) where
-          pub holdings_fall : r < least → HoldingsRead x count s least at (Parts.Refused NotRising at)
+          pub holdings_fall : r < least → HoldingsRead x count s least at (Err (record { form = NotRising; at = at }))
           holdings_fall l = reads_refusal NotRising at (holding_not_rising x count s least at d d_is code next e b' there h r ranks l)
 
-          pub holdings_go_on : least ≤ r → (part : Part) → HoldingsRead x count s (r + 1) next.at part → HoldingsRead x count s least at part
+          pub holdings_go_on : least ≤ r → (part : Result Position ReadError) → HoldingsRead x count s (r + 1) next.at part → HoldingsRead x count s least at part
           holdings_go_on l part later zero n = absurd (omega arith)
           holdings_go_on l part later (suc f) n =
               rw (reads_here f, an_item, ← holding_moves x count s least at d d_is code next e b' there h r ranks l, ← ranks.is)

@@ -5,6 +5,7 @@ use mathlib.Core.List.{List, [], ◌∷◌}
 use mathlib.Core.Bool.{Bool, true, false, ◌||◌, false≢true}
 use mathlib.Core.Logic.{◌⊎◌, inl, inr}
 use native.Mathlib.Omega.{arith}
+use Rattle.std.specs.Prelude.{Option, Some, None}
 use lib.ListN.{length}
 use lib.Dec.{eqb, leb}
 use borrow.Author.Tests.{ne_eqb, eqb-true, leb-true}
@@ -18,33 +19,30 @@ use Rattle.summaries.specs.Proposal.{Holding, one_string, any_string}
 use Rattle.summaries.specs.ProposalReading.{holding_of}
 use Rattle.summaries.specs.declared.Claim as Declared
 use Rattle.summaries.specs.declared.Claim.TheVariants.{Root, Edge, String, AnyString, GapFrom, AttributeGapFrom}
-use Rattle.summaries.specs.declared.ClaimHere.{ClaimHere}
-use Rattle.summaries.specs.declared.ClaimHere.TheVariants.{Item, End}
-use Rattle.summaries.specs.declared.StringHere.{StringHere}
-use Rattle.summaries.specs.declared.StringHere.TheVariants.{One, Any}
-use Rattle.summaries.specs.declared.StringHere.TheVariants as Strings
+use Rattle.summaries.specs.declared.StringClaim.{StringClaim}
+use Rattle.summaries.specs.declared.StringClaim.TheVariants.{One, Any}
 use Rattle.summaries.specs.Inner.Listed.{HoldingFits, ItemAt, over, Listed, meaning_of, claim_of, claim_here, string_of, string_here, on_from, Moves}
 
 -- What the code finds at an offset.
 module _ (s : List ℕ) (at : ℕ) where
-  pub claim_past : length s ≤ at → End ≡ claim_here s at
+  pub claim_past : length s ≤ at → None ≡ claim_here s at
   claim_past h = rw (byte_past s at h)
 
-  pub string_past : length s ≤ at → Strings.End ≡ string_here s at
+  pub string_past : length s ≤ at → None ≡ string_here s at
   string_past h = rw (byte_past s at h)
 
   module _ (code : ℕ) (code_is : code ≡ byte s at) where
-    pub claim_found : (k : ℕ) → code ≡ k → (r : ClaimHere) → r ≡ claim_of k (λ i. byte s (at + i)) (on_from at) → r ≡ claim_here s at
+    pub claim_found : (k : ℕ) → code ≡ k → (r : Option (Declared.Claim × Position)) → r ≡ claim_of k (λ i. byte s (at + i)) (on_from at) → r ≡ claim_here s at
     claim_found k key r e = e ∙ rw (← key, code_is)
 
-    pub string_found : (k : ℕ) → code ≡ k → (r : StringHere) → r ≡ string_of k (λ i. byte s (at + i)) (on_from at) → r ≡ string_here s at
+    pub string_found : (k : ℕ) → code ≡ k → (r : Option (StringClaim × Position)) → r ≡ string_of k (λ i. byte s (at + i)) (on_from at) → r ≡ string_here s at
     string_found k key r e = e ∙ rw (← key, code_is)
 
-    pub claim_none : (code ≡ 0x41 → ⊥) → (code ≡ 0x42 → ⊥) → (code ≡ 0x43 → ⊥) → (code ≡ 0x44 → ⊥) → (code ≡ 0x45 → ⊥) → (code ≡ 0x46 → ⊥) → End ≡ claim_here s at
+    pub claim_none : (code ≡ 0x41 → ⊥) → (code ≡ 0x42 → ⊥) → (code ≡ 0x43 → ⊥) → (code ≡ 0x44 → ⊥) → (code ≡ 0x45 → ⊥) → (code ≡ 0x46 → ⊥) → None ≡ claim_here s at
     claim_none n₁ n₂ n₃ n₄ n₅ n₆ =
         rw (← code_is, ne_eqb code 0x41 n₁, ne_eqb code 0x42 n₂, ne_eqb code 0x43 n₃, ne_eqb code 0x44 n₄, ne_eqb code 0x45 n₅, ne_eqb code 0x46 n₆)
 
-    pub string_none : (code ≡ 0x47 → ⊥) → (code ≡ 0x48 → ⊥) → Strings.End ≡ string_here s at
+    pub string_none : (code ≡ 0x47 → ⊥) → (code ≡ 0x48 → ⊥) → None ≡ string_here s at
     string_none n₇ n₈ = rw (← code_is, ne_eqb code 0x47 n₇, ne_eqb code 0x48 n₈)
 
   pub moves_on : (y : Holding) (n : ℕ) → 0 < n → at < length s → (next : Position) → next ≡ on_from at n → HoldingFits y → Moves s at y next
@@ -72,7 +70,7 @@ by_claim P c a p₁ p₂ p₃ p₄ p₅ p₆ =
 record Told (code : ℕ) (o : ℕ → ℕ) (at : ℕ) : Type 0 where
   item : Declared.Claim
   next : Position
-  is : claim_of code o (on_from at) ≡ Item item next
+  is : claim_of code o (on_from at) ≡ Some (item, next)
   after : next.at ≡ at + 1 + operand_bytes code
   means : HoldingFits (holding_of code o) → meaning_of item ≡ holding_of code o
 
@@ -133,7 +131,7 @@ told code o at a = by_claim (λ k. Told k o at) code a
           rw (q, r);
     })
 
-no_claim : (code : ℕ) (o : ℕ → ℕ) (onto : ℕ → Position) → allowed TemplateHoldings code ≡ false → claim_of code o onto ≡ End
+no_claim : (code : ℕ) (o : ℕ → ℕ) (onto : ℕ → Position) → allowed TemplateHoldings code ≡ false → claim_of code o onto ≡ None
 unfolding allowed
 no_claim code o onto a =
     rw (ne_eqb code 0x41 (other 0x41 refl), ne_eqb code 0x42 (other 0x42 refl), ne_eqb code 0x43 (other 0x43 refl), ne_eqb code 0x44 (other 0x44 refl), ne_eqb code 0x45 (other 0x45 refl), ne_eqb code 0x46 (other 0x46 refl))
@@ -151,36 +149,36 @@ module _ (s : List ℕ) (at : ℕ) where
     pub is_more : ys ≡ y ∷ rest
     pub stand : Listed x s next.at rest
 
-  pub claims_first : (ys : List Holding) → Listed TemplateHoldings s at ys → (r : ClaimHere) → r ≡ claim_here s at → (c : Declared.Claim) (next : Position) → r ≡ Item c next
+  pub claims_first : (ys : List Holding) → Listed TemplateHoldings s at ys → (r : Option (Declared.Claim × Position)) → r ≡ claim_here s at → (c : Declared.Claim) (next : Position) → r ≡ Some (c, next)
       → First TemplateHoldings (meaning_of c) next ys
   unfolding Listed
   claims_first [] l r is c next e =
-      let q : Item c next ≡ End = sym e ∙ (is ∙ no_claim (byte s at) o (on_from at) l) in
+      let q : Some (c, next) ≡ None = sym e ∙ (is ∙ no_claim (byte s at) o (on_from at) l) in
       absurd (let z : ◌≡◌ {A = ℕ} 0 1 = cc in omega arith)
   claims_first (y ∷ ys) l r is c next e =
       let t = told (byte s at) o at l.0.permitted in
-      let q : Item c next ≡ Item t.item t.next = sym e ∙ (is ∙ t.is) in
+      let q : Some (c, next) ≡ Some (t.item, t.next) = sym e ∙ (is ∙ t.is) in
       let same : c ≡ t.item = cc in
       let same_next : next ≡ t.next = cc in
       let means : meaning_of t.item ≡ y = t.means (rw (← l.0.is) l.0.fits) ∙ sym l.0.is in
       record { rest = ys; is_more = rw (same, means); stand = rw (same_next, t.after) l.1 }
 
-  pub claims_end : (ys : List Holding) → Listed TemplateHoldings s at ys → (r : ClaimHere) → r ≡ claim_here s at → r ≡ End → ys ≡ []
+  pub claims_end : (ys : List Holding) → Listed TemplateHoldings s at ys → (r : Option (Declared.Claim × Position)) → r ≡ claim_here s at → r ≡ None → ys ≡ []
   unfolding Listed
   claims_end [] l r is e = refl
   claims_end (y ∷ ys) l r is e =
       let t = told (byte s at) o at l.0.permitted in
-      let q : End ≡ Item t.item t.next = sym e ∙ (is ∙ t.is) in
+      let q : None ≡ Some (t.item, t.next) = sym e ∙ (is ∙ t.is) in
       absurd (let z : ◌≡◌ {A = ℕ} 0 1 = cc in omega arith)
 
   -- The same under the head of a string variable.
-  one_is : byte s at ≡ 0x47 → string_here s at ≡ One (o 1 % 64) (on_from at 2)
+  one_is : byte s at ≡ 0x47 → string_here s at ≡ Some (One (o 1 % 64), on_from at 2)
   one_is e = rw e
 
-  any_is : byte s at ≡ 0x48 → string_here s at ≡ Any (on_from at 1)
+  any_is : byte s at ≡ 0x48 → string_here s at ≡ Some (Any, on_from at 1)
   any_is e = rw e
 
-  none_is : allowed StringHoldings (byte s at) ≡ false → string_here s at ≡ Strings.End
+  none_is : allowed StringHoldings (byte s at) ≡ false → string_here s at ≡ None
   unfolding allowed
   none_is a = rw (ne_eqb (byte s at) 0x47 (other 0x47 refl), ne_eqb (byte s at) 0x48 (other 0x48 refl))
     where
@@ -196,7 +194,7 @@ module _ (s : List ℕ) (at : ℕ) where
       go false e true f h = inr (eqb-true _ _ f)
       go false e false f h = absurd (false≢true h)
 
-  module _ (ys : List Holding) (l : Listed StringHoldings s at ys) (r : StringHere) (is : r ≡ string_here s at) where
+  module _ (ys : List Holding) (l : Listed StringHoldings s at ys) (r : Option (StringClaim × Position)) (is : r ≡ string_here s at) where
     strings_as : (y : Holding) (next : Position) → ((z : Holding) → ItemAt StringHoldings s at z → (z ≡ y) × (next.at ≡ over s at)) → (allowed StringHoldings (byte s at) ≡ false → ⊥)
         → First StringHoldings y next ys
     unfolding Listed
@@ -208,43 +206,43 @@ module _ (s : List ℕ) (at : ℕ) where
             let w = h z m.0 in
             record { rest = zs; is_more = rw w.0; stand = rw w.1 m.1 }
 
-    pub strings_one : (t : ℕ) (next : Position) → r ≡ One t next → First StringHoldings (one_string t) next ys
+    pub strings_one : (t : ℕ) (next : Position) → r ≡ Some (One t, next) → First StringHoldings (one_string t) next ys
     unfolding operand_bytes operands_of
-    strings_one t next e = strings_as (one_string t) next told_one (λ n. let q : One t next ≡ Strings.End = sym e ∙ (is ∙ none_is n) in let z : ◌≡◌ {A = ℕ} 0 1 = cc in omega arith)
+    strings_one t next e = strings_as (one_string t) next told_one (λ n. let q : Some (One t, next) ≡ None = sym e ∙ (is ∙ none_is n) in let z : ◌≡◌ {A = ℕ} 0 1 = cc in omega arith)
       where
         told_one : (z : Holding) → ItemAt StringHoldings s at z → (z ≡ one_string t) × (next.at ≡ over s at)
         told_one z i = elim (either_of i.permitted) [
           | inl b ↦
-              let q : One t next ≡ One (o 1 % 64) (on_from at 2) = sym e ∙ (is ∙ one_is b) in
+              let q : Some (One t, next) ≡ Some (One (o 1 % 64), on_from at 2) = sym e ∙ (is ∙ one_is b) in
               let t_is : t ≡ o 1 % 64 = cc in
               let next_is : next ≡ on_from at 2 = cc in
               let z_is : z ≡ one_string (o 1) = i.is ∙ rw b in
               let f : o 1 < 64 = rw z_is at i.fits in
               let m : o 1 % 64 ≡ o 1 = omega arith in
               (rw (z_is, t_is, m), rw (next_is, b) (omega arith))
-          | inr b ↦ let q : One t next ≡ Any (on_from at 1) = sym e ∙ (is ∙ any_is b) in absurd (let z : ◌≡◌ {A = ℕ} 0 1 = cc in omega arith)
+          | inr b ↦ let q : Some (One t, next) ≡ Some (Any, on_from at 1) = sym e ∙ (is ∙ any_is b) in absurd (let z : ◌≡◌ {A = ℕ} 0 1 = cc in omega arith)
         ]
 
-    pub strings_any : (next : Position) → r ≡ Any next → First StringHoldings any_string next ys
+    pub strings_any : (next : Position) → r ≡ Some (Any, next) → First StringHoldings any_string next ys
     unfolding operand_bytes operands_of
-    strings_any next e = strings_as any_string next told_any (λ n. let q : Any next ≡ Strings.End = sym e ∙ (is ∙ none_is n) in let z : ◌≡◌ {A = ℕ} 0 1 = cc in omega arith)
+    strings_any next e = strings_as any_string next told_any (λ n. let q : Some (Any, next) ≡ None = sym e ∙ (is ∙ none_is n) in let z : ◌≡◌ {A = ℕ} 0 1 = cc in omega arith)
       where
         told_any : (z : Holding) → ItemAt StringHoldings s at z → (z ≡ any_string) × (next.at ≡ over s at)
         told_any z i = elim (either_of i.permitted) [
-          | inl b ↦ let q : Any next ≡ One (o 1 % 64) (on_from at 2) = sym e ∙ (is ∙ one_is b) in absurd (let z : ◌≡◌ {A = ℕ} 0 1 = cc in omega arith)
+          | inl b ↦ let q : Some (Any, next) ≡ Some (One (o 1 % 64), on_from at 2) = sym e ∙ (is ∙ one_is b) in absurd (let z : ◌≡◌ {A = ℕ} 0 1 = cc in omega arith)
           | inr b ↦
-              let q : Any next ≡ Any (on_from at 1) = sym e ∙ (is ∙ any_is b) in
+              let q : Some (Any, next) ≡ Some (Any, on_from at 1) = sym e ∙ (is ∙ any_is b) in
               let next_is : next ≡ on_from at 1 = cc in
               (i.is ∙ rw b, rw (next_is, b) (omega arith))
         ]
 
-    pub strings_end : r ≡ Strings.End → ys ≡ []
+    pub strings_end : r ≡ None → ys ≡ []
     unfolding Listed
     strings_end e = go ys l
       where
         go : (zs : List Holding) → Listed StringHoldings s at zs → zs ≡ []
         go [] m = refl
         go (z ∷ zs) m = elim (either_of m.0.permitted) [
-          | inl b ↦ let q : Strings.End ≡ One (o 1 % 64) (on_from at 2) = sym e ∙ (is ∙ one_is b) in absurd (let z : ◌≡◌ {A = ℕ} 0 1 = cc in omega arith)
-          | inr b ↦ let q : Strings.End ≡ Any (on_from at 1) = sym e ∙ (is ∙ any_is b) in absurd (let z : ◌≡◌ {A = ℕ} 0 1 = cc in omega arith)
+          | inl b ↦ let q : None ≡ Some (One (o 1 % 64), on_from at 2) = sym e ∙ (is ∙ one_is b) in absurd (let z : ◌≡◌ {A = ℕ} 0 1 = cc in omega arith)
+          | inr b ↦ let q : None ≡ Some (Any, on_from at 1) = sym e ∙ (is ∙ any_is b) in absurd (let z : ◌≡◌ {A = ℕ} 0 1 = cc in omega arith)
         ]

@@ -7,7 +7,7 @@ ghost use Rattle.summaries.specs.ProposalReading.{holding_at, holding_there, var
 ghost use Rattle.summaries.specs.Inner.Listed.{claim_here, ClaimMoves, string_here, StringMoves};
 ghost use Rattle.summaries.specs.Inner.Promises.{present_at, Ranked, head_here, HoldingsRead, ProposalReads};
 
-use commands::{Context, Decoded, Part, Position};
+use commands::{Context, Decoded, Position, ReadError};
 use verdicts::Form;
 
 // What an item under the head of a template variable says: a root; an edge of a template's gap; a string, or any string, at a
@@ -22,54 +22,48 @@ pub enum Claim {
     AttributeGapFrom(u8, u8),
 }
 
-// The item of a template variable here with the position after it, or that none stands here.
+// What an item under the head of a string variable says: one string, or any.
 #[derive(Clone, Copy)]
-pub enum ClaimHere {
-    Item(Claim, Position),
-    End,
+pub enum StringClaim {
+    One(u8),
+    Any,
 }
 
-// The item of a string variable here, one string or any, with the position after it, or that none stands here.
-#[derive(Clone, Copy)]
-pub enum StringHere {
-    One(u8, Position),
-    Any(Position),
-    End,
-}
-
-pub fn claim_here(s: &[u8], here: Position) -> ClaimHere
+// The item of a template variable here, with the position after it; or none stands here.
+pub fn claim_here(s: &[u8], here: Position) -> Option<(Claim, Position)>
     ensures is { result ≡ claim_here s.now here.at }
     ensures fits { ClaimMoves s.now here.at result }
 {
     if s.len() <= here.at {
-        return ClaimHere::End;
+        return None;
     }
     let a = here.operand(s, 1);
     let b = here.operand(s, 2);
     let c = here.operand(s, 3);
     match commands::byte_at(s, here.at) {
-        0x41 => ClaimHere::Item(Claim::Root(a % 32), here.on(2)),
-        0x42 => ClaimHere::Item(Claim::Edge(a % 32, b % 8, c % 32), here.on(4)),
-        0x43 => ClaimHere::Item(Claim::String(a % 32, b % 8, c % 64), here.on(4)),
-        0x44 => ClaimHere::Item(Claim::AnyString(a % 32, b % 8), here.on(3)),
-        0x45 => ClaimHere::Item(Claim::GapFrom(a % 8, b % 32), here.on(3)),
-        0x46 => ClaimHere::Item(Claim::AttributeGapFrom(a % 8, b % 32), here.on(3)),
-        _ => ClaimHere::End,
+        0x41 => Some((Claim::Root(a % 32), here.on(2))),
+        0x42 => Some((Claim::Edge(a % 32, b % 8, c % 32), here.on(4))),
+        0x43 => Some((Claim::String(a % 32, b % 8, c % 64), here.on(4))),
+        0x44 => Some((Claim::AnyString(a % 32, b % 8), here.on(3))),
+        0x45 => Some((Claim::GapFrom(a % 8, b % 32), here.on(3))),
+        0x46 => Some((Claim::AttributeGapFrom(a % 8, b % 32), here.on(3))),
+        _ => None,
     }
 }
 
-pub fn string_here(s: &[u8], here: Position) -> StringHere
+// The item of a string variable here, with the position after it; or none stands here.
+pub fn string_here(s: &[u8], here: Position) -> Option<(StringClaim, Position)>
     ensures is { result ≡ string_here s.now here.at }
     ensures fits { StringMoves s.now here.at result }
 {
     if s.len() <= here.at {
-        return StringHere::End;
+        return None;
     }
     let a = here.operand(s, 1);
     match commands::byte_at(s, here.at) {
-        0x47 => StringHere::One(a % 64, here.on(2)),
-        0x48 => StringHere::Any(here.on(1)),
-        _ => StringHere::End,
+        0x47 => Some((StringClaim::One(a % 64), here.on(2))),
+        0x48 => Some((StringClaim::Any, here.on(1))),
+        _ => None,
     }
 }
 
@@ -117,25 +111,31 @@ fn holding_there(s: &[u8], here: Position, code: u8, templates: usize) -> bool
 }
 
 // The items under a head, up to the first command that is none of them.
-fn read_holdings(s: &[u8], here: Position, context: Context, templates: usize) -> Part
+fn read_holdings(s: &[u8], here: Position, context: Context, templates: usize) -> Result<Position, ReadError>
     ensures { HoldingsRead context templates s.now 0 here.at result }
 {
     let mut at = here;
     let mut least = 0;
     loop {
         if !commands::is_allowed(context, commands::byte_at(s, at.at)) {
-            return Part::Whole(at);
+            return Ok(at);
         }
         let d = at.command(s, context);
         let Decoded::Moved(code, next) = d else {
-            return d.part();
+            return Err(d.refusal());
         };
         if !holding_there(s, at, code, templates) {
-            return Part::Refused(Form::Missing, at.at);
+            return Err(ReadError {
+                form: Form::Missing,
+                at: at.at,
+            });
         }
         let place = rank(s, at, code);
         if place < least {
-            return Part::Refused(Form::NotRising, at.at);
+            return Err(ReadError {
+                form: Form::NotRising,
+                at: at.at,
+            });
         }
         least = place + 1;
         at = next;
@@ -189,7 +189,7 @@ pub fn read_proposal(
     templates: usize,
     points: usize,
     heads: &mut [usize; 256],
-) -> Part
+) -> Result<Position, ReadError>
     requires { (points ≤ 32) × (heads.old ≡ replicate 256 0) }
     ensures { ProposalReads templates points s.now 0 here.at heads.new result }
 {
@@ -198,18 +198,14 @@ pub fn read_proposal(
     loop {
         let d = head_here(s, at, points, least);
         let Decoded::Moved(code, next) = d else {
-            return d.part();
+            return Err(d.refusal());
         };
         if code == 0x4F {
-            return Part::Whole(next);
+            return Ok(next);
         }
         let number = head_number(s, at);
         heads[number] = next.at;
-        let items = read_holdings(s, next, context_of(at.operand(s, 2)), templates);
-        let Part::Whole(after) = items else {
-            return items;
-        };
+        at = read_holdings(s, next, context_of(at.operand(s, 2)), templates)?;
         least = number + 1;
-        at = after;
     }
 }

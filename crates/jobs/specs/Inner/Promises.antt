@@ -1,10 +1,10 @@
 -- What the code that reads jobs and scripts promises, in terms of the definitions that read them.
-use Rattle.std.specs.Prelude.{ℕ, List, cond, length, leb, ltb}
+use Rattle.std.specs.Prelude.{ℕ, ◌≤◌, ◌<◌, ◌≡◌, List, length, leb, Result, Ok, Err}
 use Rattle.verdicts.specs.declared.Form.TheVariants.{TooLong, NotAllowed}
-use Rattle.commands.specs.declared.Part.{Part}
-use Rattle.commands.specs.declared.Part.TheVariants.{Whole, Refused}
-use Rattle.commands.specs.Reading.{Read, refused, when}
-use Rattle.commands.specs.Inner.Parts.{AgreesAs}
+use Rattle.commands.specs.declared.Position.{Position}
+use Rattle.commands.specs.declared.ReadError.{ReadError}
+use Rattle.commands.specs.Reading.{Read, whole, refused, unfinished, when}
+use Rattle.commands.specs.Inner.Parts.{AgreesWith}
 use Rattle.vocabularies.specs.Vocabulary.{declared}
 use Rattle.vocabularies.specs.VocabularyReading.{most_bytes}
 use Rattle.vocabularies.specs.Inner.Promises.{Describes}
@@ -19,7 +19,7 @@ use Rattle.jobs.specs.Inference.{script_slice}
 pub record ScriptKept (s : List ℕ) (π : Script) (r : ScriptRead) : Type 0 where
   pub vocabulary : Describes s π.vocabulary r.tables
   pub templates : Located (declared π.vocabulary.rules) s π.templates r.templates.count r.templates.starts
-  pub program : Tabled s (length π.templates) r.program π.program
+  pub program : Tabled s (length π.templates) r.points π.program
 
 -- What is kept of a job: of its script, and of the proposal the offsets of the items under each head.
 pub record JobKept (s heads : List ℕ) (j : Job) (r : ScriptRead) : Type 0 where
@@ -31,19 +31,24 @@ abbrev pub short : {A : Type 0} → List ℕ → Read A → Read A
 short s r = when (leb (length s) most_bytes) (λ _. r) (λ _. refused TooLong 0)
 
 -- The part that bytes end with: a byte after it is refused.
-abbrev pub ended_by : List ℕ → Part → Part
-ended_by s (Whole p) = cond (ltb p.at (length s)) (Refused NotAllowed p.at) (Whole p)
-ended_by s (Refused f at) = Refused f at
+abbrev pub EndedAt : List ℕ → ℕ → Result (Unit {0}) ReadError → Type 0
+EndedAt s at (Ok u) = length s ≤ at
+EndedAt s at (Err e) = (at < length s) × (e ≡ record { form = NotAllowed; at = at })
 
-abbrev pub with_part : ScriptRead → Part → ScriptRead
-with_part r part = record { part = part; tables = r.tables; templates = r.templates; program = r.program }
+-- Code that reads bytes to their end agrees with the definition that reads them: the same refusal, or P says what is kept of the tree.
+abbrev pub AgreesAlone : {A B : Type 0} → (A → B → Type 0) → Read A → Result B ReadError → Type 0
+AgreesAlone P (whole a end) (Ok b) = P a b
+AgreesAlone P (whole a end) (Err e) = ⊥
+AgreesAlone P (refused f at) (Ok b) = ⊥
+AgreesAlone P (refused f at) (Err e) = (f ≡ e.form) × (at ≡ e.at)
+AgreesAlone P unfinished r = ⊥
 
 -- The script that bytes begin with, a script that is a slice of its own, and a job.
-abbrev pub ScriptReads : List ℕ → ScriptRead → Type 0
-ScriptReads s r = AgreesAs (λ π end. ScriptKept s π r) (short s (script s)) r.part
+abbrev pub ScriptReads : List ℕ → Result (ScriptRead × Position) ReadError → Type 0
+ScriptReads s r = AgreesWith (ScriptKept s) (short s (script s)) r
 
-abbrev pub SliceReads : List ℕ → ScriptRead → Type 0
-SliceReads s r = AgreesAs (λ π end. ScriptKept s π r) (script_slice s) r.part
+abbrev pub SliceReads : List ℕ → Result ScriptRead ReadError → Type 0
+SliceReads s r = AgreesAlone (ScriptKept s) (script_slice s) r
 
-abbrev pub JobReads : List ℕ → List ℕ → ScriptRead → Type 0
-JobReads s heads r = AgreesAs (λ j end. JobKept s heads j r) (job s) r.part
+abbrev pub JobReads : List ℕ → List ℕ → Result ScriptRead ReadError → Type 0
+JobReads s heads r = AgreesAlone (JobKept s heads) (job s) r

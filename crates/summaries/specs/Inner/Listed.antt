@@ -1,6 +1,6 @@
 -- The items under a head, where they stand in the bytes of a job. Nothing here is a definition of document 01: it is what reading a
 -- proposal leaves for code that walks over the items again.
-use Rattle.std.specs.Prelude.{ℕ, ◌+◌, ◌%◌, ◌<◌, ◌≡◌, List, [], ◌∷◌, true, false, cond, length, eqb}
+use Rattle.std.specs.Prelude.{ℕ, ◌+◌, ◌%◌, ◌<◌, ◌≡◌, List, [], ◌∷◌, true, false, cond, length, eqb, Option, Some, None}
 use Rattle.commands.specs.declared.Context.{Context}
 use Rattle.commands.specs.declared.Position.{Position}
 use Rattle.commands.specs.Commands.{strings, byte, allowed, operand_bytes}
@@ -8,11 +8,8 @@ use Rattle.summaries.specs.Proposal.{Claim, root, edge, string, gap_from, attrib
 use Rattle.summaries.specs.ProposalReading.{holding_at}
 use Rattle.summaries.specs.declared.Claim as Declared
 use Rattle.summaries.specs.declared.Claim.TheVariants.{Root, Edge, String, AnyString, GapFrom, AttributeGapFrom}
-use Rattle.summaries.specs.declared.ClaimHere.{ClaimHere}
-use Rattle.summaries.specs.declared.ClaimHere.TheVariants.{Item, End}
-use Rattle.summaries.specs.declared.StringHere.{StringHere}
-use Rattle.summaries.specs.declared.StringHere.TheVariants.{One, Any}
-use Rattle.summaries.specs.declared.StringHere.TheVariants as Strings
+use Rattle.summaries.specs.declared.StringClaim.{StringClaim}
+use Rattle.summaries.specs.declared.StringClaim.TheVariants.{One, Any}
 
 -- The ranges of an item's numbers: templates below 32, gaps below 8, strings among the named ones.
 abbrev pub ClaimFits : Claim → Type 0
@@ -51,32 +48,36 @@ meaning_of (AnyString n h) = any_at n h
 meaning_of (GapFrom g n) = claim (gap_from g n)
 meaning_of (AttributeGapFrom h n) = claim (attribute_gap_from h n)
 
+abbrev pub string_meaning_of : StringClaim → Holding
+string_meaning_of (One s) = one_string s
+string_meaning_of Any = any_string
+
 -- The item of a command whose operands are o 1, o 2 and so on, and the position after it, by how many bytes it takes. Numbers that are
 -- out of range, which no item that was read has, are brought into it.
-abbrev pub claim_of : ℕ → (ℕ → ℕ) → (ℕ → Position) → ClaimHere
+abbrev pub claim_of : ℕ → (ℕ → ℕ) → (ℕ → Position) → Option (Declared.Claim × Position)
 claim_of code o onto =
-    cond (eqb code 0x41) (Item (Root (o 1 % 32)) (onto 2))
-    (cond (eqb code 0x42) (Item (Edge (o 1 % 32) (o 2 % 8) (o 3 % 32)) (onto 4))
-    (cond (eqb code 0x43) (Item (String (o 1 % 32) (o 2 % 8) (o 3 % 64)) (onto 4))
-    (cond (eqb code 0x44) (Item (AnyString (o 1 % 32) (o 2 % 8)) (onto 3))
-    (cond (eqb code 0x45) (Item (GapFrom (o 1 % 8) (o 2 % 32)) (onto 3))
-    (cond (eqb code 0x46) (Item (AttributeGapFrom (o 1 % 8) (o 2 % 32)) (onto 3))
-    End)))))
+    cond (eqb code 0x41) (Some (Root (o 1 % 32), onto 2))
+    (cond (eqb code 0x42) (Some (Edge (o 1 % 32) (o 2 % 8) (o 3 % 32), onto 4))
+    (cond (eqb code 0x43) (Some (String (o 1 % 32) (o 2 % 8) (o 3 % 64), onto 4))
+    (cond (eqb code 0x44) (Some (AnyString (o 1 % 32) (o 2 % 8), onto 3))
+    (cond (eqb code 0x45) (Some (GapFrom (o 1 % 8) (o 2 % 32), onto 3))
+    (cond (eqb code 0x46) (Some (AttributeGapFrom (o 1 % 8) (o 2 % 32), onto 3))
+    None)))))
 
-abbrev pub string_of : ℕ → (ℕ → ℕ) → (ℕ → Position) → StringHere
+abbrev pub string_of : ℕ → (ℕ → ℕ) → (ℕ → Position) → Option (StringClaim × Position)
 string_of code o onto =
-    cond (eqb code 0x47) (One (o 1 % 64) (onto 2))
-    (cond (eqb code 0x48) (Any (onto 1))
-    Strings.End)
+    cond (eqb code 0x47) (Some (One (o 1 % 64), onto 2))
+    (cond (eqb code 0x48) (Some (Any, onto 1))
+    None)
 
 abbrev pub on_from : ℕ → ℕ → Position
 on_from at n = record { at = at + n }
 
 -- The item that stands at an offset.
-abbrev pub claim_here : List ℕ → ℕ → ClaimHere
+abbrev pub claim_here : List ℕ → ℕ → Option (Declared.Claim × Position)
 claim_here s at = claim_of (byte s at) (λ i. byte s (at + i)) (on_from at)
 
-abbrev pub string_here : List ℕ → ℕ → StringHere
+abbrev pub string_here : List ℕ → ℕ → Option (StringClaim × Position)
 string_here s at = string_of (byte s at) (λ i. byte s (at + i)) (on_from at)
 
 -- It stands inside the bytes, the position moves on, and its numbers are in range.
@@ -85,11 +86,10 @@ pub record Moves (s : List ℕ) (at : ℕ) (y : Holding) (next : Position) : Typ
   pub forward : at < next.at
   pub fits : HoldingFits y
 
-abbrev pub ClaimMoves : List ℕ → ℕ → ClaimHere → Type 0
-ClaimMoves s at (Item c next) = Moves s at (meaning_of c) next
-ClaimMoves s at End = Unit {0}
+abbrev pub ClaimMoves : List ℕ → ℕ → Option (Declared.Claim × Position) → Type 0
+ClaimMoves s at (Some (c, next)) = Moves s at (meaning_of c) next
+ClaimMoves s at None = Unit {0}
 
-abbrev pub StringMoves : List ℕ → ℕ → StringHere → Type 0
-StringMoves s at (One t next) = Moves s at (one_string t) next
-StringMoves s at (Any next) = Moves s at any_string next
-StringMoves s at Strings.End = Unit {0}
+abbrev pub StringMoves : List ℕ → ℕ → Option (StringClaim × Position) → Type 0
+StringMoves s at (Some (y, next)) = Moves s at (string_meaning_of y) next
+StringMoves s at None = Unit {0}

@@ -1,11 +1,12 @@
 -- What the code that reads proposals promises, in terms of the definitions that read them.
-use Rattle.std.specs.Prelude.{ℕ, ◌+◌, ◌*◌, ◌^◌, ◌≤◌, ◌<◌, ◌≡◌, List, [], cond, get_or, leb, ltb, eqb}
+use Rattle.std.specs.Prelude.{ℕ, ◌+◌, ◌*◌, ◌^◌, ◌≤◌, ◌<◌, ◌≡◌, List, [], cond, get_or, leb, ltb, eqb, Result}
 use Rattle.verdicts.specs.declared.Form.TheVariants.{NotRising, Missing}
 use Rattle.commands.specs.declared.Context.{Context}
 use Rattle.commands.specs.declared.Context.TheVariants.{Heads}
 use Rattle.commands.specs.declared.Decoded.{Decoded}
 use Rattle.commands.specs.declared.Decoded.TheVariants.{Moved, Refused}
-use Rattle.commands.specs.declared.Part.{Part}
+use Rattle.commands.specs.declared.Position.{Position}
+use Rattle.commands.specs.declared.ReadError.{ReadError}
 use Rattle.commands.specs.Commands.{byte, command}
 use Rattle.commands.specs.Reading.{whole}
 use Rattle.commands.specs.Inner.Parts.{AgreesAs, Enough}
@@ -25,7 +26,7 @@ pub record Kept (count : ℕ) (s : List ℕ) (least : ℕ) (heads : List ℕ) (h
   pub others : (p v : ℕ) → v < 8 → p * 8 + v < least → under hs p (variable_of v) ≡ []
 
 -- At every fuel that is enough.
-abbrev pub ProposalReads : ℕ → ℕ → List ℕ → ℕ → ℕ → List ℕ → Part → Type 0
+abbrev pub ProposalReads : ℕ → ℕ → List ℕ → ℕ → ℕ → List ℕ → Result Position ReadError → Type 0
 ProposalReads count points s least at heads r =
     (f : ℕ) → Enough s at f → AgreesAs (λ hs end. Kept count s least heads hs) (proposal f count points s least at) r
 
@@ -37,7 +38,7 @@ pub record Ranked (s : List ℕ) (at code r : ℕ) : Type 0 where
   pub is : r ≡ rank s at code
   pub low : r < 2 ^ 32
 
-abbrev pub HoldingsRead : Context → ℕ → List ℕ → ℕ → ℕ → Part → Type 0
+abbrev pub HoldingsRead : Context → ℕ → List ℕ → ℕ → ℕ → Result Position ReadError → Type 0
 HoldingsRead x count s least at r = (f : ℕ) → Enough s at f → AgreesAs (λ φs end. at ≤ end) (holdings f x count s least at) r
 
 -- A head, or `4F`, with what is tested on it alone, in document 01's order: 8 before 5.

@@ -1,0 +1,37 @@
+-- Bytes that are read to their end: what is kept where they read whole, and the refusal where they do not.
+use Prim.Native.Nat.{ℕ}
+use mathlib.Core.Path.{◌≡◌, refl, subst}
+use Rattle.std.specs.Prelude.{Result, Ok, Err}
+use Rattle.commands.specs.declared.ReadError.{ReadError}
+use Rattle.commands.specs.Reading.{Read, whole, refused, unfinished}
+use Rattle.jobs.specs.Inner.Promises.{AgreesAlone}
+
+module _ {A B : Type 0} (P : A → B → Type 0) where
+  pub record WholeAlone (r : Read A) (b : B) : Type 0 where
+    pub tree : A
+    pub end : ℕ
+    pub reads : r ≡ whole tree end
+    pub holds : P tree b
+
+  pub alone_holds : (r : Read A) (b : B) → AgreesAlone P r (Ok b) → WholeAlone r b
+  alone_holds (whole a end) b h = record { tree = a; end = end; reads = refl; holds = h }
+  alone_holds (refused f at) b h = absurd h
+  alone_holds unfinished b h = absurd h
+
+  pub alone_refuses : (r : Read A) (e : ReadError) → AgreesAlone P r (Err e) → r ≡ refused e.form e.at
+  alone_refuses (whole a end) e h = absurd h
+  alone_refuses (refused f at) e h = rw (h.0, h.1)
+  alone_refuses unfinished e h = absurd h
+
+  -- The same of a result that is known to be the one or the other.
+  pub kept_alone : (r : Read A) (x : Result B ReadError) (b : B) → x ≡ Ok b → AgreesAlone P r x → WholeAlone r b
+  kept_alone r x b is h = alone_holds r b (subst (AgreesAlone P r) is h)
+
+  pub refused_alone : (r : Read A) (x : Result B ReadError) (e : ReadError) → x ≡ Err e → AgreesAlone P r x → r ≡ refused e.form e.at
+  refused_alone r x e is h = alone_refuses r e (subst (AgreesAlone P r) is h)
+
+  pub whole_alone : (r : Read A) (a : A) (end : ℕ) (b : B) → r ≡ whole a end → P a b → AgreesAlone P r (Ok b)
+  whole_alone r a end b e h = rw e h
+
+  pub refusal_alone : (r : Read A) (e : ReadError) → r ≡ refused e.form e.at → AgreesAlone P r (Err e)
+  refusal_alone r e q = rw q (refl, refl)
