@@ -10,77 +10,28 @@ ghost use Rattle.summaries.specs.Proposal.{root, gap_from, attribute_gap_from, H
 ghost use Rattle.summaries.specs.Summaries.{Summary, Strings, Within, fragment, plug_summary, plug_string_summary, says_claim, says_string, held};
 ghost use Rattle.summaries.specs.Inner.Listed.{Listed, meaning_of};
 ghost use Rattle.graphs.specs.Inner.Graphs.{holds, Keeps, nothing};
-ghost use Rattle.entries.specs.Inner.Passing.{passed, wholly, without_roots, plugging, filling, Unfilled, roots_passed, gap_passed, attribute_passed, Decides};
+ghost use Rattle.entries.specs.Inner.Passing.{passed, Decides};
 ghost use Rattle.entries.specs.Inner.Entries.{Loads, Unloads, ItemHolds, WithRoot, origin_of, with_origin};
 
 use commands::{Context, Position};
 use graphs::Graph;
 use strings::Values;
-use summaries::{Claim, ClaimHere, StringHere};
+use summaries::{Claim, StringClaim};
 
-// What of an entry passes into the value that a statement makes: its roots or not; the gap that is plugged, with the roots that
-// are plugged in; the attribute gap that is filled, with its strings. Gap 8 is none.
+// Gaps are below 8, and so are attribute gaps.
+const GAPS: u8 = 8;
+
+// What of an entry passes into the value that a statement makes.
 #[derive(Clone, Copy)]
-pub struct Passing {
-    pub roots: bool,
-    pub gap: u8,
-    pub plugged: u64,
-    pub attribute: u8,
-    pub strings: Values,
-}
-
-const NO_GAP: u8 = 8;
-
-// All of an entry passes.
-pub fn wholly() -> Passing
-    ensures { Unfilled wholly result }
-{
-    Passing {
-        roots: true,
-        gap: NO_GAP,
-        plugged: 0,
-        attribute: NO_GAP,
-        strings: strings::no_values(),
-    }
-}
-
-// All but the roots passes.
-pub fn without_roots() -> Passing
-    ensures { Unfilled without_roots result }
-{
-    Passing {
-        roots: false,
-        gap: NO_GAP,
-        plugged: 0,
-        attribute: NO_GAP,
-        strings: strings::no_values(),
-    }
-}
-
-// A value with these roots is plugged into a gap.
-pub fn plugging(gap: u8, roots: u64) -> Passing
-    ensures { Unfilled (λ none. plugging none gap roots) result }
-{
-    Passing {
-        roots: true,
-        gap,
-        plugged: roots,
-        attribute: NO_GAP,
-        strings: strings::no_values(),
-    }
-}
-
-// Strings are plugged into an attribute gap.
-pub fn filling(attribute: u8, strings: Values) -> Passing
-    ensures { result ≡ filling attribute strings }
-{
-    Passing {
-        roots: true,
-        gap: NO_GAP,
-        plugged: 0,
-        attribute,
-        strings,
-    }
+pub enum Passing {
+    // All of it.
+    Wholly,
+    // All but its roots.
+    WithoutRoots,
+    // All but the origins of a gap, which become edges to the roots that are plugged in.
+    Plugging { gap: u8, roots: u64 },
+    // All but the origins of an attribute gap, which takes these strings.
+    Filling { gap: u8, strings: Values },
 }
 
 // The items from here on are added to a graph.
@@ -88,11 +39,7 @@ pub fn load(s: &[u8], here: Position, graph: &mut Graph)
     ensures { Loads s.now here.at graph.old graph.new }
 {
     let mut at = here;
-    loop {
-        let step = summaries::claim_here(s, at);
-        let ClaimHere::Item(item, next) = step else {
-            return;
-        };
+    while let Some((item, next)) = summaries::claim_here(s, at) {
         graphs::add(graph, item);
         at = next;
     }
@@ -103,11 +50,7 @@ fn unload(s: &[u8], here: Position, graph: &mut Graph)
     ensures { Unloads s.now here.at graph.old graph.new }
 {
     let mut at = here;
-    loop {
-        let step = summaries::claim_here(s, at);
-        let ClaimHere::Item(item, next) = step else {
-            return;
-        };
+    while let Some((item, next)) = summaries::claim_here(s, at) {
         graphs::forget(graph, item);
         at = next;
     }
@@ -131,7 +74,7 @@ fn string_holds(values: Values, t: u8) -> bool
 fn root_holds(graph: &Graph, n: u8, how: Passing) -> bool
     ensures { ItemHolds graph.now how (claim (root n)) result }
 {
-    if !how.roots {
+    if let Passing::WithoutRoots = how {
         return true;
     }
     sets::is_member(graphs::roots(graph), n)
@@ -141,20 +84,24 @@ fn root_holds(graph: &Graph, n: u8, how: Passing) -> bool
 fn gap_holds(graph: &Graph, g: u8, n: u8, how: Passing) -> bool
     ensures { ItemHolds graph.now how (claim (gap_from g n)) result }
 {
-    if g == how.gap {
-        return sets::is_within(how.plugged, graphs::edges(graph, n, g));
+    match how {
+        Passing::Plugging { gap, roots } if g == gap => {
+            sets::is_within(roots, graphs::edges(graph, n, g))
+        }
+        _ => sets::is_member(graphs::origins(graph, g), n),
     }
-    sets::is_member(graphs::origins(graph, g), n)
 }
 
 // An origin of the attribute gap that is filled stands for its strings.
 fn attribute_holds(graph: &Graph, h: u8, n: u8, how: Passing) -> bool
     ensures { ItemHolds graph.now how (claim (attribute_gap_from h n)) result }
 {
-    if h == how.attribute {
-        return strings::values_within(how.strings, graphs::strings_at(graph, n, h));
+    match how {
+        Passing::Filling { gap, strings } if h == gap => {
+            strings::values_within(strings, graphs::strings_at(graph, n, h))
+        }
+        _ => sets::is_member(graphs::attribute_origins(graph, h), n),
     }
-    sets::is_member(graphs::attribute_origins(graph, h), n)
 }
 
 // Whether what passes of an item lies within the entry that a graph keeps.
@@ -180,16 +127,13 @@ fn items_hold(s: &[u8], here: Position, graph: &Graph, how: Passing) -> bool
     ensures { (xs : List Holding) (R : Summary) → Listed Context.TemplateHoldings s.now here.at xs → Keeps graph.now R → Decides result (Within (passed how (held says_claim xs)) R) }
 {
     let mut at = here;
-    loop {
-        let step = summaries::claim_here(s, at);
-        let ClaimHere::Item(item, next) = step else {
-            return true;
-        };
+    while let Some((item, next)) = summaries::claim_here(s, at) {
         if !item_holds(graph, item, how) {
             return false;
         }
         at = next;
     }
+    true
 }
 
 // A set of templates with the root that an item says, if it says one.
@@ -212,14 +156,11 @@ pub fn roots_of(s: &[u8], here: Position) -> u64
 {
     let mut found: u64 = 0;
     let mut at = here;
-    loop {
-        let step = summaries::claim_here(s, at);
-        let ClaimHere::Item(item, next) = step else {
-            return found;
-        };
+    while let Some((item, next)) = summaries::claim_here(s, at) {
         found = with_root(found, item);
         at = next;
     }
+    found
 }
 
 // The strings that the items from here on say.
@@ -228,21 +169,14 @@ pub fn strings_of(s: &[u8], here: Position) -> Values
 {
     let mut found = strings::no_values();
     let mut at = here;
-    loop {
-        match summaries::string_here(s, at) {
-            StringHere::One(t, next) => {
-                found = strings::values_union(found, strings::one_value(t));
-                at = next;
-                continue;
-            }
-            StringHere::Any(next) => {
-                found = strings::any_value();
-                at = next;
-                continue;
-            }
-            StringHere::End => return found,
-        }
+    while let Some((claim, next)) = summaries::string_here(s, at) {
+        found = match claim {
+            StringClaim::One(t) => strings::values_union(found, strings::one_value(t)),
+            StringClaim::Any => strings::any_value(),
+        };
+        at = next;
     }
+    found
 }
 
 // Whether a template is an origin of a gap, if it has the gap: gap k is bit k, attribute gap h is bit 8 + h.
@@ -266,12 +200,10 @@ fn fragment_holds(graph: &Graph, t: u8, gaps: u64) -> bool
     if !sets::is_member(graphs::roots(graph), t) {
         return false;
     }
-    let mut k: u8 = 0;
-    while k < 16 {
+    for k in 0..16u8 {
         if !origin_holds(graph, k, t, gaps) {
             return false;
         }
-        k += 1;
     }
     true
 }
@@ -283,7 +215,7 @@ pub fn entry_within(s: &[u8], from: Position, there: Position, graph: &mut Graph
     ensures empty { Keeps graph.new nothing }
 {
     load(s, there, graph);
-    let holds = items_hold(s, from, graph, wholly());
+    let holds = items_hold(s, from, graph, Passing::Wholly);
     unload(s, there, graph);
     holds
 }
@@ -304,12 +236,9 @@ pub fn fragment_within(s: &[u8], t: u8, gaps: u64, there: Position, graph: &mut 
 fn plug_holds(s: &[u8], first: Position, gap: u8, second: Position, graph: &Graph) -> bool
     ensures { (xs ys : List Holding) (R : Summary) → Listed Context.TemplateHoldings s.now first.at xs → Listed Context.TemplateHoldings s.now second.at ys → Keeps graph.now R → Decides result (Within (plug_summary gap (held says_claim xs) (held says_claim ys)) R) }
 {
-    let plugged = plugging(gap, roots_of(s, second));
-    let plugged_in = without_roots();
-    if !items_hold(s, first, graph, plugged) {
-        return false;
-    }
-    items_hold(s, second, graph, plugged_in)
+    let roots = roots_of(s, second);
+    items_hold(s, first, graph, Passing::Plugging { gap, roots })
+        && items_hold(s, second, graph, Passing::WithoutRoots)
 }
 
 // Whether the plug of the second entry into a gap of the first lies within the entry whose items stand there.
@@ -345,7 +274,7 @@ pub fn fill_within(
     ensures empty { Keeps graph.new nothing }
 {
     load(s, there, graph);
-    let holds = items_hold(s, from, graph, filling(attribute, strings));
+    let holds = items_hold(s, from, graph, Passing::Filling { gap: attribute, strings });
     unload(s, there, graph);
     holds
 }
@@ -357,56 +286,49 @@ pub fn strings_entry_within(s: &[u8], from: Position, there: Position) -> bool
     strings::values_within(strings_of(s, from), strings_of(s, there))
 }
 
-// The roots of a graph stay if they pass.
-fn pass_roots(graph: &mut Graph, roots: bool)
-    ensures { (S : Summary) → Keeps graph.old S → Keeps graph.new (roots_passed roots S) }
+// The origins of the gap that is plugged become edges to the roots that are plugged in. No gap is 8 or higher.
+fn pass_gap(graph: &mut Graph, gap: u8, roots: u64)
+    ensures { (S : Summary) → Keeps graph.old S → Keeps graph.new (passed (Plugging gap roots) S) }
 {
-    if roots {
+    if GAPS <= gap {
         return;
     }
-    graphs::drop_roots(graph);
-}
-
-// The origins of the gap that is plugged become edges to the roots that are plugged in.
-fn pass_gap(graph: &mut Graph, g: u8, plugged: u64)
-    ensures { (S : Summary) → Keeps graph.old S → Keeps graph.new (gap_passed g plugged S) }
-{
-    if NO_GAP <= g {
-        return;
-    }
-    let open = graphs::origins(graph, g);
-    graphs::add_edges(graph, open, g, plugged);
-    graphs::drop_origins(graph, g);
+    let open = graphs::origins(graph, gap);
+    graphs::add_edges(graph, open, gap, roots);
+    graphs::drop_origins(graph, gap);
 }
 
 // The origins of the attribute gap that is filled take its strings.
-fn pass_attribute(graph: &mut Graph, h: u8, strings: Values)
-    ensures { (S : Summary) → Keeps graph.old S → Keeps graph.new (attribute_passed h strings S) }
+fn pass_attribute(graph: &mut Graph, gap: u8, strings: Values)
+    ensures { (S : Summary) → Keeps graph.old S → Keeps graph.new (passed (Filling gap strings) S) }
 {
-    if NO_GAP <= h {
+    if GAPS <= gap {
         return;
     }
-    let open = graphs::attribute_origins(graph, h);
-    graphs::add_strings(graph, open, h, strings);
-    graphs::drop_attribute_origins(graph, h);
+    let open = graphs::attribute_origins(graph, gap);
+    graphs::add_strings(graph, open, gap, strings);
+    graphs::drop_attribute_origins(graph, gap);
 }
 
 // The graph holds what passes of what it held.
 pub fn pass(graph: &mut Graph, how: Passing)
     ensures { (S : Summary) → Keeps graph.old S → Keeps graph.new (passed how S) }
 {
-    pass_roots(graph, how.roots);
-    pass_gap(graph, how.gap, how.plugged);
-    pass_attribute(graph, how.attribute, how.strings);
+    match how {
+        Passing::Wholly => {}
+        Passing::WithoutRoots => graphs::drop_roots(graph),
+        Passing::Plugging { gap, roots } => pass_gap(graph, gap, roots),
+        Passing::Filling { gap, strings } => pass_attribute(graph, gap, strings),
+    }
 }
 
 // The first graph then holds its value with that of the second in place of a gap; the second is left without its roots.
 pub fn plug(graph: &mut Graph, gap: u8, second: &mut Graph)
     ensures { (S T : Summary) → Keeps graph.old S → Keeps second.old T → Keeps graph.new (plug_summary gap S T) }
 {
-    let plugged = plugging(gap, graphs::roots(second));
-    pass(graph, plugged);
-    pass(second, without_roots());
+    let roots = graphs::roots(second);
+    pass(graph, Passing::Plugging { gap, roots });
+    pass(second, Passing::WithoutRoots);
     graphs::join(graph, second);
 }
 
@@ -430,9 +352,7 @@ pub fn add_template(graph: &mut Graph, t: u8, gaps: u64)
     ensures { (φ : Items) (R : Summary) → GapsAre gaps φ → t < 32 → Keeps graph.old R → Keeps graph.new (λ c. R c || fragment t φ c) }
 {
     graphs::add(graph, Claim::Root(t));
-    let mut k: u8 = 0;
-    while k < 16 {
+    for k in 0..16u8 {
         add_origin(graph, k, t, gaps);
-        k += 1;
     }
 }

@@ -193,10 +193,10 @@ fn add_strings_at(graph: &mut Graph, n: u8, h: u8, values: Values)
 pub fn add_edges(graph: &mut Graph, from: u64, g: u8, to: u64)
     ensures { g < 8 → (R : Summary) → Keeps graph.old R → Keeps graph.new (added_at false g (member to) (member from) R) }
 {
-    let mut n = sets::first_member(from, 0);
-    while n < 32 {
-        add_edges_at(graph, n as u8, g, to);
-        n = sets::first_member(from, n + 1);
+    for n in 0..32u8 {
+        if sets::has(from, n) {
+            add_edges_at(graph, n, g, to);
+        }
     }
 }
 
@@ -204,10 +204,10 @@ pub fn add_edges(graph: &mut Graph, from: u64, g: u8, to: u64)
 pub fn add_strings(graph: &mut Graph, at: u64, h: u8, values: Values)
     ensures { h < 8 → (R : Summary) → Keeps graph.old R → Keeps graph.new (added_at true h (holds_value values) (member at) R) }
 {
-    let mut n = sets::first_member(at, 0);
-    while n < 32 {
-        add_strings_at(graph, n as u8, h, values);
-        n = sets::first_member(at, n + 1);
+    for n in 0..32u8 {
+        if sets::has(at, n) {
+            add_strings_at(graph, n, h, values);
+        }
     }
 }
 
@@ -237,11 +237,9 @@ pub fn drop_attribute_origins(graph: &mut Graph, h: u8)
 pub fn close(graph: &mut Graph)
     ensures { (R : Summary) → Keeps graph.old R → Keeps graph.new (closed_summary R) }
 {
-    let mut g: u8 = 0;
-    while g < 8 {
+    for g in 0..8u8 {
         let open = origins(graph, g);
         add_edges(graph, open, g, 1);
-        g += 1;
     }
 }
 
@@ -249,14 +247,7 @@ pub fn close(graph: &mut Graph)
 pub fn same(a: &Graph, b: &Graph) -> bool
     ensures { result ≡ true → SameGraph a.now b.now }
 {
-    let mut i: usize = 0;
-    while i < WORDS {
-        if a[i] != b[i] {
-            return false;
-        }
-        i += 1;
-    }
-    true
+    a == b
 }
 
 // One word gains the members of another; those that it lacked.
@@ -274,10 +265,8 @@ pub fn join(graph: &mut Graph, from: &Graph) -> bool
     ensures { Joins graph.old from.now graph.new result }
 {
     let mut gained: u64 = 0;
-    let mut i: usize = ROOTS;
-    while i < WORDS {
+    for i in 0..WORDS {
         gained = sets::union(gained, join_word(graph, i, from[i]));
-        i += 1;
     }
     gained != 0
 }

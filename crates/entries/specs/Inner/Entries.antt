@@ -1,9 +1,8 @@
 -- What the code that compares entries promises.
-use Rattle.std.specs.Prelude.{ℕ, ◌-◌, ◌≡◌, List, [], ◌∷◌, Bool, cond, ◌&&◌, ◌||◌, ltb}
+use Rattle.std.specs.Prelude.{ℕ, ◌-◌, ◌≡◌, List, [], ◌∷◌, Bool, cond, ◌&&◌, ◌||◌, ltb, None, Some}
 use Rattle.sets.specs.Sets.{member}
 use Rattle.commands.specs.declared.Position.{Position}
 use Rattle.summaries.specs.declared.Claim as Declared
-use Rattle.summaries.specs.declared.ClaimHere.TheVariants.{Item, End}
 use Rattle.summaries.specs.Proposal.{Claim, root, gap_from, attribute_gap_from, Holding, claim}
 use Rattle.summaries.specs.Summaries.{Summary, Within, says_claim, held}
 use Rattle.summaries.specs.Inner.Listed.{HoldingFits, meaning_of, claim_here}
@@ -15,12 +14,12 @@ use Rattle.entries.specs.Inner.Passing.{passed, Decides}
 pub record First (s : List ℕ) (at : ℕ) (y : Holding) (Rest : ℕ → Type 0) : Type 0 where
   pub item : Declared.Claim
   pub next : Position
-  pub is : claim_here s at ≡ Item item next
+  pub is : claim_here s at ≡ Some (item, next)
   pub means : y ≡ meaning_of item
   pub more : Rest next.at
 
 unfoldable pub Taken : List ℕ → ℕ → List Holding → Type 0
-Taken s at [] = claim_here s at ≡ End
+Taken s at [] = claim_here s at ≡ None
 Taken s at (y ∷ ys) = First s at y (λ k. Taken s k ys)
 
 -- The graph keeps what it kept, and what the items at an offset say.

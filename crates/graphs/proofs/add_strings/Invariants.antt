@@ -1,8 +1,6 @@
 -- The strings of the templates before the loop's are added.
-use Prim.Native.Nat.{◌-◌, ◌<◌}
-use mathlib.Core.Path.{◌≡◌}
+use Prim.Native.Nat.{◌<◌}
 use mathlib.Core.Bool.{true}
-use Rattle.sets.specs.Sets.{member}
 use Rattle.strings.specs.Inner.Promises.{holds_value}
 use Rattle.summaries.specs.Summaries.{Summary}
 use Rattle.graphs.specs.Inner.Graphs.{Keeps}
@@ -10,7 +8,4 @@ use Rattle.graphs.proofs.AddingAt.{AddedTo}
 use Rattle.graphs.proofs.add_strings.Given as goal
 
 abbrev pub invariant-loop-n : goal.invariant-loop-n
-invariant-loop-n l = (l.n < 64 → member l.at l.n ≡ true) × (l.h < 8 → (R : Summary) → Keeps l.initial.graph R → AddedTo true l.h (holds_value l.values) l.at l.graph R l.n)
-
-abbrev pub decreases-loop-n : goal.decreases-loop-n
-decreases-loop-n l = 64 - l.n
+invariant-loop-n l = l.h < 8 → (R : Summary) → Keeps l.initial.graph R → AddedTo true l.h (holds_value l.values) l.at l.graph R l.n

@@ -1,5 +1,4 @@
 -- The words before the loop's place are joined.
-use Prim.Native.Nat.{◌-◌}
 use Rattle.summaries.specs.Summaries.{Summary}
 use Rattle.graphs.specs.Inner.Graphs.{Keeps}
 use Rattle.graphs.proofs.Joining.{JoinedTo}
@@ -7,6 +6,3 @@ use Rattle.graphs.proofs.join.Given as goal
 
 abbrev pub invariant-loop-i : goal.invariant-loop-i
 invariant-loop-i l = (R : Summary) → Keeps l.initial.graph R → JoinedTo l.initial.graph l.from l.graph l.i l.gained
-
-abbrev pub decreases-loop-i : goal.decreases-loop-i
-decreases-loop-i l = 544 - l.i
