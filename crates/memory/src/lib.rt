@@ -1,37 +1,17 @@
 // Lent memory: bytes laid into a buffer one after another, and a work area that is cleared.
 #![tactic(auto)]
 
-ghost use Rattle.std.specs.Prelude.{◌≡◌, [], ◌∷◌, ◌+◌, ◌<◌, ◌≤◌, length, replicate, take, drop};
+ghost use Rattle.std.specs.Prelude.{◌≡◌, ◌+◌, ◌≤◌, length, replicate, take, drop};
 ghost use Rattle.memory.specs.Inner.Laid.{Writes};
 
-// A byte is stored at an offset; the next offset.
-pub fn put(out: &mut [u8], at: usize, b: u8) -> usize
-    requires { at < length out.old }
-    ensures { Writes out.old at (b ∷ []) result out.new }
+// Bytes are stored from an offset on; the next offset.
+pub fn put(out: &mut [u8], at: usize, bytes: &[u8]) -> usize
+    requires { at + length bytes.now ≤ length out.old }
+    ensures { Writes out.old at bytes.now result out.new }
 {
-    out[at] = b;
-    at + 1
-}
-
-// Two bytes are stored from an offset on; the next offset.
-pub fn put_two(out: &mut [u8], at: usize, a: u8, b: u8) -> usize
-    requires { at + 2 ≤ length out.old }
-    ensures { Writes out.old at (a ∷ b ∷ []) result out.new }
-{
-    out[at] = a;
-    out[at + 1] = b;
-    at + 2
-}
-
-// Three bytes are stored from an offset on; the next offset.
-pub fn put_three(out: &mut [u8], at: usize, a: u8, b: u8, c: u8) -> usize
-    requires { at + 3 ≤ length out.old }
-    ensures { Writes out.old at (a ∷ b ∷ c ∷ []) result out.new }
-{
-    out[at] = a;
-    out[at + 1] = b;
-    out[at + 2] = c;
-    at + 3
+    let next = at + bytes.len();
+    out[at..next].copy_from_slice(bytes);
+    next
 }
 
 // Bytes that stand before an offset are stored again from it on; the next offset.
@@ -39,11 +19,7 @@ pub fn copy(out: &mut [u8], from: usize, at: usize, count: usize) -> usize
     requires { (from + count ≤ at) × (at + count ≤ length out.old) }
     ensures { Writes out.old at (take count (drop from out.old)) result out.new }
 {
-    let mut i: usize = 0;
-    while i < count {
-        out[at + i] = out[from + i];
-        i += 1;
-    }
+    out.copy_within(from..from + count, at);
     at + count
 }
 
@@ -51,9 +27,5 @@ pub fn copy(out: &mut [u8], from: usize, at: usize, count: usize) -> usize
 pub fn clear(words: &mut [u64])
     ensures { words.new ≡ replicate (length words.old) 0 }
 {
-    let mut i: usize = 0;
-    while i < words.len() {
-        words[i] = 0;
-        i += 1;
-    }
+    words.fill(0);
 }

@@ -1,26 +1,19 @@
+-- The bytes copied are those that stand from the first offset on.
+use mathlib.Core.Path.{ap, ◌∙◌}
 use native.Mathlib.Omega.{arith}
-use borrow.Author.Rules.{rules}
-use Rattle.memory.proofs.Laid.{copied_none, copied_length, copied_more, copied_all}
+use Prim.Native.Nat.{◌+◌, ◌-◌, ◌≤◌}
+use mathlib.Core.Path.{◌≡◌}
+use lib.ListN.{length, drop, length-drop}
+use lib.Seq.{paste, length-take-le}
+use Rattle.memory.proofs.Laid.{laid_paste}
 use Rattle.memory.proofs.copy.Goals as goal
 
-pub loop-i-init : goal.loop-i-init
-loop-i-init c = copied_none _ c.args.from _ _
-
-pub bounds-out-from : goal.bounds-out-from
-bounds-out-from c = let args = c.args in omega (arith, copied_length args.out.now args.from args.at args.count c.loop-i.i c.loop-i.out c.loop-i.invariant, c.requires)
-
-pub bounds-out-at : goal.bounds-out-at
-bounds-out-at c = let args = c.args in omega (arith, copied_length args.out.now args.from args.at args.count c.loop-i.i c.loop-i.out c.loop-i.invariant, c.requires)
-
-pub loop-i-smaller : goal.loop-i-smaller
-loop-i-smaller c = omega arith
-
-pub loop-i-preserved : goal.loop-i-preserved
-loop-i-preserved c = let args = c.args in
-    let pre = c.requires in
-    copied_more args.out.now args.from args.at args.count pre.0 pre.1 c.loop-i.i c.loop-i.out (search rules) c.loop-i.invariant
-
 pub returns : goal.returns
-returns c = let args = c.args in
-    let pre = c.requires in
-    copied_all args.out.now args.from args.at args.count pre.0 pre.1 c.loop-i.i c.loop-i.out (search rules) c.loop-i.invariant
+returns c = let out = c.args.out.now in
+    let from = c.args.from in
+    let n = c.args.count in
+    let few : n ≤ length (drop from out) = omega (arith, length-drop from out, c.requires) in
+    let e : from + n - from ≡ n = omega arith in (
+      omega (arith, length-take-le n (drop from out) few),
+      c.copy_within.ensures.after ∙ ap (paste out c.args.at (drop from out)) e ∙ laid_paste out c.args.at (drop from out) n c.requires.1 few,
+    )
