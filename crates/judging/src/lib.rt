@@ -1,19 +1,18 @@
 // The elements of a page under the rules of a vocabulary: their attributes, their contents, and the clauses that they meet.
 #![tactic(auto)]
 
-ghost use Rattle.std.specs.Prelude.{◌≡◌, not, ◌&&◌, ◌||◌, List, [], ◌∷◌, ◌++◌, ℕ, ◌%◌, ◌≤◌, ◌<◌, length, get_or, ltb};
+ghost use Rattle.std.specs.Prelude.{◌≡◌, not, ◌&&◌, ◌||◌, List, [], ◌∷◌, ◌++◌, ℕ, ◌%◌, ◌≤◌, ◌<◌, length, get_or, ltb, None};
 ghost use Rattle.sets.specs.Sets.{member};
 ghost use Rattle.strings.specs.Inner.Promises.{set_number};
 ghost use Rattle.vocabularies.specs.Vocabulary.{Vocabulary};
 ghost use Rattle.pages.specs.Inner.Steps.{item_here};
-ghost use Rattle.judging.specs.Inner.Judgement.{or_else, of_element};
 ghost use Rattle.judging.specs.Inner.Promises.{first_place, last_place, table_atoms, broken_by, Holds, Decides, FirstFails, Settled, Remembered, Names, Counted, Containing, TellsOutcome, Tabled, rule_at, step_next, JudgesItem, JudgesItems};
 
-use commands::{Past, Position};
+use commands::Position;
 use pages::{AttributeHere, ItemHere, TEXT};
 use strings::StringSet;
 use verdicts::Breach;
-use vocabularies::FormulaHere;
+use vocabularies::{FormulaHere, Rule};
 
 // An answer about a formula, yes or no, and the position after it.
 #[derive(Clone, Copy)]
@@ -29,25 +28,10 @@ pub struct Shape {
     pub contents: u64,
 }
 
-// A rule: the allowed attributes and contents as sets, and where its clauses stand.
-#[derive(Clone, Copy)]
-pub struct Rule {
-    pub attributes: u64,
-    pub contents: u64,
-    pub clauses: Position,
-}
-
-// Whether an element is right under its rule, or what it breaks of it.
-#[derive(Clone, Copy)]
-pub enum Outcome {
-    Right,
-    Breaks(Breach),
-}
-
 // The first clause that fails, if one does, and the offset from which on all elements of the same shape meet all clauses.
 #[derive(Clone, Copy)]
 pub struct Met {
-    pub outcome: Outcome,
+    pub breach: Option<Breach>,
     pub settled: usize,
 }
 
@@ -58,18 +42,18 @@ pub struct Named {
     pub next: Position,
 }
 
-// The first wrong element of a page or of a part of it, by the offset of its `23`, and what it breaks of its rule.
+// A wrong element, by the offset of its `23`, and what it breaks of its rule.
 #[derive(Clone, Copy)]
-pub enum FirstWrong {
-    Nowhere,
-    At { at: usize, breach: Breach },
+pub struct WrongElement {
+    pub at: usize,
+    pub breach: Breach,
 }
 
 // An item that was judged: the position after it, and the first wrong element in it.
 #[derive(Clone, Copy)]
 pub struct Judged {
     pub next: Position,
-    pub wrong: FirstWrong,
+    pub wrong: Option<WrongElement>,
 }
 
 // A list of items that was judged: its contents as a set, the position after it, and the first wrong element in it.
@@ -77,7 +61,7 @@ pub struct Judged {
 pub struct Listed {
     pub contents: u64,
     pub next: Position,
-    pub wrong: FirstWrong,
+    pub wrong: Option<WrongElement>,
 }
 
 // The contents of an element so far: as a set, and how many different ones they are.
@@ -133,35 +117,6 @@ impl Held {
         Held {
             value: !self.value,
             next,
-        }
-    }
-}
-
-// Each answer is built anew: where the value of an enum is handed on whole, its padding is copied with it, and that stalls.
-impl FirstWrong {
-    // The first of two parts, one after the other.
-    fn or(self, later: FirstWrong) -> FirstWrong
-        ensures { result ≡ or_else self later }
-    {
-        match self {
-            FirstWrong::Nowhere => match later {
-                FirstWrong::Nowhere => FirstWrong::Nowhere,
-                FirstWrong::At { at, breach } => FirstWrong::At { at, breach },
-            },
-            FirstWrong::At { at, breach } => FirstWrong::At { at, breach },
-        }
-    }
-
-    // That of an element at an offset: itself, or what is wrong inside it.
-    fn of_element(self, outcome: Outcome, at: usize) -> FirstWrong
-        ensures { result ≡ of_element (broken_by outcome) at self }
-    {
-        match outcome {
-            Outcome::Breaks(breach) => FirstWrong::At { at, breach },
-            Outcome::Right => match self {
-                FirstWrong::Nowhere => FirstWrong::Nowhere,
-                FirstWrong::At { at: inside, breach } => FirstWrong::At { at: inside, breach },
-            },
         }
     }
 }
@@ -295,24 +250,23 @@ fn first_failing(
     order: &[[u8; 2]; 64],
 ) -> Met
     requires { Settled v.now shape to }
-    ensures first { FirstFails (table_atoms shape strings.now order.now) v.now from.at 0 (broken_by result.outcome) }
+    ensures first { FirstFails (table_atoms shape strings.now order.now) v.now from.at 0 (broken_by result.breach) }
     ensures settled { Settled v.now shape result.settled }
 {
     let mut here = from;
     let mut place: usize = 0;
     let mut settled = from.at;
     while here.at != to {
-        let past = here.past(v, 0x04);
-        let Past::Over(start) = past else {
+        let Some(start) = here.past(v, 0x04) else {
             return Met {
-                outcome: Outcome::Right,
+                breach: None,
                 settled,
             };
         };
         let held = holds(v, start, shape, strings, order);
         if !held.value {
             return Met {
-                outcome: Outcome::Breaks(Breach::Clause(place)),
+                breach: Some(Breach::Clause(place)),
                 settled: v.len(),
             };
         }
@@ -328,7 +282,7 @@ fn first_failing(
         }
     }
     Met {
-        outcome: Outcome::Right,
+        breach: None,
         settled,
     }
 }
@@ -394,23 +348,23 @@ fn outcome_of(
     strings: &[u8; 32],
     order: &[[u8; 2]; 64],
     shapes: &mut [[u64; 4]; 64],
-) -> Outcome
+) -> Option<Breach>
     requires { Remembered v.now shapes.old }
     ensures outcome { TellsOutcome v.now rule shape strings.now order.now result }
     ensures remembered { Remembered v.now shapes.new }
 {
     if !sets::is_within(shape.names, rule.attributes) {
-        return Outcome::Breaks(Breach::Attribute);
+        return Some(Breach::Attribute);
     }
     if !sets::is_within(shape.contents, rule.contents) {
-        return Outcome::Breaks(Breach::Content);
+        return Some(Breach::Content);
     }
     let from = rule.clauses;
     let place = shape_place(shape, from.at);
     let to = settled_from(v, shapes, place, shape, from.at);
     let met = first_failing(v, from, to, shape, strings, order);
     remember(v, shapes, place, shape, from.at, met.settled);
-    met.outcome
+    met.breach
 }
 
 // The attributes straight after `23 e`: their names, and in `strings` the string of each.
@@ -481,9 +435,9 @@ fn rule_of(attributes: &[u64; 64], contents: &[u64; 64], clauses: &[usize; 64], 
 
 // An item that is no element has nothing in it.
 fn judge_leaf(item: ItemHere) -> Judged
-    ensures { result ≡ record { next = step_next item; wrong = FirstWrong.Nowhere } }
+    ensures { result ≡ record { next = step_next item; wrong = None } }
 {
-    let wrong = FirstWrong::Nowhere;
+    let wrong = None;
     match item {
         ItemHere::Text(next) => Judged { next, wrong },
         ItemHere::Gap(_, next) => Judged { next, wrong },
@@ -527,10 +481,12 @@ pub fn judge_item(
     };
     let rule = rule_of(attributes, contents, clauses, e);
     let outcome = outcome_of(v, rule, shape, &strings, &order, shapes);
-    let next = list.next;
-    let within = list.wrong;
-    let wrong = within.of_element(outcome, here.at);
-    Judged { next, wrong }
+    let at = here.at;
+    let wrong = outcome.map(|breach| WrongElement { at, breach });
+    Judged {
+        next: list.next,
+        wrong: wrong.or(list.wrong),
+    }
 }
 
 // The items from here on, up to what ends their list.
@@ -552,7 +508,7 @@ fn judge_items(
 {
     let mut place = here;
     let mut inside = Contents { set: 0, count: 0 };
-    let mut wrong = FirstWrong::Nowhere;
+    let mut wrong = None;
     loop {
         let item = pages::item_here(p, place);
         match item {
@@ -566,8 +522,7 @@ fn judge_items(
             ItemHere::Element(e, _) => {
                 let judged = judge_item(v, attributes, contents, clauses, p, place, shapes);
                 inside = add_content(order, inside, e);
-                let later = judged.wrong;
-                wrong = wrong.or(later);
+                wrong = wrong.or(judged.wrong);
                 place = judged.next;
             }
             ItemHere::Blank(next) => {

@@ -2,7 +2,7 @@
 #![tactic(auto)]
 
 ghost use Rattle.std.specs.Prelude.{◌≡◌, not, ◌&&◌, ◌||◌, true, false, ℕ, ◌<◌, ◌≤◌, eqb};
-ghost use Rattle.pattern_sets.specs.Inner.PatternSets.{holds, First, IsEmpty, SameMembers, Same};
+ghost use Rattle.pattern_sets.specs.Inner.PatternSets.{holds, NextPattern, IsEmpty, Same};
 ghost use Rattle.pattern_sets.specs.Inner.Images.{AllFlagged, ShiftedMembers, Shifted, Image, raised_at, crossed_at, raised_by, crossed_by, joined_by, Apart, Joined};
 
 pub fn empty() -> [u64; 4]
@@ -139,13 +139,10 @@ fn raised_by(set: [u64; 4], x: u8) -> [u64; 4]
     ensures { Image (raised_by 8 x) set result }
 {
     let mut image = set;
-    let mut i: u8 = 0;
-    while i < 8 {
+    for i in 0..8u8 {
         if sets::has(x as u64, i) {
-            let next = raised(image, i);
-            image = next;
+            image = raised(image, i);
         }
-        i += 1;
     }
     image
 }
@@ -155,14 +152,11 @@ fn crossed_by(set: [u64; 4], x: u8, firsts: [u8; 8], seconds: [u8; 8]) -> [u64; 
     ensures { Apart x firsts seconds → Image (crossed_by 8 x firsts seconds) set result }
 {
     let mut image = set;
-    let mut i: u8 = 0;
-    while i < 8 {
+    for i in 0..8u8 {
         let k = i as usize;
         if sets::has(x as u64, firsts[k] % 64) {
-            let next = crossed(image, seconds[k] % 64, i);
-            image = next;
+            image = crossed(image, seconds[k] % 64, i);
         }
-        i += 1;
     }
     image
 }
@@ -182,30 +176,29 @@ pub fn joined_sets(a: [u64; 4], b: [u64; 4], firsts: [u8; 8], seconds: [u8; 8]) 
     ensures { ((x : ℕ) → holds a x ≡ true → Apart x firsts seconds) → Joined (joined_by firsts seconds) a b result }
 {
     let mut set = empty();
-    let mut at = next(a, 0);
-    while at < 256 {
-        let more = union(set, joined_with(b, at as u8, firsts, seconds));
+    let mut from = 0;
+    while let Some(x) = next(a, from) {
+        let more = union(set, joined_with(b, x, firsts, seconds));
         set = more;
-        at = next(a, at + 1);
+        from = x as usize + 1;
     }
     set
 }
 
-// The first member of a set at a place or after it, or 256 where there is none.
-pub fn next(set: [u64; 4], from: usize) -> usize
+// The first pattern of a set at a place or after it.
+pub fn next(set: [u64; 4], from: usize) -> Option<u8>
     requires { from ≤ 256 }
-    ensures { First set from result }
+    ensures { NextPattern set from result }
 {
     let mut at = from;
     while at < 256 {
         let start = at / 64 * 64;
-        let first = sets::first_member(set[at / 64], (at % 64) as u32);
-        if first < 64 {
-            return start + first as usize;
+        if let Some(k) = sets::next_member(set[at / 64], (at % 64) as u8) {
+            return Some(start as u8 + k);
         }
         at = start + 64;
     }
-    256
+    None
 }
 
 pub fn is_empty(set: [u64; 4]) -> bool
@@ -214,24 +207,8 @@ pub fn is_empty(set: [u64; 4]) -> bool
     same(set, empty())
 }
 
-// Whether two words have the same members.
-fn same_members(a: u64, b: u64) -> bool
-    ensures { SameMembers a b result }
-{
-    a == b
-}
-
 pub fn same(a: [u64; 4], b: [u64; 4]) -> bool
     ensures { Same a b result }
 {
-    if !same_members(a[0], b[0]) {
-        return false;
-    }
-    if !same_members(a[1], b[1]) {
-        return false;
-    }
-    if !same_members(a[2], b[2]) {
-        return false;
-    }
-    same_members(a[3], b[3])
+    a == b
 }

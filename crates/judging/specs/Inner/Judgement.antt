@@ -1,6 +1,9 @@
 -- The judgement of a page, computed: section 6 of source 000 as tests. That it agrees with the relation of `RightPages`, and with
 -- `PageVerdict`, is proved, both ways.
 use Rattle.std.specs.Prelude.{ℕ, suc, List, [], ◌∷◌, Bool, true, false, cond, not, ◌&&◌, ◌||◌, eqb}
+use Rattle.std.specs.Prelude as Values
+use Rattle.std.specs.Prelude.{Some, None}
+use Rattle.std.specs.Option.{option_or}
 use Rattle.std.proofs.Math.Option.{Option, some, none}
 use Rattle.sets.specs.Sets.{member}
 use Rattle.verdicts.specs.declared.Breach.{Breach}
@@ -16,8 +19,7 @@ use Rattle.vocabularies.specs.VocabularyReading.{vocabulary_slice}
 use Rattle.pages.specs.Items.{Value, string, open_gap, Attribute, Item, text, blank, gap, element, Items, more, without_blank}
 use Rattle.pages.specs.ItemReading.{page_slice}
 use Rattle.pages.specs.RightPages.{names, word}
-use Rattle.judging.specs.declared.FirstWrong.{FirstWrong}
-use Rattle.judging.specs.declared.FirstWrong.TheVariants.{Nowhere, At}
+use Rattle.judging.specs.declared.WrongElement.{WrongElement}
 
 -- The truth of a formula's atoms, from which the formula's follows.
 pub record Atoms : Type 0 where
@@ -95,13 +97,16 @@ abbrev pub breach_by : Option Rule → List Attribute → List ℕ → Option Br
 breach_by none δ w = none
 breach_by (some r) δ w = breach_under r δ w
 
+-- The first wrong element of a page or of a part of it, if there is one.
+abbrev pub FirstWrong : Type 0
+FirstWrong = Values.Option WrongElement
+
 -- The first of two parts, one after the other; and that of an element at a mark: itself, or what is wrong inside it.
 abbrev pub or_else : FirstWrong → FirstWrong → FirstWrong
-or_else (At at b) later = At at b
-or_else Nowhere later = later
+or_else = option_or
 
 abbrev pub of_element : Option Breach → ℕ → FirstWrong → FirstWrong
-of_element (some b) mark inside = At mark b
+of_element (some b) mark inside = Some (record { at = mark; breach = b })
 of_element none mark inside = inside
 
 -- The first wrong element, an element before those in it. Marks rise in that order, so it is the lowest.
@@ -109,13 +114,13 @@ unfoldable mutual
   unfolding breach_under word
 
   pub first_wrong : Vocabulary → Items → FirstWrong
-  first_wrong D Items.none = Nowhere
+  first_wrong D Items.none = None
   first_wrong D (more i φ) = or_else (first_wrong_item D i) (first_wrong D φ)
 
   pub first_wrong_item : Vocabulary → Item → FirstWrong
-  first_wrong_item D text = Nowhere
-  first_wrong_item D blank = Nowhere
-  first_wrong_item D (gap g) = Nowhere
+  first_wrong_item D text = None
+  first_wrong_item D blank = None
+  first_wrong_item D (gap g) = None
   first_wrong_item D (element e mark δ φ) = of_element (breach_by (rule_of D.rules e) δ (word φ)) mark (first_wrong D φ)
 
 abbrev pub is_element : ℕ → Item → Bool
@@ -137,8 +142,8 @@ abbrev pub is_alone : ℕ → Items → Bool
 is_alone e φ = is_only e (without_blank φ)
 
 abbrev pub wrong_verdict : FirstWrong → Verdict
-wrong_verdict Nowhere = Accepted
-wrong_verdict (At at b) = Refused (Refusals.Page (element_fault 0 0 at b))
+wrong_verdict None = Accepted
+wrong_verdict (Some wrong) = Refused (Refusals.Page (element_fault 0 0 wrong.at wrong.breach))
 
 -- The verdict of a page that was read under a vocabulary that was read. Reading never ends unfinished (`agreement`, Ends); if it did,
 -- nothing would be accepted.

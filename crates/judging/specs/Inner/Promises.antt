@@ -1,6 +1,8 @@
 -- What the code that judges promises, in terms of the definitions that read and judge. Each promise is about bytes that read; what
 -- the code answers on others is free, and no public call hands it others.
 use Rattle.std.specs.Prelude.{ℕ, ◌%◌, ◌≤◌, ◌<◌, ◌≡◌, List, [], Bool, true, false, not, ◌&&◌, ◌||◌, length, get_or, ltb}
+use Rattle.std.specs.Prelude as Values
+use Rattle.std.specs.Prelude.{Some, None}
 use Rattle.std.proofs.Math.Option.{Option, some, none}
 use Rattle.sets.specs.Sets.{member}
 use Rattle.sets.specs.Inner.Promises.{word_size, count_below}
@@ -20,11 +22,9 @@ use Rattle.pages.specs.ItemReading.{attributes, item, items}
 use Rattle.pages.specs.RightPages.{names, word}
 use Rattle.pages.specs.Inner.Steps.{attribute_here}
 use Rattle.judging.specs.declared.Shape.{Shape}
-use Rattle.judging.specs.declared.Rule.{Rule}
+use Rattle.vocabularies.specs.declared.Rule.{Rule}
 use Rattle.judging.specs.declared.Named.{Named}
 use Rattle.judging.specs.declared.Contents.{Contents}
-use Rattle.judging.specs.declared.Outcome.{Outcome}
-use Rattle.judging.specs.declared.Outcome.TheVariants.{Right, Breaks}
 use Rattle.judging.specs.declared.Judged.{Judged}
 use Rattle.judging.specs.declared.Listed.{Listed}
 use Rattle.judging.specs.Inner.Judgement.{Atoms, truth_of, precedes, holds_value, first_failing, is_false, breach_under, first_wrong, first_wrong_item}
@@ -66,10 +66,10 @@ Decided shape ψ = (A B : Atoms) → Shaped shape A → Shaped shape B → truth
 abbrev pub Decides : Shape → List ℕ → ℕ → Bool → ℕ → Type 0
 Decides shape v at b next = Walks (λ ψ. b ≡ true → Decided shape ψ) v at next
 
--- What an outcome tells of an element's rule.
-abbrev pub broken_by : Outcome → Option Breach
-broken_by Right = none
-broken_by (Breaks b) = some b
+-- What an answer tells of an element's rule.
+abbrev pub broken_by : Values.Option Breach → Option Breach
+broken_by None = none
+broken_by (Some b) = some b
 
 -- The first that fails of the clauses that stand from an offset on, the places of which count from k.
 abbrev pub FirstFails : Atoms → List ℕ → ℕ → ℕ → Option Breach → Type 0
@@ -113,7 +113,7 @@ Names p at r strings = (f end : ℕ) (δ : List Attribute) → attributes f Page
     → (r.next.at ≡ end) × Naming δ r.names strings
 
 -- What an element breaks of a rule.
-abbrev pub TellsOutcome : List ℕ → Rule → Shape → List ℕ → List (List ℕ) → Outcome → Type 0
+abbrev pub TellsOutcome : List ℕ → Rule → Shape → List ℕ → List (List ℕ) → Values.Option Breach → Type 0
 TellsOutcome v rule shape strings order r = (R : Vocabularies.Rule) (δ : List Attribute) (w : List ℕ) (count : ℕ)
     → RuleTables v R rule.attributes rule.contents rule.clauses.at → Naming δ shape.names strings
     → Containing w shape.contents order count → broken_by r ≡ breach_under R δ w
