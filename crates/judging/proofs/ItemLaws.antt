@@ -1,10 +1,13 @@
 -- Items and lists of items: what the judgement of the parts says of the whole.
+use Rattle.std.specs.Prelude as Values
+use Rattle.std.specs.Prelude.{Some, None}
 use Prim.Native.Nat.{ℕ, ◌+◌, ◌≤◌, ◌<◌}
 use mathlib.Core.Path.{◌≡◌, refl, sym, ap, subst, ◌∙◌}
 use mathlib.Core.List.{List, [], ◌∷◌, ◌++◌, append_assoc, append-nil}
 use mathlib.Core.Bool.{Bool}
 use native.Mathlib.Omega.{arith}
 use lib.ListN.{length}
+use Rattle.verdicts.specs.declared.Breach.{Breach}
 use Rattle.commands.specs.declared.Position.{Position}
 use Rattle.commands.specs.Reading.{whole}
 use Rattle.vocabularies.specs.Vocabulary.{Vocabulary, rule_of, declared}
@@ -18,23 +21,20 @@ use Rattle.pages.specs.RightPages.{word, word_item}
 use Rattle.pages.specs.Inner.Steps.{item_here}
 use Rattle.pages.proofs.Steps.{no_attribute, text_first, blank_first, gap_first, element_first, end_first, text_item, blank_item, gap_item, element_item, no_item}
 use Rattle.judging.specs.declared.Contents.{Contents}
-use Rattle.judging.specs.declared.FirstWrong.{FirstWrong}
-use Rattle.judging.specs.declared.FirstWrong.TheVariants.{Nowhere, At}
-use Rattle.judging.specs.declared.Outcome.{Outcome}
 use Rattle.judging.specs.declared.Judged.{Judged}
 use Rattle.judging.specs.declared.Listed.{Listed}
 use Rattle.judging.specs.declared.Named.{Named}
-use Rattle.judging.specs.Inner.Judgement.{breach_under, or_else, of_element, first_wrong, first_wrong_item}
+use Rattle.judging.specs.Inner.Judgement.{FirstWrong, breach_under, or_else, of_element, first_wrong, first_wrong_item}
 use Rattle.judging.specs.Inner.Promises.{broken_by, step_next, Counted, Containing, Remembered, Names, TellsOutcome, rule_at, Tabled, ItemJudged, JudgesItem, ItemsJudged, JudgesItems}
 use Rattle.judging.proofs.AttributeLaws.{no_template}
 
-pub or_none : (w : FirstWrong) → or_else w Nowhere ≡ w
-or_none Nowhere = refl
-or_none (At at b) = refl
+pub or_none : (w : FirstWrong) → or_else w None ≡ w
+or_none None = refl
+or_none (Some w) = refl
 
 or_or : (a b c : FirstWrong) → or_else (or_else a b) c ≡ or_else a (or_else b c)
-or_or Nowhere b c = refl
-or_or (At at k) b c = refl
+or_or None b c = refl
+or_or (Some w) b c = refl
 
 module _ (D : Vocabulary) (p : List ℕ) where
   abbrev ruled : ℕ → Bool
@@ -44,9 +44,9 @@ module _ (D : Vocabulary) (p : List ℕ) where
 
   module _ (at : ℕ) (h : ItemHere) (is : h ≡ item_here p at) where
     -- What is no element is text or blank text.
-    pub leaf_judged : ((e : ℕ) (next : Position) → h ≡ Element e next → ⊥) → JudgesItem D p at (record { next = step_next h; wrong = Nowhere })
+    pub leaf_judged : ((e : ℕ) (next : Position) → h ≡ Element e next → ⊥) → JudgesItem D p at (record { next = step_next h; wrong = None })
     unfolding first_wrong_item
-    leaf_judged other f depth end i reads = elim h as (λ x. h ≡ x → ItemJudged D i end (record { next = step_next x; wrong = Nowhere })) [
+    leaf_judged other f depth end i reads = elim h as (λ x. h ≡ x → ItemJudged D i end (record { next = step_next x; wrong = None })) [
       | Text next ↦ λ q. let t = text_item f Page ruled p depth at i end reads h is next q in rw t.0 (record { ends = t.1; finds = refl })
       | Gap g next ↦ λ q. no_template (gap_item f Page ruled p depth at i end reads h is g next q).in_template
       | Element e next ↦ λ q. absurd (other e next q)
@@ -58,7 +58,7 @@ module _ (D : Vocabulary) (p : List ℕ) where
     module _ (v allowed held from : List ℕ) (T : Tabled v D allowed held from) (e : ℕ) (start : Position) (opens : h ≡ Element e start)
         (named : Named) (strings : List ℕ) (N : Names p start.at named strings)
         (list : Listed) (order : List (List ℕ)) (L : JudgesItems D p named.next.at list order)
-        (outcome : Outcome) (R : TellsOutcome v (rule_at allowed held from e) (record { names = named.names; contents = list.contents }) strings order outcome) where
+        (outcome : Values.Option Breach) (R : TellsOutcome v (rule_at allowed held from e) (record { names = named.names; contents = list.contents }) strings order outcome) where
       pub element_judged : JudgesItem D p at (record { next = list.next; wrong = of_element (broken_by outcome) at list.wrong })
       unfolding first_wrong_item
       element_judged f depth end i reads =
@@ -90,7 +90,7 @@ module _ (D : Vocabulary) (p : List ℕ) where
       contains : Containing before inside.set order inside.count
       left : Left before wrong at
 
-    pub all_left : (f at : ℕ) (order : List (List ℕ)) → items f Page ruled p depth at ≡ whole φ end → Containing [] 0 order 0 → Judging order at (record { set = 0; count = 0 }) Nowhere
+    pub all_left : (f at : ℕ) (order : List (List ℕ)) → items f Page ruled p depth at ≡ whole φ end → Containing [] 0 order 0 → Judging order at (record { set = 0; count = 0 }) None
     all_left f at order e C = record { before = []; contains = C; left = record { fuel = f; left = φ; reads = e; is = refl; finds = refl } }
 
     module _ (order : List (List ℕ)) (at : ℕ) (inside : Contents) (wrong : FirstWrong) (J : Judging order at inside wrong) (h : ItemHere) (is : h ≡ item_here p at) where

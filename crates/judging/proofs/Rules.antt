@@ -19,10 +19,8 @@ use Rattle.pages.specs.RightPages.{names}
 use Rattle.verdicts.specs.declared.Breach.{Breach}
 use Rattle.verdicts.specs.declared.Breach.TheVariants.{Content, Clause}
 use Rattle.verdicts.specs.declared.Breach.TheVariants as Breaches
-use Rattle.judging.specs.declared.Outcome.{Outcome}
-use Rattle.judging.specs.declared.Outcome.TheVariants.{Breaks}
 use Rattle.judging.specs.declared.Shape.{Shape}
-use Rattle.judging.specs.declared.Rule.{Rule}
+use Rattle.vocabularies.specs.declared.Rule.{Rule}
 use Rattle.judging.specs.Inner.Judgement.{Atoms, truth_of, atoms_of, all_in, broken_if, or_first, first_failing, is_false, breach_under, precedes, holds_value}
 use Rattle.judging.specs.Inner.Promises.{first_place, last_place, table_atoms, broken_by, FirstFails, Naming, Containing, TellsOutcome}
 use Rattle.judging.proofs.Booleans.{by_test, or_then_right}
@@ -128,14 +126,14 @@ module _ (δ : List Attribute) (w : List ℕ) (shape : Shape) (strings : List �
 
 -- What the three tests tell, in the code's order.
 module _ (v : List ℕ) (rule : Rule) (shape : Shape) (strings : List ℕ) (order : List (List ℕ)) where
-  pub names_fail : (t : Bool) → MembersWithin shape.names rule.attributes t → t ≡ false → TellsOutcome v rule shape strings order (Breaks Breaches.Attribute)
+  pub names_fail : (t : Bool) → MembersWithin shape.names rule.attributes t → t ≡ false → TellsOutcome v rule shape strings order (Some Breaches.Attribute)
   names_fail t h e R δ w count T N C = names_wrong δ w shape strings order count N C v R _ _ _ T (subst (MembersWithin shape.names rule.attributes) e h)
 
   module _ (t u : Bool) (h : MembersWithin shape.names rule.attributes t) (e : t ≡ true) (h' : MembersWithin shape.contents rule.contents u) where
-    pub contents_fail : u ≡ false → TellsOutcome v rule shape strings order (Breaks Content)
+    pub contents_fail : u ≡ false → TellsOutcome v rule shape strings order (Some Content)
     contents_fail e' R δ w count T N C =
         contents_wrong δ w shape strings order count N C v R _ _ _ T (subst (MembersWithin shape.names rule.attributes) e h) (subst (MembersWithin shape.contents rule.contents) e' h')
 
-    pub clauses_decide : u ≡ true → (r : Outcome) → FirstFails (table_atoms shape strings order) v rule.clauses.at 0 (broken_by r) → TellsOutcome v rule shape strings order r
+    pub clauses_decide : u ≡ true → (r : Values.Option Breach) → FirstFails (table_atoms shape strings order) v rule.clauses.at 0 (broken_by r) → TellsOutcome v rule shape strings order r
     clauses_decide e' r H R δ w count T N C =
         clauses_tell δ w shape strings order count N C v R _ _ _ T (subst (MembersWithin shape.names rule.attributes) e h) (subst (MembersWithin shape.contents rule.contents) e' h') (broken_by r) H

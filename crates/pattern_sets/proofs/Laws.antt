@@ -1,18 +1,22 @@
 -- What holds of sets of patterns as words.
-use Prim.Native.Nat.{ℕ, zero, suc, ◌+◌, ◌*◌, ◌/◌, ◌%◌, ◌<◌, ◌≤◌}
+use Rattle.std.specs.Prelude.{None}
+use Prim.Native.Nat.{ℕ, zero, suc, ◌+◌, ◌*◌, ◌/◌, ◌%◌, ◌^◌, ◌<◌, ◌≤◌}
 use mathlib.Core.Path.{◌≡◌, refl, sym, ap, subst, ◌∙◌}
 use mathlib.Core.List.{List, [], ◌∷◌}
 use mathlib.Core.Bool.{Bool, true, false, ◌||◌, false≢true}
+use mathlib.Core.Logic.{inl, inr}
 use native.Mathlib.Omega.{arith}
 use native.Mathlib.Decide.{ℕ_discrete}
 use lib.ListN.{length, get_or, set, get_or-eq_default}
 use lib.Seq.{get_or-set_same, get_or-set_other}
 use lib.Dec.{eqb, ltb}
+use Rattle.std.proofs.lemmas.Grind.{same_number_lists}
 use borrow.Author.Tests.{eq-eqb, ne_eqb, ltb-true, ltb-false}
 use Rattle.sets.specs.Sets.{member}
-use Rattle.sets.specs.Inner.Promises.{FirstMember}
-use Rattle.sets.proofs.Laws.{member_zero}
-use Rattle.pattern_sets.specs.Inner.PatternSets.{holds, First, IsEmpty, SameMembers, Same}
+use Rattle.sets.specs.Inner.Promises.{NextMember, MemberFrom}
+use Rattle.sets.proofs.Laws.{member_zero, same_members}
+use Rattle.pattern_sets.specs.Inner.PatternSets.{holds, First, NextPattern, IsEmpty, Same}
+use Rattle.pattern_sets.proofs.Members.{find}
 use Rattle.sets.proofs.Booleans.{or_absent}
 
 -- A number is told by its quotient and its remainder.
@@ -59,58 +63,6 @@ module _ (op : Bool → Bool → Bool) (nothing : op false false ≡ false) (a b
 
 -- ---- the first pattern from a place on
 
-module _ (s : List ℕ) (from : ℕ) where
-  -- What a loop knows of the patterns before the place that it has come to.
-  pub record Passed (at : ℕ) : Type 0 where
-    pub after : from ≤ at
-    pub within : at ≤ 256
-    pub skips : (x : ℕ) → from ≤ x → x < at → holds s x ≡ false
-
-  pub passed_none : from ≤ 256 → Passed from
-  passed_none h = record { after = omega arith; within = h; skips = λ x l m. absurd (omega arith) }
-
-  pub passed_all : (at : ℕ) → 256 ≤ at → Passed at → First s from 256
-  passed_all at h p = record {
-    after = omega (arith, p.after, p.within);
-    within = omega arith;
-    is_held = λ l. absurd (omega arith);
-    skips = λ x l m. p.skips x l (omega (arith, p.within));
-  }
-
-  module _ (at first : ℕ) (p : Passed at) (h : at < 256) (f : FirstMember (get_or s (at / 64) 0) (at % 64) first) where
-    -- A pattern that the word of the place has, from there on.
-    in_word : (x : ℕ) → x / 64 ≡ at / 64 → member (get_or s (at / 64) 0) (x % 64) ≡ holds s x
-    unfolding holds
-    in_word x q = rw (q)
-
-    passed_word : (x : ℕ) → from ≤ x → x < at / 64 * 64 + first → holds s x ≡ false
-    passed_word x l m = go (ltb x at) refl
-      where
-        go : (t : Bool) → ltb x at ≡ t → holds s x ≡ false
-        go true e = p.skips x l (ltb-true x at e)
-        go false e =
-            let k : at ≤ x = ltb-false x at e in
-            let w : first ≤ 64 = f.within in
-            let q : x / 64 ≡ at / 64 = omega arith in
-            sym (in_word x q) ∙ f.skips (x % 64) (omega arith) (omega arith)
-
-    pub passed_more : 64 ≤ first → Passed (at / 64 * 64 + 64)
-    passed_more l = record {
-      after = omega (arith, p.after);
-      within = omega arith;
-      skips = λ x i m. passed_word x i (omega arith);
-    }
-
-    pub found : first < 64 → First s from (at / 64 * 64 + first)
-    found l = record {
-      after = omega (arith, p.after, f.after);
-      within = omega arith;
-      is_held = λ i. sym (in_word (at / 64 * 64 + first) (omega arith)) ∙ ap (member (get_or s (at / 64) 0)) (omega arith) ∙ f.is_held l;
-      skips = passed_word;
-    }
-
--- ---- the empty set, and two sets that are the same
-
 -- Past 255 there is no pattern.
 pub holds_high : (s : List ℕ) → length s ≡ 4 → (x : ℕ) → 256 ≤ x → holds s x ≡ false
 unfolding holds
@@ -124,6 +76,55 @@ held_small s l x h = go (ltb x 256) refl
     go : (t : Bool) → ltb x 256 ≡ t → x < 256
     go true e = ltb-true x 256 e
     go false e = absurd (false≢true (sym (holds_high s l x (ltb-false x 256 e)) ∙ h))
+
+module _ (s : List ℕ) (from : ℕ) where
+  -- What a loop knows of the patterns before the place that it has come to.
+  pub record Passed (at : ℕ) : Type 0 where
+    pub after : from ≤ at
+    pub skips : (x : ℕ) → from ≤ x → x < at → holds s x ≡ false
+
+  pub passed_none : (at : ℕ) → at ≡ from → Passed at
+  passed_none at e = record { after = omega arith; skips = λ x l m. absurd (omega arith) }
+
+  pub passed_all : length s ≡ 4 → (at : ℕ) → 256 ≤ at → Passed at → NextPattern s from None
+  passed_all four at h p x l = go (ltb x 256) refl
+    where
+      go : (t : Bool) → ltb x 256 ≡ t → holds s x ≡ false
+      go true e = let m : x < 256 = ltb-true x 256 e in p.skips x l (omega arith)
+      go false e = holds_high s four x (ltb-false x 256 e)
+
+  -- In word i, of which the places before k are passed.
+  module _ (i k : ℕ) (p : Passed (i * 64 + k)) where
+    in_word : (x : ℕ) → x / 64 ≡ i → member (get_or s i 0) (x % 64) ≡ holds s x
+    unfolding holds
+    in_word x q = rw q
+
+    passed_word : (n : ℕ) → n ≤ 64 → ((x : ℕ) → k ≤ x → x < n → member (get_or s i 0) x ≡ false)
+        → (x : ℕ) → from ≤ x → x < i * 64 + n → holds s x ≡ false
+    passed_word n few none x l m = go (ltb x (i * 64 + k)) refl
+      where
+        go : (t : Bool) → ltb x (i * 64 + k) ≡ t → holds s x ≡ false
+        go true e = p.skips x l (ltb-true x (i * 64 + k) e)
+        go false e =
+            let j : i * 64 + k ≤ x = ltb-false x (i * 64 + k) e in
+            sym (in_word x (omega arith)) ∙ none (x % 64) (omega arith) (omega arith)
+
+    pub passed_more : k < 64 → NextMember (get_or s i 0) k None → Passed ((i + 1) * 64 + 0)
+    passed_more small none = record {
+      after = omega (arith, p.after);
+      skips = λ x l m. passed_word 64 (omega arith) (λ y h _. none y h) x l (omega arith);
+    }
+
+    pub found : (n : ℕ) → i < 4 → MemberFrom (get_or s i 0) k n → First s from (i * 64 + n)
+    found n h f = record {
+      after = omega (arith, p.after, f.after);
+      within = omega (arith, f.within);
+      is_held = let w : n < 64 = f.within in
+          sym (in_word (i * 64 + n) (omega arith)) ∙ ap (member (get_or s i 0)) (omega arith) ∙ f.is_held;
+      skips = passed_word n (omega (arith, f.within)) f.skips;
+    }
+
+-- ---- the empty set, and two sets that are the same
 
 no_word : (i : ℕ) → ◌≡◌ {A = ℕ} (get_or (0 ∷ 0 ∷ 0 ∷ 0 ∷ []) i 0) 0
 no_word zero = refl
@@ -152,33 +153,18 @@ tells_empty s none empty false (x, l, differs) = (x, l, go (holds s x) refl)
     go true e = e
     go false e = absurd (differs (e ∙ sym (empty x)))
 
-module _ (a b : List ℕ) where
-  pub differ_at : (q : ℕ) → q < 4 → (t : Bool) → t ≡ false → SameMembers (get_or a q 0) (get_or b q 0) t → Same a b false
+-- Sets of four words are the same, or there is a pattern that one alone has.
+module _ (a b : List ℕ) (la : length a ≡ 4) (lb : length b ≡ 4) (fits : (i : ℕ) → i < 4 → (get_or a i 0 < 2 ^ 64) × (get_or b i 0 < 2 ^ 64)) where
+  same_words : ((x : ℕ) → x < 256 → holds a x ≡ holds b x) → (i : ℕ) → i < 4 → get_or a i 0 ≡ get_or b i 0
   unfolding holds
-  differ_at q h true e d = absurd (false≢true (sym e))
-  differ_at q h false e (k, l, d) =
-      let i : (q * 64 + k) / 64 ≡ q = omega arith in
-      let j : (q * 64 + k) % 64 ≡ k = omega arith in
-      (q * 64 + k, omega arith, rw (i, j) d)
+  same_words all i h = same_members 64 (get_or a i 0) (get_or b i 0) (fits i h).0 (fits i h).1 (λ k l.
+      let q : (i * 64 + k) / 64 ≡ i = omega arith in
+      let r : (i * 64 + k) % 64 ≡ k = omega arith in
+      rw (q, r) at (all (i * 64 + k) (omega arith)))
 
-  pub same_at : (q : ℕ) → (t : Bool) → t ≡ true → SameMembers (get_or a q 0) (get_or b q 0) t → get_or a q 0 ≡ get_or b q 0
-  same_at q true e d = d
-  same_at q false e d = absurd (false≢true e)
-
-  same_words : length a ≡ 4 → length b ≡ 4 → get_or a 0 0 ≡ get_or b 0 0 → get_or a 1 0 ≡ get_or b 1 0 → get_or a 2 0 ≡ get_or b 2 0
-      → get_or a 3 0 ≡ get_or b 3 0 → Same a b true
-  unfolding holds
-  same_words la lb e₀ e₁ e₂ e₃ x = ap (λ (w : ℕ). member w (x % 64)) (go (x / 64))
-    where
-      go : (q : ℕ) → get_or a q 0 ≡ get_or b q 0
-      go zero = e₀
-      go (suc zero) = e₁
-      go (suc (suc zero)) = e₂
-      go (suc (suc (suc zero))) = e₃
-      go (suc (suc (suc (suc q)))) = get_or-eq_default a 0 (omega arith) ∙ sym (get_or-eq_default b 0 (omega arith))
-
-  -- The last words decide where the others are the same.
-  pub last_words : length a ≡ 4 → length b ≡ 4 → get_or a 0 0 ≡ get_or b 0 0 → get_or a 1 0 ≡ get_or b 1 0 → get_or a 2 0 ≡ get_or b 2 0
-      → (t : Bool) → SameMembers (get_or a 3 0) (get_or b 3 0) t → Same a b t
-  last_words la lb e₀ e₁ e₂ true e = same_words la lb e₀ e₁ e₂ e
-  last_words la lb e₀ e₁ e₂ false e = differ_at 3 (omega arith) false refl e
+  pub tells_same : (t : Bool) → (t ≡ true → a ≡ b) → (a ≡ b → t ≡ true) → Same a b t
+  tells_same true is back = λ x. ap (λ (s : List ℕ). holds s x) (is refl)
+  tells_same false is back = elim (find (holds a) (holds b) 256) [
+    | inl w ↦ w
+    | inr all ↦ absurd (false≢true (back (same_number_lists a b (omega arith) (λ i l. same_words all i (omega arith)))))
+  ]

@@ -141,7 +141,8 @@ fn raised_by(set: [u64; 4], x: u8) -> [u64; 4]
     let mut image = set;
     for i in 0..8u8 {
         if sets::has(x as u64, i) {
-            image = raised(image, i);
+            let next = raised(image, i);
+            image = next;
         }
     }
     image
@@ -155,7 +156,8 @@ fn crossed_by(set: [u64; 4], x: u8, firsts: [u8; 8], seconds: [u8; 8]) -> [u64; 
     for i in 0..8u8 {
         let k = i as usize;
         if sets::has(x as u64, firsts[k] % 64) {
-            image = crossed(image, seconds[k] % 64, i);
+            let next = crossed(image, seconds[k] % 64, i);
+            image = next;
         }
     }
     image
@@ -190,13 +192,12 @@ pub fn next(set: [u64; 4], from: usize) -> Option<u8>
     requires { from ≤ 256 }
     ensures { NextPattern set from result }
 {
-    let mut at = from;
-    while at < 256 {
-        let start = at / 64 * 64;
-        if let Some(k) = sets::next_member(set[at / 64], (at % 64) as u8) {
-            return Some(start as u8 + k);
+    let mut at = (from % 64) as u8;
+    for i in from / 64..4 {
+        if let Some(k) = sets::next_member(set[i], at) {
+            return Some(i as u8 * 64 + k);
         }
-        at = start + 64;
+        at = 0;
     }
     None
 }

@@ -1,10 +1,7 @@
 -- After each turn the image has one pair more.
-use Prim.Native.Nat.{◌-◌, ◌≤◌}
+use Prim.Native.Nat.{◌≤◌}
 use Rattle.pattern_sets.specs.Inner.Images.{Image, crossed_by, Apart}
 use Rattle.pattern_sets.proofs.crossed_by.Given as goal
 
 abbrev pub invariant-loop-i : goal.invariant-loop-i
 invariant-loop-i l = (l.i ≤ 8) × (Apart l.x l.firsts l.seconds → Image (crossed_by l.i l.x l.firsts l.seconds) l.initial.image l.image)
-
-abbrev pub decreases-loop-i : goal.decreases-loop-i
-decreases-loop-i l = 8 - l.i

@@ -1,10 +1,7 @@
--- The loop passes a word at a time; the patterns before its place are not in the set.
-use Prim.Native.Nat.{◌-◌}
+-- The patterns before the loop's place in its word are not in the set.
+use Prim.Native.Nat.{◌+◌, ◌*◌, ◌<◌}
 use Rattle.pattern_sets.proofs.Laws.{Passed}
 use Rattle.pattern_sets.proofs.next.Given as goal
 
-abbrev pub invariant-loop-at : goal.invariant-loop-at
-invariant-loop-at l = Passed l.set l.from l.at
-
-abbrev pub decreases-loop-at : goal.decreases-loop-at
-decreases-loop-at l = 256 - l.at
+abbrev pub invariant-loop-i : goal.invariant-loop-i
+invariant-loop-i l = (l.at < 64) × Passed l.set l.from (l.i * 64 + l.at)
