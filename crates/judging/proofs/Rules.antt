@@ -1,4 +1,6 @@
 -- An element's tables and its rule's: what the element breaks.
+use Rattle.std.specs.Prelude as Values
+use Rattle.std.specs.Prelude.{Some}
 use Prim.Native.Nat.{ℕ, suc, ◌+◌, ◌%◌}
 use mathlib.Core.Path.{◌≡◌, refl, sym, ap, ap₂, subst, ◌∙◌}
 use mathlib.Core.List.{List, [], ◌∷◌}
