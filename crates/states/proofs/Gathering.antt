@@ -1,5 +1,5 @@
 -- What is found in words, gathered one word after another.
-use Prim.Native.Nat.{ℕ, ◌+◌, ◌^◌, ◌≤◌, ◌<◌}
+use Prim.Native.Nat.{ℕ, ◌+◌, ◌<◌}
 use mathlib.Core.Path.{◌≡◌, refl, sym, ◌∙◌}
 use mathlib.Core.List.{List}
 use mathlib.Core.Bool.{Bool, true, false, not, ◌&&◌, ◌||◌, false≢true}
@@ -9,7 +9,6 @@ use lib.Dec.{eqb}
 use borrow.Author.Tests.{eqb-true, eqb-false}
 use Rattle.sets.specs.Sets.{member}
 use Rattle.sets.proofs.Laws.{member_zero}
-use Rattle.sets.proofs.Members.{no_members}
 use Rattle.sets.proofs.Booleans.{or_left, or_right, refuted, never_lacks}
 use Rattle.states.specs.Inner.Promises.{LiesWithin}
 
@@ -36,8 +35,5 @@ module _ (work : List ℕ) where
   abbrev pub lacks : ℕ → ℕ → ℕ → ℕ → Bool
   lacks from first k b = held from k b && not (held first k b)
 
-  pub words_zero : (first i all : ℕ) → ((k : ℕ) → get_or work k 0 < 2 ^ 64) → Gathered (held first) i all → all ≡ 0 → (k : ℕ) → k < i → get_or work (first + k) 0 ≡ 0
-  words_zero first i all narrow G e k l = no_members _ (narrow (first + k)) λ b m. none_found (held first) i all G e k l b
-
-  pub words_within : (from first i all : ℕ) → 544 ≤ i → Gathered (lacks from first) i all → all ≡ 0 → LiesWithin work from first
-  words_within from first i all whole_row G e k l b = never_lacks (held from k b) (held first k b) (none_found (lacks from first) i all G e k (omega arith) b)
+  pub words_within : (from first all : ℕ) → Gathered (lacks from first) 544 all → all ≡ 0 → LiesWithin work from first
+  words_within from first all G e k l b = never_lacks (held from k b) (held first k b) (none_found (lacks from first) 544 all G e k l b)

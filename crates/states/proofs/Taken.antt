@@ -1,42 +1,20 @@
 -- An entry taken out of the work area.
-use Prim.Native.Nat.{ℕ, ◌+◌, ◌^◌, ◌≤◌, ◌<◌}
+use Prim.Native.Nat.{ℕ, ◌+◌, ◌^◌, ◌<◌}
 use mathlib.Core.Path.{◌≡◌, refl, sym, ap, ◌∙◌}
 use mathlib.Core.List.{List}
 use mathlib.Core.Bool.{Bool, true, false, ◌&&◌, and-false}
-use native.Mathlib.Omega.{arith}
-use lib.ListN.{length, get_or, set, length-set}
-use lib.Seq.{ext_get_or, get_or-set_same, get_or-set_other}
-use lib.Dec.{eqb, ltb}
-use borrow.Author.Tests.{eqb-true, eqb-false, ltb-true, ltb-false}
+use lib.ListN.{get_or, take, drop}
+use lib.Dec.{ltb}
+use borrow.Author.Tests.{ltb-true, ltb-false}
 use Rattle.sets.specs.Sets.{member}
 use Rattle.strings.specs.declared.Values.{Values}
 use Rattle.strings.specs.Inner.Promises.{set_number}
 use Rattle.graphs.specs.Inner.Graphs.{holds, Keeps}
 use Rattle.states.specs.Inner.States.{graph_place, strings_place, graph_words, in_words, entries_in}
 use Rattle.states.specs.Inner.Promises.{HasPoint, GraphTaken, ValuesTaken}
-use Rattle.states.proofs.Entries.{template_entry, string_entry, in_words_lem, graph_room, graph_word, no_graph_word, graph_narrow}
+use Rattle.states.proofs.Entries.{template_entry, string_entry, in_words_lem, graph_room, no_graph_word, graph_narrow}
 use Rattle.graphs.proofs.Slots.{holds_none}
 use Rattle.summaries.specs.Proposal.{Claim}
-
--- The first words of a graph are copied.
-pub record Copied (work : List ℕ) (first : ℕ) (graph : List ℕ) (i : ℕ) : Type 0 where
-  pub few : i ≤ 544
-  pub room : length graph ≡ 544
-  pub same : (k : ℕ) → k < i → get_or graph k 0 ≡ get_or work (first + k) 0
-
-pub copied_none : (work : List ℕ) (first : ℕ) (graph : List ℕ) → length graph ≡ 544 → Copied work first graph 0
-copied_none work first graph e = record { few = omega arith; room = e; same = λ k l. absurd (omega arith) }
-
-pub copied_more : (work : List ℕ) (first : ℕ) (graph : List ℕ) (i : ℕ) → Copied work first graph i → i < 544 → Copied work first (set graph i (get_or work (first + i) 0)) (i + 1)
-copied_more work first graph i c l = record {
-  few = omega arith;
-  room = length-set graph i (get_or work (first + i) 0) ∙ c.room;
-  same = λ k m. go k m (eqb k i) refl;
-}
-  where
-    go : (k : ℕ) → k < i + 1 → (t : Bool) → eqb k i ≡ t → get_or (set graph i (get_or work (first + i) 0)) k 0 ≡ get_or work (first + k) 0
-    go k m true e = rw (eqb-true k i e) (get_or-set_same graph i (get_or work (first + i) 0) 0 (omega (arith, c.room)))
-    go k m false e = get_or-set_other graph i k (get_or work (first + i) 0) 0 (eqb-false k i e) ∙ c.same k (omega (arith, eqb-false k i e))
 
 module _ (work : List ℕ) (p x : ℕ) (has : HasPoint work p) (l : x < 4) (narrow : (i : ℕ) → get_or work i 0 < 2 ^ 64) where
   pub entry_kept : (points : ℕ) → p < points → Keeps (graph_words work p x) ((entries_in points work p).template x)
@@ -46,12 +24,9 @@ module _ (work : List ℕ) (p x : ℕ) (has : HasPoint work p) (l : x < 4) (narr
     narrow = graph_narrow work p x narrow;
   }
 
-  pub graph_taken : (graph : List ℕ) (first i : ℕ) → first ≡ graph_place p x → Copied work first graph i → 544 ≤ i → GraphTaken work p x graph
-  graph_taken graph first i at copied all =
-      let words : graph ≡ graph_words work p x =
-      ext_get_or 0 graph (graph_words work p x) (copied.room ∙ sym (graph_room work p x has l)) λ k m.
-      let low : k < 544 = omega (arith, copied.room) in
-      copied.same k (omega arith) ∙ ap (λ (n : ℕ). get_or work (n + k) 0) at ∙ sym (graph_word work p x k low) in
+  pub graph_taken : (graph : List ℕ) (first : ℕ) → first ≡ graph_place p x → graph ≡ take 544 (drop first work) → GraphTaken work p x graph
+  graph_taken graph first at copied =
+      let words : graph ≡ graph_words work p x = copied ∙ ap (λ (n : ℕ). take 544 (drop n work)) at in
       record { words = words; keeps = λ points m. rw words (entry_kept points m) }
 
 pub values_taken : (work : List ℕ) (p y first : ℕ) → y < 4 → ((i : ℕ) → get_or work i 0 < 2 ^ 64) → first ≡ strings_place p y → (values : Values)
@@ -62,14 +37,14 @@ values_taken work p y first l narrow at values named any =
     record { named = is_named; any = is_any; narrow = rw is_named (narrow (strings_place p y)); keeps = λ points m s. rw (is_named, is_any) (sym (string_entry points work p y m l s)) }
 
 -- Words that are all zero hold nothing.
-pub nothing_there : (work : List ℕ) (p x first i : ℕ) → first ≡ graph_place p x → 544 ≤ i → ((k : ℕ) → k < i → get_or work (first + k) 0 ≡ 0) → (points : ℕ) (c : Claim)
+pub nothing_there : (work : List ℕ) (p x first : ℕ) → first ≡ graph_place p x → ((k : ℕ) → k < 544 → get_or (take 544 (drop first work)) k 0 ≡ 0) → (points : ℕ) (c : Claim)
     → (entries_in points work p).template x c ≡ false
 unfolding entries_in
-nothing_there work p x first i at all zero points c = rw (holds_none (graph_words work p x) none c, and-false (in_words c)) (and-false (ltb p points && ltb x 4))
+nothing_there work p x first at zero points c = rw (holds_none (graph_words work p x) none c, and-false (in_words c)) (and-false (ltb p points && ltb x 4))
   where
     none : (k : ℕ) → get_or (graph_words work p x) k 0 ≡ 0
     none k = go (ltb k 544) refl
       where
         go : (t : Bool) → ltb k 544 ≡ t → get_or (graph_words work p x) k 0 ≡ 0
-        go true e = let l : k < 544 = ltb-true k 544 e in graph_word work p x k l ∙ ap (λ (n : ℕ). get_or work (n + k) 0) (sym at) ∙ zero k (omega arith)
+        go true e = ap (λ (n : ℕ). get_or (take 544 (drop n work)) k 0) (sym at) ∙ zero k (ltb-true k 544 e)
         go false e = no_graph_word work p x k (ltb-false k 544 e)

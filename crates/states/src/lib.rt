@@ -43,11 +43,7 @@ pub fn graph_at(work: &[u64], p: usize, x: usize) -> Graph
 {
     let first = graph_place(p, x);
     let mut graph = graphs::none();
-    let mut i: usize = 0;
-    while i < GRAPH_WORDS {
-        graph[i] = work[first + i];
-        i += 1;
-    }
+    graph.copy_from_slice(&work[first..first + GRAPH_WORDS]);
     graph
 }
 
@@ -57,13 +53,9 @@ pub fn is_blank(work: &[u64], p: usize, x: usize) -> bool
     ensures { result ≡ true → (points : ℕ) (c : Claim) → (entries_in points work.now p).template x c ≡ false }
 {
     let first = graph_place(p, x);
-    let mut all: u64 = 0;
-    let mut i: usize = 0;
-    while i < GRAPH_WORDS {
-        all = sets::union(all, work[first + i]);
-        i += 1;
-    }
-    all == 0
+    work[first..first + GRAPH_WORDS]
+        .iter()
+        .all(|&word| word == 0)
 }
 
 // The entry of a string variable at a point.
@@ -78,18 +70,12 @@ pub fn values_at(work: &[u64], p: usize, y: usize) -> Values
     }
 }
 
-// Whether the words from two places on are the same. Their differences are gathered without an early exit: many can be compared at once.
+// Whether the words from two places on are the same.
 fn same_words(work: &[u64], a: usize, b: usize, count: usize) -> bool
     requires { (a + count ≤ length work.now) × (b + count ≤ length work.now) }
     ensures { result ≡ true → take count (drop a work.now) ≡ take count (drop b work.now) }
 {
-    let mut differences: u64 = 0;
-    let mut i: usize = 0;
-    while i < count {
-        differences = differences | (work[a + i] ^ work[b + i]);
-        i += 1;
-    }
-    differences == 0
+    work[a..a + count] == work[b..b + count]
 }
 
 // Whether the words of a variable's entry are the same at two points: then the same is held there. Variables 4 to 7 are the string variables.
@@ -125,24 +111,21 @@ pub fn join_graph(work: &mut [u64], p: usize, x: usize, from: &Graph) -> bool
 {
     let first = graph_place(p, x);
     let mut gained: u64 = 0;
-    let mut i: usize = 0;
-    while i < GRAPH_WORDS {
+    for i in 0..GRAPH_WORDS {
         gained = sets::union(gained, join_word(work, first + i, from[i]));
-        i += 1;
     }
     gained != 0
 }
 
-// Whether the words of a graph lie within those of another: then joining it to that one changes nothing.
+// Whether the words of a graph lie within those of another: then joining it to that one changes nothing. What they lack is gathered
+// without an early exit: many words can be compared at once.
 fn lies_within(work: &[u64], from: usize, first: usize) -> bool
     requires { (from + 544 ≤ length work.now) × (first + 544 ≤ length work.now) }
     ensures { result ≡ true → LiesWithin work.now from first }
 {
     let mut lacking: u64 = 0;
-    let mut i: usize = 0;
-    while i < GRAPH_WORDS {
+    for i in 0..GRAPH_WORDS {
         lacking = sets::union(lacking, sets::without(work[from + i], work[first + i]));
-        i += 1;
     }
     lacking == 0
 }
@@ -152,26 +135,11 @@ pub fn join_entry(work: &mut [u64], p: usize, x: usize, q: usize, z: usize) -> b
     requires { HasPoint work.old p × (x < 4) × HasPoint work.old q × (z < 4) }
     ensures { GraphJoined work.old p x (graph_words work.old q z) work.new result }
 {
-    let first = graph_place(p, x);
-    let from = graph_place(q, z);
-    if lies_within(work, from, first) {
+    if lies_within(work, graph_place(q, z), graph_place(p, x)) {
         return false;
     }
-    let mut gained: u64 = 0;
-    let mut i: usize = 0;
-    while i < GRAPH_WORDS {
-        let more = work[from + i];
-        gained = sets::union(gained, join_word(work, first + i, more));
-        i += 1;
-    }
-    gained != 0
-}
-
-// The word that says whether a string variable takes any string.
-fn any_word(any: bool) -> u64
-    ensures { member result 0 ≡ any }
-{
-    if any { 1 } else { 0 }
+    let from = graph_at(work, q, z);
+    join_graph(work, p, x, &from)
 }
 
 // A string variable at a point can also take these values; whether its words have changed.
@@ -181,6 +149,6 @@ pub fn join_values(work: &mut [u64], p: usize, y: usize, values: Values) -> bool
 {
     let first = strings_place(p, y);
     let named = join_word(work, first, values.named.word);
-    let any = join_word(work, first + 1, any_word(values.any));
+    let any = join_word(work, first + 1, u64::from(values.any));
     sets::union(named, any) != 0
 }

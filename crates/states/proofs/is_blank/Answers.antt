@@ -1,20 +1,22 @@
-use mathlib.Core.Path.{refl}
+-- By each word.
+use Prim.Native.Nat.{ℕ, ◌+◌, ◌-◌}
+use mathlib.Core.Path.{◌≡◌}
+use mathlib.Core.Logic.{◌≢◌}
 use native.Mathlib.Omega.{arith}
-use borrow.Author.Tests.{eqb-true}
+use lib.ListN.{take, drop, length-take, length-drop}
 use borrow.Author.Rules.{rules}
+use Rattle.std.proofs.Common.{tests}
+use Rattle.std.proofs.lemmas.Iterator.{cases_from_all, YieldsList-from_slice}
 use Rattle.states.proofs.Taken.{nothing_there}
-use Rattle.states.proofs.Gathering.{gathers, words_zero}
 use Rattle.states.proofs.is_blank.Goals as goal
-
-pub loop-i-init : goal.loop-i-init
-loop-i-init c = λ k l. absurd (omega arith)
-
-pub loop-i-preserved : goal.loop-i-preserved
-loop-i-preserved c = gathers _ c.loop-i.i c.loop-i.all _ _ c.loop-i.invariant (λ b. refl) c.union-all.ensures
 
 pub returns : goal.returns
 returns c = λ e.
     let work = c.args.work.now in
     let first = c.graph_place-first.result in
-    nothing_there work _ _ first c.loop-i.i c.graph_place-first.ensures (search rules)
-    (words_zero work first c.loop-i.i c.loop-i.all (λ k. (c.type_inv.work k).fits) c.loop-i.invariant (eqb-true _ 0 e))
+    let words = take 544 (drop first work) in
+    let whole_row : first + 544 - first ≡ 544 = omega arith in
+    let all = cases_from_all _ _ _ (λ (x : ℕ). x ≡ 0) (λ (x : ℕ). x ≢ 0) c.all.ensures.ran (YieldsList-from_slice words (rw whole_row at c.iter.ensures.rest)) (λ x q k. search (rules, tests)) (λ x q k. search (rules, tests)) in
+    let zero = rw e at all in
+    nothing_there work _ _ first c.graph_place-first.ensures
+    (λ k l. zero k 0 (omega arith) (omega (arith, length-take 544 (drop first work), length-drop first work)))
