@@ -32,7 +32,7 @@ use Rattle.summaries.specs.Inner.Promises.{Kept, ProposalReads}
 use Rattle.jobs.specs.declared.ScriptRead.{ScriptRead}
 use Rattle.jobs.specs.Job.{Script, Job, script, job}
 use Rattle.jobs.specs.Inference.{script_slice}
-use Rattle.jobs.specs.Inner.Promises.{ScriptKept, JobKept, short, EndedAt, ScriptReads, SliceReads, JobReads}
+use Rattle.jobs.specs.Inner.Promises.{ScriptKept, JobKept, short, FewEnough, EndedAt, ScriptReads, SliceReads, JobReads}
 use Rattle.jobs.proofs.Alone.{whole_alone, refusal_alone}
 
 -- ---- parts that are read with a value
@@ -72,8 +72,8 @@ module _ (s : List ℕ) where
   after_vocabulary D next = and_then (templates (enough s) (declared D.rules) s 0 next) λ φs after. after_templates D φs after
 
   -- Bytes that are too many are refused; otherwise the script is what its parts are.
-  pub too_long : most_bytes < length s → ScriptReads s (Err (record { form = TooLong; at = 0 }))
-  too_long l = refusal_with (ScriptKept s) (short s (script s)) (record { form = TooLong; at = 0 }) (rw (lt-leb (length s) most_bytes l))
+  pub too_long : (e : ReadError) → FewEnough s (Err e) → ScriptReads s (Err e)
+  too_long e h = refusal_with (ScriptKept s) (short s (script s)) e (rw (h.1, lt-leb (length s) most_bytes h.0))
 
   module _ (fits : length s ≤ most_bytes) where
     script_whole : (π : Script) (r : ScriptRead) (p : Position) → script s ≡ whole π p.at → ScriptKept s π r → ScriptReads s (Ok (r, p))

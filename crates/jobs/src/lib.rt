@@ -2,7 +2,7 @@
 #![tactic(auto)]
 
 ghost use Rattle.std.specs.Prelude.{◌≡◌, replicate};
-ghost use Rattle.jobs.specs.Inner.Promises.{EndedAt, ScriptReads, SliceReads, JobReads};
+ghost use Rattle.jobs.specs.Inner.Promises.{FewEnough, EndedAt, ScriptReads, SliceReads, JobReads};
 
 use commands::{Position, ReadError};
 use pages::{MOST_BYTES, Templates};
@@ -18,9 +18,9 @@ pub struct ScriptRead {
     pub points: Points,
 }
 
-// The script that bytes begin with: its three parts, in order, with the position after it. 1 where the bytes are too many.
-fn read_script(s: &[u8]) -> Result<(ScriptRead, Position), ReadError>
-    ensures { ScriptReads s.now result }
+// Bytes that are read alone may not be too many.
+pub fn not_too_many(s: &[u8]) -> Result<(), ReadError>
+    ensures { FewEnough s.now result }
 {
     if MOST_BYTES < s.len() {
         return Err(ReadError {
@@ -28,19 +28,11 @@ fn read_script(s: &[u8]) -> Result<(ScriptRead, Position), ReadError>
             at: 0,
         });
     }
-    let (tables, next) = vocabularies::read_vocabulary(s)?;
-    let (templates, next) = pages::read_templates(tables.declared, s, next)?;
-    let (points, end) = programs::read_program(s, next, templates.count)?;
-    let read = ScriptRead {
-        tables,
-        templates,
-        points,
-    };
-    Ok((read, end))
+    Ok(())
 }
 
-// Nothing may follow the last part of some bytes.
-fn ended(s: &[u8], end: Position) -> Result<(), ReadError>
+// Nothing may follow the last part of bytes that are read alone.
+pub fn ended(s: &[u8], end: Position) -> Result<(), ReadError>
     ensures { EndedAt s.now end.at result }
 {
     if end.at < s.len() {
@@ -50,6 +42,22 @@ fn ended(s: &[u8], end: Position) -> Result<(), ReadError>
         });
     }
     Ok(())
+}
+
+// The script that bytes begin with: its three parts, in order, with the position after it. 1 where the bytes are too many.
+fn read_script(s: &[u8]) -> Result<(ScriptRead, Position), ReadError>
+    ensures { ScriptReads s.now result }
+{
+    not_too_many(s)?;
+    let (tables, next) = vocabularies::read_vocabulary(s)?;
+    let (templates, next) = pages::read_templates(tables.declared, s, next)?;
+    let (points, end) = programs::read_program(s, next, templates.count)?;
+    let read = ScriptRead {
+        tables,
+        templates,
+        points,
+    };
+    Ok((read, end))
 }
 
 // A script that is a slice of its own.

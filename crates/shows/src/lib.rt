@@ -3,23 +3,15 @@
 #![tactic(auto)]
 
 ghost use Rattle.std.specs.Prelude.{◌≡◌, ◌<◌};
-ghost use Rattle.shows.specs.Inner.Promises.{ShowsAt, HoldsEntry, HoldsSource, HoldsShown, TabledBy, DecidesShow, is_other, LowestRoot, shown_of, WrongElements};
+ghost use Rattle.shows.specs.Inner.Promises.{ShowsAt, HoldsEntry, HoldsSource, HoldsShown, TabledBy, DecidesShow, is_other, LowestRoot, WrongElements};
 
 use commands::Position;
 use graphs::Graph;
-use pages::MOST_TEMPLATES;
+use pages::{MOST_TEMPLATES, Templates};
 use patterns::Wrong;
 use programs::{Act, Statement};
 use schemes::{EMPTY, OTHER};
-use verdicts::Breach;
 use vocabularies::Tables;
-
-// What a point shows: nothing, or a page.
-#[derive(Clone, Copy)]
-pub enum Showing {
-    Nothing,
-    Page(Source),
-}
 
 // What the page of a show is made from: the value of a template variable; or a template, the frame, with that value in place of its gap
 // (document 02, F-3).
@@ -29,17 +21,12 @@ pub enum Source {
     Framed { x: u8, frame: u8, gap: u8 },
 }
 
-// What is found at a show: nothing; a root template with a page that is not exactly the root element (11); or an element that is
-// wrong in some page (12, 14 or 15), by its template, the offset of its `23` and what it breaks.
+// What is wrong in a show: a root template with a page that is not exactly the root element (11); or an element that is wrong in some
+// page (12, 14 or 15).
 #[derive(Clone, Copy)]
-pub enum Shown {
-    Right,
+pub enum WrongShow {
     NotRoot(usize),
-    Wrong {
-        template: usize,
-        at: usize,
-        breach: Breach,
-    },
+    Element(Wrong),
 }
 
 // What is worked out of the templates of a job: the gaps of each, at any depth; the contents and the gaps among its outer items; and for
@@ -52,15 +39,8 @@ pub struct TemplateTables {
     pub standing: [u64; 64],
 }
 
-// The lowest root template with a page that is not exactly the root element; or there is none.
-#[derive(Clone, Copy)]
-enum OtherRoot {
-    Nowhere,
-    At(usize),
-}
-
-// What the statement that stands at an offset shows.
-pub fn showing_at(s: &[u8], place: usize) -> Showing
+// What the statement that stands at an offset shows a page of; none where it shows nothing.
+pub fn showing_at(s: &[u8], place: usize) -> Option<Source>
     ensures { ShowsAt s.now place result }
 {
     let statement = programs::statement_at(s, Position::new(place));
@@ -70,18 +50,18 @@ pub fn showing_at(s: &[u8], place: usize) -> Showing
         second: _,
     } = statement
     else {
-        return Showing::Nothing;
+        return None;
     };
     match act {
-        Act::Show(x) => Showing::Page(Source::Variable(x)),
-        Act::ShowFramed(x, frame, gap) => Showing::Page(Source::Framed { x, frame, gap }),
-        Act::CopyTemplate(_, _) => Showing::Nothing,
-        Act::SetTemplate(_, _) => Showing::Nothing,
-        Act::CopyString(_, _) => Showing::Nothing,
-        Act::SetString(_, _) => Showing::Nothing,
-        Act::AnyString(_) => Showing::Nothing,
-        Act::Plug(_, _, _, _) => Showing::Nothing,
-        Act::PlugString(_, _, _, _) => Showing::Nothing,
+        Act::Show(x) => Some(Source::Variable(x)),
+        Act::ShowFramed(x, frame, gap) => Some(Source::Framed { x, frame, gap }),
+        Act::CopyTemplate(_, _) => None,
+        Act::SetTemplate(_, _) => None,
+        Act::CopyString(_, _) => None,
+        Act::SetString(_, _) => None,
+        Act::AnyString(_) => None,
+        Act::Plug(_, _, _, _) => None,
+        Act::PlugString(_, _, _, _) => None,
     }
 }
 
@@ -144,17 +124,15 @@ pub fn shown_graph(
 }
 
 // What is worked out of the templates, whose gaps are given, once for all shows.
-pub fn tables_of(s: &[u8], gaps: [u64; 32], starts: &[usize; 32], count: usize) -> TemplateTables
-    ensures { TabledBy s.now gaps starts.now count result }
+pub fn tables_of(s: &[u8], gaps: [u64; 32], templates: &Templates) -> TemplateTables
+    ensures { TabledBy s.now gaps templates.now.starts templates.now.count result }
 {
     let mut standing = [0u64; 64];
-    let outlines = occurrences::of_templates(s, starts, count, &mut standing);
-    let contents = outlines.contents;
-    let outer = outlines.gaps;
+    let outlines = occurrences::of_templates(s, templates, &mut standing);
     TemplateTables {
         gaps,
-        contents,
-        outer,
+        contents: outlines.contents,
+        outer: outlines.gaps,
         standing,
     }
 }
@@ -174,92 +152,67 @@ fn is_other(roots: u64, classes: [u64; 4], t: usize) -> bool
 }
 
 // 11: the lowest such template.
-fn lowest_root(roots: u64, classes: [[u64; 4]; 32], count: usize) -> OtherRoot
+fn lowest_root(roots: u64, classes: [[u64; 4]; 32], count: usize) -> Option<usize>
     requires { count < 32 }
     ensures { LowestRoot roots classes count result }
 {
-    let mut t: usize = 0;
-    while t <= count {
+    for t in 0..count + 1 {
         if is_other(roots, classes[t], t) {
-            return OtherRoot::At(t);
+            return Some(t);
         }
-        t += 1;
     }
-    OtherRoot::Nowhere
+    None
 }
 
 // 12, 14 or 15: the lowest wrong element. Its attributes and contents are told before its clauses.
 fn wrong_elements(
     s: &[u8],
     rules: Tables,
-    templates: TemplateTables,
-    count: usize,
-    starts: &[usize; 32],
+    tables: TemplateTables,
+    templates: &Templates,
     graph: &Graph,
     classes: [[u64; 4]; 32],
-) -> Wrong
-    ensures { WrongElements s.now rules templates count starts.now graph.now classes result }
+) -> Option<Wrong>
+    ensures { WrongElements s.now rules tables templates.now.count templates.now.starts graph.now classes result }
 {
-    let gaps = templates.gaps;
-    let contents = templates.contents;
-    let outer = templates.outer;
-    let standing = templates.standing;
-    let attributes = rules.attributes;
-    let held = rules.contents;
+    let count = templates.count;
     let yields = reach::yielding(classes, count);
-    let reached = reach::reached(graph, &gaps, count, yields);
-    let within = reach::contents_of(graph, &contents, &outer, count, yields);
+    let reached = reach::reached(graph, &tables.gaps, count, yields);
+    let within = reach::contents_of(graph, &tables.contents, &tables.outer, count, yields);
     let plain = reach::plainly_wrong(
         s,
-        &attributes,
-        &held,
-        starts,
-        count,
+        &rules.attributes,
+        &rules.contents,
+        templates,
         graph,
         &within,
         reached,
     );
-    let by_clause = elements::search_rules(s, rules, &standing, graph, starts, count, reached);
+    let by_clause = elements::search_rules(s, rules, &tables.standing, graph, templates, reached);
     patterns::lower(plain, by_clause)
 }
 
-fn shown_of(wrong: Wrong) -> Shown
-    ensures { result ≡ shown_of wrong }
-{
-    match wrong {
-        Wrong::Nowhere => Shown::Right,
-        Wrong::At {
-            template,
-            at,
-            breach,
-        } => Shown::Wrong {
-            template,
-            at,
-            breach,
-        },
-    }
-}
-
-// What is found at the show of a graph: 11 before a wrong element.
+// What is wrong in the show of a graph, 11 before a wrong element.
 pub fn decide(
     s: &[u8],
     rules: Tables,
-    templates: TemplateTables,
-    count: usize,
-    starts: &[usize; 32],
+    tables: TemplateTables,
+    templates: &Templates,
     graph: &Graph,
-) -> Shown
-    ensures { DecidesShow s.now rules templates count starts.now graph.now result }
+) -> Result<(), WrongShow>
+    ensures { DecidesShow s.now rules tables templates.now.count templates.now.starts graph.now result }
 {
-    if MOST_TEMPLATES < count {
-        return Shown::Right;
+    if MOST_TEMPLATES < templates.count {
+        return Ok(());
     }
     let mut classes = [[0u64; 4]; 32];
     let root = schemes::root_scheme(rules.root);
-    languages::settle(s, root, graph, starts, count, &mut classes);
-    let other = lowest_root(graphs::roots(graph), classes, count);
-    if let OtherRoot::At(t) = other {
-        return Shown::NotRoot(t);
+    languages::settle(s, root, graph, templates, &mut classes);
+    if let Some(t) = lowest_root(graphs::roots(graph), classes, templates.count) {
+        return Err(WrongShow::NotRoot(t));
     }
-    shown_of(wrong_elements(s, rules, templates, count, starts, graph, classes))
+    if let Some(wrong) = wrong_elements(s, rules, tables, templates, graph, classes) {
+        return Err(WrongShow::Element(wrong));
+    }
+    Ok(())
 }

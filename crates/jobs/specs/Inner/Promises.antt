@@ -30,6 +30,10 @@ pub record JobKept (s heads : List ℕ) (j : Job) (r : ScriptRead) : Type 0 wher
 abbrev pub short : {A : Type 0} → List ℕ → Read A → Read A
 short s r = when (leb (length s) most_bytes) (λ _. r) (λ _. refused TooLong 0)
 
+abbrev pub FewEnough : List ℕ → Result (Unit {0}) ReadError → Type 0
+FewEnough s (Ok u) = length s ≤ most_bytes
+FewEnough s (Err e) = (most_bytes < length s) × (e ≡ record { form = TooLong; at = 0 })
+
 -- The part that bytes end with: a byte after it is refused.
 abbrev pub EndedAt : List ℕ → ℕ → Result (Unit {0}) ReadError → Type 0
 EndedAt s at (Ok u) = length s ≤ at

@@ -1,5 +1,6 @@
 -- What the decision of a show promises (document 01, "Verdicts", 11 and 12; document 02, F-6).
-use Rattle.std.specs.Prelude.{ℕ, ◌≤◌, ◌<◌, ◌≡◌, List, [], Bool, true, ◌&&◌, ◌||◌, length, get_or}
+use Rattle.std.specs.Prelude.{ℕ, ◌≤◌, ◌<◌, ◌≡◌, List, [], Bool, true, ◌&&◌, ◌||◌, length, get_or, Some, None, Result, Ok, Err}
+use Rattle.std.specs.Prelude as Prelude
 use Rattle.std.proofs.Math.Option.{Option, some, none}
 use Rattle.sets.specs.Sets.{member}
 use Rattle.verdicts.specs.declared.Breach.{Breach}
@@ -23,20 +24,15 @@ use Rattle.reach.specs.Inner.Promises.{OutlinesTo}
 use Rattle.occurrences.specs.Inner.Occurrences.{Occurrences}
 use Rattle.pattern_sets.specs.Inner.PatternSets.{holds}
 use Rattle.patterns.specs.Inner.Morphisms.{empty, other, root_morphism}
-use Rattle.patterns.specs.declared.Wrong as Wrongs
 use Rattle.patterns.specs.Inner.Shows.{Least, ExactTables}
 use Rattle.patterns.specs.Inner.Shows as Decided
-use Rattle.patterns.specs.Inner.LowestWrong.{LowestBreach}
+use Rattle.patterns.specs.Inner.LowestWrong.{MaybeWrong, LowestBreach}
 use Rattle.languages.specs.Inner.Tables.{SetsAre}
 use Rattle.shows.specs.declared.TemplateTables.{TemplateTables}
-use Rattle.shows.specs.declared.Showing.{Showing}
-use Rattle.shows.specs.declared.Showing.TheVariants.{Nothing, Page}
 use Rattle.shows.specs.declared.Source.{Source}
 use Rattle.shows.specs.declared.Source.TheVariants.{Variable, Framed}
-use Rattle.shows.specs.declared.Shown.{Shown}
-use Rattle.shows.specs.declared.Shown.TheVariants.{Right, NotRoot, Wrong}
-use Rattle.shows.specs.declared.OtherRoot.{OtherRoot}
-use Rattle.shows.specs.declared.OtherRoot as OtherRoots
+use Rattle.shows.specs.declared.WrongShow.{WrongShow}
+use Rattle.shows.specs.declared.WrongShow.TheVariants.{NotRoot, Element}
 
 module _ (π : Script) (E : ℕ → Environment) (p : ℕ) where
   -- 11: the lowest root template with a page that is not exactly the root element.
@@ -51,10 +47,13 @@ module _ (π : Script) (E : ℕ → Environment) (p : ℕ) where
     pub lowest : (t' at' : ℕ) (b' : Breach) → WrongIn π E p t' at' b' → at ≤ at'
 
   -- What is found at a point.
-  abbrev pub ShowFound : Shown → Type 0
-  ShowFound Right = ShowHolds π E p
-  ShowFound (NotRoot t) = FoundNotRoot t
-  ShowFound (Wrong t at b) = FoundWrong t at b
+  abbrev pub ShowWrong : WrongShow → Type 0
+  ShowWrong (NotRoot t) = FoundNotRoot t
+  ShowWrong (Element w) = FoundWrong w.template w.at w.breach
+
+  abbrev pub ShowFound : Result (Unit {0}) WrongShow → Type 0
+  ShowFound (Ok u) = ShowHolds π E p
+  ShowFound (Err w) = ShowWrong w
 
 -- What is known at a point of a job: where its entries stand, and the gaps of all templates.
 pub record PointKept (s heads gaps : List ℕ) (p : ℕ) (j : Job) : Type 0 where
@@ -81,9 +80,9 @@ SourceFits j (Variable x) = x < 4
 SourceFits j (Framed x t g) = (x < 4) × (t ≤ length j.script.templates)
 
 -- What the points with the statement at an offset show.
-abbrev pub ShowsAt : List ℕ → ℕ → Showing → Type 0
-ShowsAt s place Nothing = (heads gaps : List ℕ) (p : ℕ) (j : Job) → PointStands s heads gaps place p j → shown_at j p ≡ none
-ShowsAt s place (Page source) = (heads gaps : List ℕ) (p : ℕ) (j : Job) → PointStands s heads gaps place p j → SourceFits j source × (shown_at j p ≡ some (closed_summary (made_from j p source)))
+abbrev pub ShowsAt : List ℕ → ℕ → Prelude.Option Source → Type 0
+ShowsAt s place None = (heads gaps : List ℕ) (p : ℕ) (j : Job) → PointStands s heads gaps place p j → shown_at j p ≡ none
+ShowsAt s place (Some source) = (heads gaps : List ℕ) (p : ℕ) (j : Job) → PointStands s heads gaps place p j → SourceFits j source × (shown_at j p ≡ some (closed_summary (made_from j p source)))
 
 -- A graph that held nothing holds the entry of a variable at a point; what a page is made from; and what its show shows.
 abbrev pub HoldsEntry : List ℕ → List ℕ → ℕ → ℕ → List ℕ → List ℕ → Type 0
@@ -121,7 +120,7 @@ pub record ShowAt (s : List ℕ) (rules : Tables) (templates : TemplateTables) (
   pub shows : shown_at j p ≡ some shown
   pub keeps : Keeps graph shown
 
-abbrev pub DecidesShow : List ℕ → Tables → TemplateTables → ℕ → List ℕ → List ℕ → Shown → Type 0
+abbrev pub DecidesShow : List ℕ → Tables → TemplateTables → ℕ → List ℕ → List ℕ → Result (Unit {0}) WrongShow → Type 0
 DecidesShow s rules templates count starts graph r = (j : Job) (p : ℕ) → ShowAt s rules templates count starts graph j p → ShowFound j.script (entries j.proposal) p r
 
 -- The steps on the way. Whether a template is a root, and some page of it is empty or other than the root alone.
@@ -129,19 +128,15 @@ abbrev pub is_other : ℕ → List ℕ → ℕ → Bool
 is_other roots classes n = member roots n && (holds classes empty || holds classes other)
 
 -- The lowest of the templates up to `count` that is such.
-abbrev pub other_root : OtherRoot → Option ℕ
-other_root OtherRoots.TheVariants.Nowhere = none
-other_root (OtherRoots.TheVariants.At t) = some t
+abbrev pub other_root : Prelude.Option ℕ → Option ℕ
+other_root None = none
+other_root (Some t) = some t
 
-abbrev pub LowestRoot : ℕ → List (List ℕ) → ℕ → OtherRoot → Type 0
+abbrev pub LowestRoot : ℕ → List (List ℕ) → ℕ → Prelude.Option ℕ → Type 0
 LowestRoot roots classes count r = Least (λ n. (n ≤ count) × (is_other roots (get_or classes n []) n ≡ true)) (other_root r)
 
-abbrev pub shown_of : Wrongs.Wrong → Shown
-shown_of Wrongs.TheVariants.Nowhere = Right
-shown_of (Wrongs.TheVariants.At t at b) = Wrong t at b
-
 -- The lowest element that is wrong in some page, where the classes of the pages of each template are given.
-abbrev pub WrongElements : List ℕ → Tables → TemplateTables → ℕ → List ℕ → List ℕ → List (List ℕ) → Wrongs.Wrong → Type 0
+abbrev pub WrongElements : List ℕ → Tables → TemplateTables → ℕ → List ℕ → List ℕ → List (List ℕ) → MaybeWrong → Type 0
 WrongElements s rules templates count starts graph classes r = (j : Job) (p : ℕ) (A : ShowAt s rules templates count starts graph j p)
     (T : Decided.Tables) → ExactTables j.script.templates A.shown j.script.vocabulary T → SetsAre j.script.templates (root_morphism j.script.vocabulary.root) T.classes classes
     → LowestBreach (WrongIn j.script (entries j.proposal) p) r
