@@ -1,4 +1,17 @@
+use mathlib.Core.Path.{sym, ◌∙◌}
+use mathlib.Core.Bool.{true}
+use Rattle.graphs.proofs.AddingAt.{adding_begins, adding_goes, adding_skips, adding_ends}
+use Rattle.graphs.proofs.add_strings.Goals.{then-has, else-has}
 use Rattle.graphs.proofs.add_strings.Goals as goal
 
+pub loop-n-init : goal.loop-n-init
+loop-n-init c = λ f R k. adding_begins true _ _ _ _ R k
+
 pub loop-n-preserved : goal.loop-n-preserved
-loop-n-preserved c = ?
+loop-n-preserved c = λ f R k. elim c.if-has.branch [
+  | then-has w ↦ rw w.graph-is (adding_goes true _ _ _ c.loop-n.n R (sym c.has.ensures ∙ w.if-has.true) c.loop-n-test.true f c.loop-n.graph _ w.add_strings_at.ensures (c.loop-n.invariant f R k))
+  | else-has w ↦ rw w.graph-is (adding_skips true _ _ _ c.loop-n.n R (sym c.has.ensures ∙ w.if-has.false) c.loop-n.graph (c.loop-n.invariant f R k))
+]
+
+pub returns : goal.returns
+returns c = λ f R k. adding_ends true _ _ _ _ R _ c.loop-n-test.false (c.loop-n.invariant f R k)
