@@ -8,16 +8,17 @@ use lib.ListN.{length, get_or-eq_default}
 use lib.Dec.{leb, ltb, eqb}
 use borrow.Author.Tests.{leb-true, ltb-true, ltb-false, lt-ltb, le-ltb, le-leb, eq-eqb, ne_eqb, eqb-true, eqb-false}
 use Rattle.sets.proofs.Booleans.{and_left, and_right}
-use Rattle.std.specs.Prelude.{Option, Some, None}
+use Rattle.std.specs.Prelude.{Option, Some, None, Err}
 use Rattle.verdicts.specs.declared.Form.{Form}
 use Rattle.verdicts.specs.declared.Form.TheVariants.{Ended, NotAllowed, OutOfRange}
 use Rattle.commands.specs.declared.Context.{Context}
 use Rattle.commands.specs.declared.Context.TheVariants.{Formulas}
 use Rattle.commands.specs.declared.Position.{Position}
+use Rattle.commands.specs.declared.ReadError.{ReadError}
 use Rattle.commands.specs.declared.Decoded.{Decoded}
 use Rattle.commands.specs.declared.Decoded.TheVariants.{Moved, Refused}
 use Rattle.commands.specs.Commands.{Format, formats, lookup, Operand, element, attribute, string, widths, byte, operands_of, operand_bytes, in_range, all_in_range, between, allowed, command}
-use Rattle.commands.specs.Inner.Parts.{Single, stepped, past}
+use Rattle.commands.specs.Inner.Parts.{Single, stepped, part_of, past}
 use Rattle.commands.specs.Reading.{Read, whole, refused, unfinished, and_then, on_decoded, on_command, when}
 
 pub byte_past : (s : List ℕ) (at : ℕ) → length s ≤ at → byte s at ≡ 0
@@ -57,6 +58,11 @@ module _ (s : List ℕ) (at code : ℕ) where
       go true true inside same q = let z : ◌≡◌ {A = ℕ} 0 1 = cc in omega arith
       go true false inside same q = eqb-false _ _ same is
       go false u inside same q = some (sym is ∙ byte_past s at (ltb-false _ _ inside))
+
+-- The refusal of a command that was not read.
+pub refused_with : (d : Decoded) (e : ReadError) → part_of d ≡ Err e → d ≡ Refused e.form e.at
+refused_with (Moved code next) e h = absurd (let z : ◌≡◌ {A = ℕ} 0 1 = cc in omega arith)
+refused_with (Refused f n) e h = cc
 
 -- The five answers, each from the tests that lead to it.
 module _ (x : Context) (s : List ℕ) (at : ℕ) where

@@ -7,15 +7,12 @@ use native.Mathlib.Omega.{arith}
 use lib.ListN.{length}
 use lib.Dec.{leb, ltb, eqb}
 use borrow.Author.Tests.{le-leb, lt-leb, eq-eqb, ne_eqb, eqb-true, eqb-false, leb-true, leb-false, ltb-true, ltb-false}
-use Rattle.verdicts.specs.declared.Form.{Form}
+use Rattle.std.specs.Prelude.{Option, Some, None, Result, Ok, Err}
 use Rattle.verdicts.specs.declared.Form.TheVariants.{TooManyFacts}
 use Rattle.commands.specs.declared.Position.{Position}
-use Rattle.commands.specs.declared.Part.{Part}
-use Rattle.commands.specs.declared.Part.TheVariants.{Whole, Refused}
+use Rattle.commands.specs.declared.ReadError.{ReadError}
 use Rattle.commands.specs.Commands.{byte}
 use Rattle.commands.specs.Reading.{Read, whole, refused, unfinished, and_then, when}
-use Rattle.commands.specs.declared.Past.{Past}
-use Rattle.commands.specs.declared.Past.TheVariants.{Over, Other}
 use Rattle.commands.specs.Inner.Parts.{Agrees, Enough, past}
 use Rattle.commands.proofs.Laws.{byte_past, past_over, past_other, and_then_whole}
 use Rattle.vocabularies.specs.Vocabulary.{Formula}
@@ -137,40 +134,40 @@ clauses_finishes (suc f) s at h = go (λ at' h'. clauses_finishes f s at' h') (e
 
 -- What is read from here on is what is read from the start.
 pub record ClausesContinue (s : List ℕ) (start at : ℕ) : Type 0 where
-  pub continues : (r : Part) → ClausesRead s at r → ClausesRead s start r
+  pub continues : (r : Result Position ReadError) → ClausesRead s at r → ClausesRead s start r
 
 pub clauses_start : (s : List ℕ) (at : ℕ) → ClausesContinue s at at
 clauses_start s at = record { continues = λ r h. h }
 
-module _ (s : List ℕ) (start : ℕ) (place : Position) (on : ClausesContinue s start place.at) (mark : Past) (m : mark ≡ past s place.at 0x04) where
-  pub clauses_end : mark ≡ Other → ClausesRead s start (Whole place)
-  clauses_end e = on.continues (Whole place) λ f h. agrees f h
+module _ (s : List ℕ) (start : ℕ) (place : Position) (on : ClausesContinue s start place.at) (mark : Option Position) (m : mark ≡ past s place.at 0x04) where
+  pub clauses_end : mark ≡ None → ClausesRead s start (Ok place)
+  clauses_end e = on.continues (Ok place) λ f h. agrees f h
     where
-      agrees : (f : ℕ) → Enough s place.at f → Agrees (clauses f s place.at) (Whole place)
+      agrees : (f : ℕ) → Enough s place.at f → Agrees (clauses f s place.at) (Ok place)
       agrees zero h = absurd (omega arith)
       agrees (suc f) h = rw (step_end f s place.at (past_other s place.at 0x04 mark m e (λ z. absurd (omega arith)))) (refl, tt)
 
-  module _ (first : Position) (e : mark ≡ Over first) where
+  module _ (first : Position) (e : mark ≡ Some first) where
     o : (place.at < length s) × (byte s place.at ≡ 0x04) × (first.at ≡ place.at + 1)
     o = past_over s place.at 0x04 mark first m e
 
     here : byte s place.at ≡ 0x04
     here = o.1
 
-    module _ (r : Part) (read : FormulaReads s 0 first.at r) where
+    module _ (r : Result Position ReadError) (read : FormulaReads s 0 first.at r) where
       -- What is read behind the `04`.
       reads : (f : ℕ) → Enough s place.at (suc f) → Agrees (formula f s 0 (place.at + 1)) r
       reads f h = rw o.2 at (read f (omega (arith, o.0, o.2)))
 
-      pub clauses_refused : (i : Form) (n : ℕ) → r ≡ Refused i n → ClausesRead s start r
-      clauses_refused i n q = on.continues r λ f h. agrees f h
+      pub clauses_refused : (i : ReadError) → r ≡ Err i → ClausesRead s start (Err i)
+      clauses_refused i q = on.continues (Err i) λ f h. agrees f h
         where
-          agrees : (f : ℕ) → Enough s place.at f → Agrees (clauses f s place.at) r
+          agrees : (f : ℕ) → Enough s place.at f → Agrees (clauses f s place.at) (Err i)
           agrees zero h = absurd (omega arith)
           agrees (suc f) h =
-              rw (q, step f s place.at here, agrees_refused (λ ψ end. Unit {0}) (formula f s 0 (place.at + 1)) i n (rw q at (reads f h))) (refl, refl)
+              rw (step f s place.at here, agrees_refused (λ ψ end. Unit {0}) (formula f s 0 (place.at + 1)) i (rw q at (reads f h))) (refl, refl)
 
-      module _ (next : Position) (q : r ≡ Whole next) where
+      module _ (next : Position) (q : r ≡ Ok next) where
         pub clause_falls : length s - next.at < length s - place.at
         clause_falls = let n = formula_moved s 0 first.at r read next q in omega (arith, o.0, o.2)
 
@@ -184,10 +181,10 @@ module _ (s : List ℕ) (start : ℕ) (place : Position) (on : ClausesContinue s
               let a = agrees_whole (λ ψ end. Unit {0}) (formula f s 0 (place.at + 1)) next (rw q at (reads f h)) in
               (a.0, a.1, facts f 0 a.0 (ap (formula f s 0) o.2 ∙ a.1))
 
-          pub clauses_many : t ≡ true → ClausesRead s start (Refused TooManyFacts place.at)
-          clauses_many l = on.continues (Refused TooManyFacts place.at) λ f h. agrees f h
+          pub clauses_many : t ≡ true → ClausesRead s start (Err (record { form = TooManyFacts; at = place.at }))
+          clauses_many l = on.continues (Err (record { form = TooManyFacts; at = place.at })) λ f h. agrees f h
             where
-              agrees : (f : ℕ) → Enough s place.at f → Agrees (clauses f s place.at) (Refused TooManyFacts place.at)
+              agrees : (f : ℕ) → Enough s place.at f → Agrees (clauses f s place.at) (Err (record { form = TooManyFacts; at = place.at }))
               agrees zero h = absurd (omega arith)
               agrees (suc f) h =
                   let a = formed f h in
@@ -196,7 +193,7 @@ module _ (s : List ℕ) (start : ℕ) (place : Position) (on : ClausesContinue s
           pub clauses_more : t ≡ false → ClausesContinue s start next.at
           clauses_more l = record { continues = λ p h. on.continues p λ f n. agrees p h f n }
             where
-              agrees : (p : Part) → ClausesRead s next.at p → (f : ℕ) → Enough s place.at f → Agrees (clauses f s place.at) p
+              agrees : (p : Result Position ReadError) → ClausesRead s next.at p → (f : ℕ) → Enough s place.at f → Agrees (clauses f s place.at) p
               agrees p h zero n = absurd (omega arith)
               agrees p h (suc f) n =
                   let a = formed f n in

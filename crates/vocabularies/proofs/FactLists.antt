@@ -13,7 +13,6 @@ use Rattle.strings.specs.declared.StringSet.{StringSet}
 use Rattle.strings.specs.Inner.Promises.{set_number}
 use Rattle.vocabularies.specs.declared.Fact as Kept
 use Rattle.vocabularies.specs.declared.Fact.TheVariants.{Carried, Present, Ordered, Valued}
-use Rattle.vocabularies.specs.declared.KeptFact.{KeptFact}
 use Rattle.vocabularies.specs.declared.Facts.{Facts}
 use Rattle.vocabularies.specs.Facts.{Fact, carried, present, ordered, valued, same_fact, is_among, add}
 use Rattle.vocabularies.specs.Inner.Promises.{meaning_of, kept_at, Stored, Represents, TellsAmong, Adds}
@@ -111,22 +110,22 @@ module _ (t : Facts) (x : Kept.Fact) where
         (record { room = h.room; counts = omega (arith, longer (meaning_of x) xs, h.counts); stores = λ i l m. first_eight xs h many i l })
 
     pub adds_new : r ≡ false → t.count < 8
-        → Adds t x (record { kept = set t.kept t.count (record { fact = x }); count = t.count + 1 })
+        → Adds t x (record { kept = set t.kept t.count x; count = t.count + 1 })
     adds_new e few xs h = rw (new (meaning_of x) xs (sym (told xs h) ∙ e))
-        (record { room = length-set t.kept t.count (record { fact = x }) ∙ h.room; counts = omega (arith, longer (meaning_of x) xs, h.counts); stores = λ i l m. go i (eqb i t.count) refl l m })
+        (record { room = length-set t.kept t.count x ∙ h.room; counts = omega (arith, longer (meaning_of x) xs, h.counts); stores = λ i l m. go i (eqb i t.count) refl l m })
       where
         go : (i : ℕ) (b : Bool) → eqb i t.count ≡ b → i < 8 → i < length (xs ++ (meaning_of x ∷ []))
-            → Stored (record { kept = set t.kept t.count (record { fact = x }); count = t.count + 1 }) i (get_or (xs ++ (meaning_of x ∷ [])) i (present 0))
+            → Stored (record { kept = set t.kept t.count x; count = t.count + 1 }) i (get_or (xs ++ (meaning_of x ∷ [])) i (present 0))
         go i true e l m =
             let q : i ≡ t.count = eqb-true i t.count e in
             let n : i ≡ length xs = omega (arith, h.counts) in
-            ap (λ (k : ℕ). meaning_of (get_or (set t.kept t.count (record { fact = x })) k (record { fact = Carried 0 })).fact) q
-            ∙ ap (λ (k : KeptFact). meaning_of k.fact) (get_or-set_same t.kept t.count (record { fact = x }) (record { fact = Carried 0 }) (omega (arith, h.room)))
+            ap (λ (k : ℕ). meaning_of (get_or (set t.kept t.count x) k (Carried 0))) q
+            ∙ ap meaning_of (get_or-set_same t.kept t.count x (Carried 0) (omega (arith, h.room)))
             ∙ sym (ap (λ (k : ℕ). get_or (xs ++ (meaning_of x ∷ [])) k (present 0)) n ∙ get_or-append_seam xs (meaning_of x) [] (present 0))
         go i false e l m =
             let q : i ≡ t.count → ⊥ = eqb-false i t.count e in
             let n : i < length xs = omega (arith, longer (meaning_of x) xs, h.counts, q) in
-            ap (λ (k : KeptFact). meaning_of k.fact) (get_or-set_other t.kept t.count i (record { fact = x }) (record { fact = Carried 0 }) q)
+            ap meaning_of (get_or-set_other t.kept t.count i x (Carried 0) q)
             ∙ h.stores i l n
             ∙ sym (get_or-append xs (meaning_of x ∷ []) (present 0) i n)
 

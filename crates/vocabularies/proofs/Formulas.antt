@@ -7,18 +7,18 @@ use native.Mathlib.Omega.{arith}
 use lib.ListN.{length}
 use lib.Dec.{ltb, eqb}
 use borrow.Author.Tests.{lt-ltb, le-ltb, eq-eqb, ne_eqb, eqb-false}
+use Rattle.std.specs.Prelude.{Result, Ok, Err}
 use Rattle.verdicts.specs.declared.Form.{Form}
 use Rattle.verdicts.specs.declared.Form.TheVariants.{TooMany}
 use Rattle.commands.specs.declared.Context.TheVariants.{Formulas}
 use Rattle.commands.specs.declared.Position.{Position}
 use Rattle.commands.specs.declared.Decoded.{Decoded}
 use Rattle.commands.specs.declared.Decoded.TheVariants as Decodeds
-use Rattle.commands.specs.declared.Part.{Part}
-use Rattle.commands.specs.declared.Part.TheVariants.{Whole, Refused}
+use Rattle.commands.specs.declared.ReadError.{ReadError}
 use Rattle.commands.specs.Commands.{command}
 use Rattle.commands.specs.Reading.{Read, whole, refused, unfinished, and_then, when}
 use Rattle.commands.specs.Inner.Parts.{Agrees, Enough, part_of}
-use Rattle.commands.proofs.Laws.{moved, MovedOver}
+use Rattle.commands.proofs.Laws.{refused_with, moved, MovedOver}
 use Rattle.vocabularies.specs.Vocabulary.{Formula, conj, disj, neg, truth, attr, content, order, value}
 use Rattle.vocabularies.specs.VocabularyReading.{Shape, binary, unary, leaf, shape_at, formula_nesting, formula}
 use Rattle.vocabularies.specs.Inner.Promises.{FormulaReads}
@@ -238,9 +238,9 @@ formula_raised (suc f) g s depth at ψ end e =
 
 -- What code that reads a formula does at each return.
 module _ (s : List ℕ) (depth at : ℕ) where
-  pub formula_refused : (d : Decoded) (i : Form) (n : ℕ) (p : Part) → d ≡ command Formulas s at → d ≡ Decodeds.Refused i n → p ≡ part_of d → FormulaReads s depth at p
-  formula_refused d i n p c e q zero h = absurd (omega arith)
-  formula_refused d i n p c e q (suc f) h = rw (q, e, step_refused f s depth at i n (sym c ∙ e)) (refl, refl)
+  pub formula_refused : (d : Decoded) (e : ReadError) → d ≡ command Formulas s at → part_of d ≡ Err e → FormulaReads s depth at (Err e)
+  formula_refused d e c q zero h = absurd (omega arith)
+  formula_refused d e c q (suc f) h = rw (step_refused f s depth at e.form e.at (sym c ∙ refused_with d e q)) (refl, refl)
 
   module _ (d : Decoded) (code : ℕ) (next : Position) (c : d ≡ command Formulas s at) (e : d ≡ Decodeds.Moved code next) where
     m : MovedOver Formulas s at code next
@@ -249,27 +249,27 @@ module _ (s : List ℕ) (depth at : ℕ) where
     stepped : (f : ℕ) (shape : Shape) → shape_at s at code ≡ shape → formula (suc f) s depth at ≡ shaped f s depth at next.at shape
     stepped f shape q = rw (step f s depth at code next (sym c ∙ e), q)
 
-    pub formula_deep_two : 0x10 ≤ code → code < 0x12 → formula_nesting ≤ depth → FormulaReads s depth at (Refused TooMany at)
+    pub formula_deep_two : 0x10 ≤ code → code < 0x12 → formula_nesting ≤ depth → FormulaReads s depth at (Err (record { form = TooMany; at = at }))
     unfolding shaped
     formula_deep_two l k deep zero h = absurd (omega arith)
     formula_deep_two l k deep (suc f) h = let w = two_shape s at code l k in rw (stepped f (binary w.0) w.1, le-ltb depth formula_nesting deep) (refl, refl)
 
-    pub formula_deep_one : code ≡ 0x12 → formula_nesting ≤ depth → FormulaReads s depth at (Refused TooMany at)
+    pub formula_deep_one : code ≡ 0x12 → formula_nesting ≤ depth → FormulaReads s depth at (Err (record { form = TooMany; at = at }))
     unfolding shaped
     formula_deep_one k deep zero h = absurd (omega arith)
     formula_deep_one k deep (suc f) h = rw (stepped f (unary neg) (one_shape s at code k), le-ltb depth formula_nesting deep) (refl, refl)
 
     module _ (shallow : depth < formula_nesting) where
-      module _ (l : 0x10 ≤ code) (k : code < 0x12) (first : Part) (x : FormulaReads s (depth + 1) next.at first) where
-        pub formula_first : (i : Form) (n : ℕ) → first ≡ Refused i n → FormulaReads s depth at first
+      module _ (l : 0x10 ≤ code) (k : code < 0x12) (first : Result Position ReadError) (x : FormulaReads s (depth + 1) next.at first) where
+        pub formula_first : (i : ReadError) → first ≡ Err i → FormulaReads s depth at (Err i)
         unfolding shaped
-        formula_first i n q zero h = absurd (omega arith)
-        formula_first i n q (suc f) h =
+        formula_first i q zero h = absurd (omega arith)
+        formula_first i q (suc f) h =
             let w = two_shape s at code l k in
-            let y = agrees_refused (λ ψ end. Unit {0}) (formula f s (depth + 1) next.at) i n (rw q at (x f (omega (arith, m)))) in
-            rw (q, stepped f (binary w.0) w.1, lt-ltb depth formula_nesting shallow, y) (refl, refl)
+            let y = agrees_refused (λ ψ end. Unit {0}) (formula f s (depth + 1) next.at) i (rw q at (x f (omega (arith, m)))) in
+            rw (stepped f (binary w.0) w.1, lt-ltb depth formula_nesting shallow, y) (refl, refl)
 
-        pub formula_two : (middle : Position) (r : Part) → first ≡ Whole middle → FormulaReads s (depth + 1) middle.at r → FormulaReads s depth at r
+        pub formula_two : (middle : Position) (r : Result Position ReadError) → first ≡ Ok middle → FormulaReads s (depth + 1) middle.at r → FormulaReads s depth at r
         unfolding shaped
         formula_two middle r q y zero h = absurd (omega arith)
         formula_two middle r q y (suc f) h =
@@ -279,42 +279,42 @@ module _ (s : List ℕ) (depth at : ℕ) where
             rw (stepped f (binary w.0) w.1, lt-ltb depth formula_nesting shallow, a.1)
             (last_agrees (formula f s (depth + 1) middle.at) (w.0 a.0) r (y f (omega (arith, m))))
 
-      pub formula_one : code ≡ 0x12 → (r : Part) → FormulaReads s (depth + 1) next.at r → FormulaReads s depth at r
+      pub formula_one : code ≡ 0x12 → (r : Result Position ReadError) → FormulaReads s (depth + 1) next.at r → FormulaReads s depth at r
       unfolding shaped
       formula_one k r x zero h = absurd (omega arith)
       formula_one k r x (suc f) h =
           rw (stepped f (unary neg) (one_shape s at code k), lt-ltb depth formula_nesting shallow)
           (last_agrees (formula f s (depth + 1) next.at) neg r (x f (omega (arith, m))))
 
-    formula_leaf : (0x10 ≤ code → code ≤ 0x12 → ⊥) → FormulaReads s depth at (Whole next)
+    formula_leaf : (0x10 ≤ code → code ≤ 0x12 → ⊥) → FormulaReads s depth at (Ok next)
     unfolding shaped
     formula_leaf l zero h = absurd (omega arith)
     formula_leaf l (suc f) h = let q = leaf_shape s at code l in rw (stepped f (leaf q.0) q.1) (refl, tt)
 
-    pub formula_low : code < 0x10 → FormulaReads s depth at (Whole next)
+    pub formula_low : code < 0x10 → FormulaReads s depth at (Ok next)
     formula_low l = formula_leaf (λ a b. omega arith)
 
-    pub formula_high : 0x12 ≤ code → (code ≡ 0x12 → ⊥) → FormulaReads s depth at (Whole next)
+    pub formula_high : 0x12 ≤ code → (code ≡ 0x12 → ⊥) → FormulaReads s depth at (Ok next)
     formula_high l n = formula_leaf (λ a b. n (omega arith))
 
 -- What code that read a formula has where one can be read there.
-module _ (s : List ℕ) (depth at : ℕ) (r : Part) (x : FormulaReads s depth at r) where
-  pub formula_whole : (f : ℕ) (ψ : Formula) (end : ℕ) → formula f s depth at ≡ whole ψ end → r ≡ Whole (record { at = end })
+module _ (s : List ℕ) (depth at : ℕ) (r : Result Position ReadError) (x : FormulaReads s depth at r) where
+  pub formula_whole : (f : ℕ) (ψ : Formula) (end : ℕ) → formula f s depth at ≡ whole ψ end → r ≡ Ok (record { at = end })
   formula_whole f ψ end e = by_part r refl (rw (formula_raised f (plenty s at) s depth at ψ end e) at (x (f + plenty s at) (omega (arith, is_plenty s at))))
     where
-      by_part : (p : Part) → r ≡ p → Agrees (whole ψ end) p → r ≡ Whole (record { at = end })
-      by_part (Whole p) q a = q ∙ ap (λ (n : ℕ). Whole (record { at = n })) a.0
-      by_part (Refused i n) q a = absurd a
+      by_part : (p : Result Position ReadError) → r ≡ p → Agrees (whole ψ end) p → r ≡ Ok (record { at = end })
+      by_part (Ok p) q a = q ∙ ap (λ (n : ℕ). Ok (record { at = n })) a.0
+      by_part (Err i) q a = absurd a
 
   -- Code that read a formula whole stands behind its start, and within the bytes.
-  pub formula_moved : (p : Position) → r ≡ Whole p → (at < p.at) × (p.at ≤ length s)
+  pub formula_moved : (p : Position) → r ≡ Ok p → (at < p.at) × (p.at ≤ length s)
   formula_moved p q =
       let a = agrees_whole (λ ψ end. Unit {0}) (formula (plenty s at) s depth at) p (rw q at (x (plenty s at) (is_plenty s at))) in
       formula_ends (plenty s at) s depth at a.0 p.at a.1
 
 -- The bytes that are left fall over a command and a formula.
 pub formula_falls : (s : List ℕ) (t at code : ℕ) (d : Decoded) (next : Position) → length s - at ≡ t → d ≡ command Formulas s at → d ≡ Decodeds.Moved code next
-    → (depth : ℕ) (first : Part) (middle : Position) → FormulaReads s depth next.at first → first ≡ Whole middle → length s - middle.at < t
+    → (depth : ℕ) (first : Result Position ReadError) (middle : Position) → FormulaReads s depth next.at first → first ≡ Ok middle → length s - middle.at < t
 formula_falls s t at code d next l c e depth first middle x q =
     let m = moved Formulas s at code next (sym c ∙ e) in
     let n = formula_moved s depth next.at first x middle q in

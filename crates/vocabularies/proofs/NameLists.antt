@@ -7,6 +7,7 @@ use mathlib.Core.Bool.{Bool, true, false, not, ◌||◌, or-false, and-true}
 use native.Mathlib.Omega.{arith}
 use lib.Dec.{leb, eqb}
 use borrow.Author.Tests.{le-leb, lt-leb, eqb-true, leb-true, leb-false, not-true, not-false}
+use Rattle.std.specs.Prelude.{Result, Ok, Err}
 use Rattle.verdicts.specs.declared.Form.{Form}
 use Rattle.verdicts.specs.declared.Form.TheVariants.{NotRising}
 use Rattle.sets.specs.Sets.{member}
@@ -16,17 +17,15 @@ use Rattle.commands.specs.declared.Context.TheVariants.{Attributes, Contents}
 use Rattle.commands.specs.declared.Position.{Position}
 use Rattle.commands.specs.declared.Decoded.{Decoded}
 use Rattle.commands.specs.declared.Decoded.TheVariants as Decodeds
-use Rattle.commands.specs.declared.Part.{Part}
-use Rattle.commands.specs.declared.Part.TheVariants.{Whole, Refused}
+use Rattle.commands.specs.declared.ReadError.{ReadError}
 use Rattle.commands.specs.Commands.{byte, allowed, command, operands_of, in_range, all_in_range, attribute, content}
-use Rattle.commands.specs.Inner.Parts.{Single, AgreesAs, Enough}
+use Rattle.commands.specs.Inner.Parts.{Single, part_of, AgreesWith, Enough}
 use Rattle.commands.specs.Reading.{Read, whole, refused, unfinished, and_then}
-use Rattle.commands.proofs.Laws.{moved, MovedOver}
-use Rattle.vocabularies.specs.declared.Names.{Names}
+use Rattle.commands.proofs.Laws.{refused_with, moved, MovedOver}
 use Rattle.vocabularies.specs.Vocabulary.{is_in}
 use Rattle.vocabularies.specs.VocabularyReading.{rising}
-use Rattle.vocabularies.specs.Inner.Promises.{part_of, NamesRead}
-use Rattle.vocabularies.proofs.Parts.{last_agrees_as, last_whole, Finished, last_finishes}
+use Rattle.vocabularies.specs.Inner.Promises.{NamesRead}
+use Rattle.vocabularies.proofs.Parts.{last_agrees_with, last_whole, Finished, last_finishes}
 
 -- One step of the definition.
 module _ (f : ℕ) (x : Context) (s : List ℕ) (least at : ℕ) where
@@ -124,24 +123,24 @@ operand_low x s at code next m (inr k) =
     omega arith
 
 -- What code that reads a list does: from a place on, with the names so far in a set.
-abbrev pub NamesFrom : List ℕ → Context → ℕ → ℕ → ℕ → Names → Type 0
+abbrev pub NamesFrom : List ℕ → Context → ℕ → ℕ → ℕ → Result (ℕ × Position) ReadError → Type 0
 NamesFrom s x least at set r =
-    (f : ℕ) → Enough s at f → AgreesAs (λ ns end. (k : ℕ) → member r.set k ≡ (is_in k ns || member set k)) (rising f x s least at) r.part
+    (f : ℕ) → Enough s at f → AgreesWith (λ ns all. (k : ℕ) → member all k ≡ (is_in k ns || member set k)) (rising f x s least at) r
 
 -- What is read from here on is what is read from the start.
 pub record NamesContinue (s : List ℕ) (x : Context) (start least at set : ℕ) : Type 0 where
-  pub continues : (r : Names) → NamesFrom s x least at set r → NamesRead s x start r
+  pub continues : (r : Result (ℕ × Position) ReadError) → NamesFrom s x least at set r → NamesRead s x start r
 
 pub names_start : (s : List ℕ) (x : Context) (at : ℕ) → NamesContinue s x at 0 at 0
-names_start s x at = record { continues = λ r h f e. of_empty r (rising f x s 0 at) r.part (h f e) }
+names_start s x at = record { continues = λ r h f e. of_empty (rising f x s 0 at) r (h f e) }
   where
-    of_empty : (r : Names) (y : Read (List ℕ)) (p : Part) → AgreesAs (λ ns end. (k : ℕ) → member r.set k ≡ (is_in k ns || member 0 k)) y p
-        → AgreesAs (λ ns end. (k : ℕ) → member r.set k ≡ is_in k ns) y p
-    of_empty r (whole ns end) (Whole p) h = (h.0, λ k. rw (h.1 k, member_zero k) (or-false (is_in k ns)))
-    of_empty r (whole ns end) (Refused i n) h = h
-    of_empty r (refused i n) (Whole p) h = h
-    of_empty r (refused i n) (Refused i' n') h = h
-    of_empty r unfinished p h = h
+    of_empty : (y : Read (List ℕ)) (r : Result (ℕ × Position) ReadError) → AgreesWith (λ ns all. (k : ℕ) → member all k ≡ (is_in k ns || member 0 k)) y r
+        → AgreesWith (λ ns all. (k : ℕ) → member all k ≡ is_in k ns) y r
+    of_empty (whole ns end) (Ok (all, p)) h = (h.0, λ k. rw (h.1 k, member_zero k) (or-false (is_in k ns)))
+    of_empty (whole ns end) (Err e) h = h
+    of_empty (refused i n) (Ok (all, p)) h = h
+    of_empty (refused i n) (Err e) h = h
+    of_empty unfinished r h = h
 
 one_more : (n i set : Bool) → (i || (n || set)) ≡ ((n || i) || set)
 one_more true true set = refl
@@ -152,27 +151,27 @@ module _ (s : List ℕ) (x : Context) (start least set : ℕ) (place : Position)
   allows : (u : Bool) → t ≡ u → allowed x (byte s place.at) ≡ u
   allows u e = rw (← first, ← told) e
 
-  pub names_end : not t ≡ true → NamesRead s x start (record { part = Whole place; set = set })
+  pub names_end : not t ≡ true → NamesRead s x start (Ok (set, place))
   unfolding is_in
-  names_end e = on.continues (record { part = Whole place; set = set }) λ f h. agrees f h
+  names_end e = on.continues (Ok (set, place)) λ f h. agrees f h
     where
-      agrees : (f : ℕ) → Enough s place.at f → AgreesAs (λ ns end. (k : ℕ) → member set k ≡ (is_in k ns || member set k)) (rising f x s least place.at) (Whole place)
+      agrees : (f : ℕ) → Enough s place.at f → AgreesWith (λ ns all. (k : ℕ) → member all k ≡ (is_in k ns || member set k)) (rising f x s least place.at) (Ok (set, place))
       agrees zero h = absurd (omega arith)
       agrees (suc f) h = rw (step_end f x s least place.at (allows false (not-true t e))) (refl, λ k. refl)
 
   module _ (e : not t ≡ false) (d : Decoded) (c : d ≡ command x s place.at) where
-    pub names_refused : (i : Form) (n : ℕ) (p : Part) → d ≡ Decodeds.Refused i n → p ≡ part_of d → NamesRead s x start (record { part = p; set = set })
-    names_refused i n p q r = on.continues (record { part = p; set = set }) λ f h. agrees f h
+    pub names_refused : (i : ReadError) → part_of d ≡ Err i → NamesRead s x start (Err i)
+    names_refused i q = on.continues (Err i) λ f h. agrees f h
       where
-        agrees : (f : ℕ) → Enough s place.at f → AgreesAs (λ ns end. (k : ℕ) → member set k ≡ (is_in k ns || member set k)) (rising f x s least place.at) p
+        agrees : (f : ℕ) → Enough s place.at f → AgreesWith (λ ns all. (k : ℕ) → member all k ≡ (is_in k ns || member set k)) (rising f x s least place.at) (Err i)
         agrees zero h = absurd (omega arith)
-        agrees (suc f) h = rw (step_refused f x s least place.at (allows true (not-false t e)) i n (sym c ∙ q), r, q) (refl, refl)
+        agrees (suc f) h = rw (step_refused f x s least place.at (allows true (not-false t e)) i.form i.at (sym c ∙ refused_with d i q)) (refl, refl)
 
     module _ (code : ℕ) (next : Position) (q : d ≡ Decodeds.Moved code next) (name : ℕ) (named : name ≡ byte s (place.at + 1)) where
-      pub names_fall : name < least → NamesRead s x start (record { part = Refused NotRising place.at; set = set })
-      names_fall l = on.continues (record { part = Refused NotRising place.at; set = set }) λ f h. agrees f h
+      pub names_fall : name < least → NamesRead s x start (Err (record { form = NotRising; at = place.at }))
+      names_fall l = on.continues (Err (record { form = NotRising; at = place.at })) λ f h. agrees f h
         where
-          agrees : (f : ℕ) → Enough s place.at f → AgreesAs (λ ns end. (k : ℕ) → member set k ≡ (is_in k ns || member set k)) (rising f x s least place.at) (Refused NotRising place.at)
+          agrees : (f : ℕ) → Enough s place.at f → AgreesWith (λ ns all. (k : ℕ) → member all k ≡ (is_in k ns || member set k)) (rising f x s least place.at) (Err (record { form = NotRising; at = place.at }))
           agrees zero h = absurd (omega arith)
           agrees (suc f) h = rw (step_falls f x s least place.at (allows true (not-false t e)) code next (sym c ∙ q) (rw (← named) l)) (refl, refl)
 
@@ -180,14 +179,14 @@ module _ (s : List ℕ) (x : Context) (start least set : ℕ) (place : Position)
       unfolding is_in
       names_more set' l w = record { continues = λ r h. on.continues r λ f n. agrees r h f n }
         where
-          agrees : (r : Names) → NamesFrom s x (name + 1) next.at set' r → (f : ℕ) → Enough s place.at f
-              → AgreesAs (λ ns end. (k : ℕ) → member r.set k ≡ (is_in k ns || member set k)) (rising f x s least place.at) r.part
+          agrees : (r : Result (ℕ × Position) ReadError) → NamesFrom s x (name + 1) next.at set' r → (f : ℕ) → Enough s place.at f
+              → AgreesWith (λ ns all. (k : ℕ) → member all k ≡ (is_in k ns || member set k)) (rising f x s least place.at) r
           agrees r h zero n = absurd (omega arith)
           agrees r h (suc f) n =
               let m = moved x s place.at code next (sym c ∙ q) in
               rw (step_more f x s least place.at (allows true (not-false t e)) code next (sym c ∙ q) (rw (← named) l), ← named)
-              (last_agrees_as (λ ns end. (k : ℕ) → member r.set k ≡ (is_in k ns || member set' k)) (λ ns end. (k : ℕ) → member r.set k ≡ (is_in k ns || member set k))
-              (rising f x s (name + 1) next.at) (◌∷◌ name) r.part (λ ns end p k. rw (p k, w k) (one_more (eqb k name) (is_in k ns) (member set k))) (h f (omega arith)))
+              (last_agrees_with (λ ns all. (k : ℕ) → member all k ≡ (is_in k ns || member set' k)) (λ ns all. (k : ℕ) → member all k ≡ (is_in k ns || member set k))
+              (rising f x s (name + 1) next.at) (◌∷◌ name) r (λ ns all p k. rw (p k, w k) (one_more (eqb k name) (is_in k ns) (member set k))) (h f (omega arith)))
 
       pub name_low : (x ≡ Attributes) ⊎ (x ≡ Contents) → name < 64
       name_low k = rw named (operand_low x s place.at code next (moved x s place.at code next (sym c ∙ q)) k)

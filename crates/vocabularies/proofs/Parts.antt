@@ -69,6 +69,14 @@ module _ {A B : Type 0} where
   last_agrees_as P Q (refused f n) k (Err e) q h = h
   last_agrees_as P Q unfinished k r q h = h
 
+  pub last_agrees_with : {C : Type 0} (P : A → C → Type 0) (Q : B → C → Type 0) (x : Read A) (k : A → B) (r : Result (C × Position) ReadError)
+      → ((a : A) (c : C) → P a c → Q (k a) c) → AgreesWith P x r → AgreesWith Q (and_then x (λ a end. whole (k a) end)) r
+  last_agrees_with P Q (whole a end) k (Ok (c, p)) q h = (h.0, q a c h.1)
+  last_agrees_with P Q (whole a end) k (Err e) q h = h
+  last_agrees_with P Q (refused f n) k (Ok (c, p)) q h = h
+  last_agrees_with P Q (refused f n) k (Err e) q h = h
+  last_agrees_with P Q unfinished k r q h = h
+
   pub last_whole : (x : Read A) (k : A → B) (b : B) (end : ℕ) → and_then x (λ a end. whole (k a) end) ≡ whole b end → (a : A) × (x ≡ whole a end) × (b ≡ k a)
   last_whole (whole a next) k b end e = (a, cc, cc)
   last_whole (refused f n) k b end e = absurd (let z : ◌≡◌ {A = ℕ} 0 1 = cc in omega arith)

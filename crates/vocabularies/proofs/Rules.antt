@@ -9,23 +9,21 @@ use lib.ListN.{length, get_or, set}
 use lib.Seq.{get_or-set_same, get_or-set_other}
 use lib.Dec.{eqb}
 use borrow.Author.Tests.{eq-eqb, ne_eqb, eqb-true, eqb-false}
-use Rattle.verdicts.specs.declared.Form.{Form}
+use Rattle.std.specs.Prelude.{Result, Ok, Err}
 use Rattle.sets.specs.Sets.{member}
 use Rattle.sets.proofs.Laws.{member_zero}
 use Rattle.commands.specs.declared.Context.TheVariants.{Attributes, Contents}
 use Rattle.commands.specs.declared.Position.{Position}
-use Rattle.commands.specs.declared.Part.{Part}
-use Rattle.commands.specs.declared.Part.TheVariants.{Whole, Refused}
+use Rattle.commands.specs.declared.ReadError.{ReadError}
 use Rattle.commands.specs.Reading.{Read, whole, and_then}
 use Rattle.commands.specs.Inner.Parts.{Enough}
 use Rattle.commands.proofs.Laws.{and_then_whole}
-use Rattle.vocabularies.specs.declared.Names.{Names}
-use Rattle.vocabularies.specs.declared.RuleRead.{RuleRead}
+use Rattle.vocabularies.specs.declared.Rule as Tabled
 use Rattle.vocabularies.specs.declared.Tables.{Tables}
 use Rattle.vocabularies.specs.Vocabulary.{Rule, is_in, rule_of, is_some, declared}
 use Rattle.vocabularies.specs.VocabularyReading.{rising, clauses, rule_body}
 use Rattle.vocabularies.specs.Inner.Promises.{NamesRead, ClausesRead, RuleTables, RuleReads, DescribesRules, AddsRule}
-use Rattle.vocabularies.proofs.Parts.{agrees_whole, agrees_refused, agrees_itself, and_then_same, last_agrees_as, last_whole, Finished, last_finishes, and_then_finishes}
+use Rattle.vocabularies.proofs.Parts.{agrees_whole, agrees_refused, agrees_with_whole, agrees_with_refused, and_then_same, last_whole, Finished, last_finishes, and_then_finishes}
 use Rattle.vocabularies.proofs.NameLists.{rising_ends, rising_fuel, rising_finishes}
 use Rattle.vocabularies.proofs.Clauses.{clauses_ends, clauses_fuel, clauses_finishes}
 
@@ -71,38 +69,48 @@ rule_finishes f s e at h =
     last_finishes (clauses f s next') (λ ψs. record { element = e; attributes = names; contents = cs; clauses = ψs }) (clauses_finishes f s next' (omega arith))
 
 -- What code that reads a rule does. A refusal in a list is the rule's.
-module _ (s : List ℕ) (at : ℕ) (names : Names) (read : NamesRead s Attributes at names) where
-  pub rule_attributes : (i : Form) (n attributes contents clauses : ℕ) → names.part ≡ Refused i n
-      → RuleReads s at (record { part = names.part; attributes = attributes; contents = contents; clauses = clauses })
-  rule_attributes i n as' cs ψs q e f h =
-      rw (q, agrees_refused (λ ns end. (k : ℕ) → member names.set k ≡ is_in k ns) (rising f Attributes s 0 at) i n (rw q at (read f h))) (refl, refl)
+abbrev Names : List ℕ → ℕ → Type 0
+Names ns set = (k : ℕ) → member set k ≡ is_in k ns
 
-  module _ (next : Position) (q : names.part ≡ Whole next) (held : Names) (read' : NamesRead s Contents next.at held) where
+module _ (s : List ℕ) (at : ℕ) (names : Result (ℕ × Position) ReadError) (read : NamesRead s Attributes at names) where
+  pub rule_attributes : (i : ReadError) → names ≡ Err i → RuleReads s at (Err i)
+  rule_attributes i q e f h = rw (agrees_with_refused Names (rising f Attributes s 0 at) i (rw q at (read f h))) (refl, refl)
+
+  module _ (attributes : ℕ) (next : Position) (q : names ≡ Ok (attributes, next)) (held : Result (ℕ × Position) ReadError) (read' : NamesRead s Contents next.at held) where
     -- The attributes at a fuel that is enough, and that it is enough behind them.
-    attributes_read : (f : ℕ) → Enough s at f → (ns : List ℕ) × (rising f Attributes s 0 at ≡ whole ns next.at) × ((k : ℕ) → member names.set k ≡ is_in k ns) × Enough s next.at f
+    attributes_read : (f : ℕ) → Enough s at f → (ns : List ℕ) × (rising f Attributes s 0 at ≡ whole ns next.at) × Names ns attributes × Enough s next.at f
     attributes_read f h =
-        let a = agrees_whole (λ ns end. (k : ℕ) → member names.set k ≡ is_in k ns) (rising f Attributes s 0 at) next (rw q at (read f h)) in
+        let a = agrees_with_whole Names (rising f Attributes s 0 at) attributes next (rw q at (read f h)) in
         let l = rising_ends f Attributes s 0 at a.0 next.at a.1 in
         (a.0, a.1, a.2, omega arith)
 
-    pub rule_contents : (i : Form) (n attributes contents clauses : ℕ) → held.part ≡ Refused i n
-        → RuleReads s at (record { part = held.part; attributes = attributes; contents = contents; clauses = clauses })
-    rule_contents i n as' cs ψs q' e f h =
+    pub rule_contents : (i : ReadError) → held ≡ Err i → RuleReads s at (Err i)
+    rule_contents i q' e f h =
         let a = attributes_read f h in
-        rw (q', a.1, agrees_refused (λ ns end. (k : ℕ) → member held.set k ≡ is_in k ns) (rising f Contents s 0 next.at) i n (rw q' at (read' f a.3))) (refl, refl)
+        rw (a.1, agrees_with_refused Names (rising f Contents s 0 next.at) i (rw q' at (read' f a.3))) (refl, refl)
 
-    pub rule_whole : (next' : Position) (part : Part) → held.part ≡ Whole next' → ClausesRead s next'.at part
-        → RuleReads s at (record { part = part; attributes = names.set; contents = held.set; clauses = next'.at })
-    rule_whole next' part q' read'' e f h =
-        let a = attributes_read f h in
-        let b = agrees_whole (λ ns end. (k : ℕ) → member held.set k ≡ is_in k ns) (rising f Contents s 0 next.at) next' (rw q' at (read' f a.3)) in
-        let l = rising_ends f Contents s 0 next.at b.0 next'.at b.1 in
-        let n : Enough s next'.at f = let n' = a.3 in omega arith in
-        rw (a.1, b.1)
-        (last_agrees_as (λ ψs end. clauses f s next'.at ≡ whole ψs end) (λ r end. RuleTables s r names.set held.set next'.at)
-        (clauses f s next'.at) (λ ψs. record { element = e; attributes = a.0; contents = b.0; clauses = ψs }) part
-        (λ ψs end c. record { allows = a.2; holds = b.2; stands = λ g n'. (end, clauses_fuel g f s next'.at n' n ∙ c) })
-        (agrees_itself (clauses f s next'.at) part (read'' f n)))
+    module _ (contents : ℕ) (next' : Position) (q' : held ≡ Ok (contents, next')) (part : Result Position ReadError) (read'' : ClausesRead s next'.at part) where
+      -- The contents at a fuel that is enough, and that it is enough behind them.
+      contents_read : (f : ℕ) → Enough s at f → (ns : List ℕ) × (rising f Contents s 0 next.at ≡ whole ns next'.at) × Names ns contents × Enough s next'.at f
+      contents_read f h =
+          let a = attributes_read f h in
+          let b = agrees_with_whole Names (rising f Contents s 0 next.at) contents next' (rw q' at (read' f a.3)) in
+          let l = rising_ends f Contents s 0 next.at b.0 next'.at b.1 in
+          let n = a.3 in
+          (b.0, b.1, b.2, omega arith)
+
+      pub rule_clauses : (i : ReadError) → part ≡ Err i → RuleReads s at (Err i)
+      rule_clauses i q'' e f h =
+          let a = attributes_read f h in
+          let b = contents_read f h in
+          rw (a.1, b.1, agrees_refused (λ ψs end. Unit {0}) (clauses f s next'.at) i (rw q'' at (read'' f b.3))) (refl, refl)
+
+      pub rule_whole : (end : Position) → part ≡ Ok end → RuleReads s at (Ok (record { attributes = attributes; contents = contents; clauses = next' }, end))
+      rule_whole end q'' e f h =
+          let a = attributes_read f h in
+          let b = contents_read f h in
+          let c = agrees_whole (λ ψs end. Unit {0}) (clauses f s next'.at) end (rw q'' at (read'' f b.3)) in
+          rw (a.1, b.1, c.1) (refl, record { allows = a.2; holds = b.2; stands = λ g n'. (end.at, clauses_fuel g f s next'.at n' b.3 ∙ c.1) })
 
 -- The rule of an element, where one more is put behind the others.
 rule_same : (rs : List Rule) (r : Rule) (e : ℕ) → declared rs e ≡ false → r.element ≡ e → rule_of (rs ++ (r ∷ [])) e ≡ some r
@@ -125,9 +133,9 @@ pub no_rules : (s : List ℕ) (t : Tables) → t.declared ≡ 0 → DescribesRul
 unfolding rule_of
 no_rules s t z = record { declares = λ e. rw z (member_zero e); names_root = refl; rule = λ e r h. absurd (let y : ◌≡◌ {A = ℕ} 0 1 = cc in omega arith) }
 
-module _ (t : Tables) (e : ℕ) (x : RuleRead) (word : ℕ) (told : (k : ℕ) → member word k ≡ (eqb k e || member t.declared k)) where
+module _ (t : Tables) (e : ℕ) (x : Tabled.Rule) (word : ℕ) (told : (k : ℕ) → member word k ≡ (eqb k e || member t.declared k)) where
   pub adds_rule : e < length t.attributes → e < length t.contents → e < length t.clauses
-      → AddsRule t e x (record { declared = word; attributes = set t.attributes e x.attributes; contents = set t.contents e x.contents; clauses = set t.clauses e x.clauses; root = t.root })
+      → AddsRule t e x (record { declared = word; attributes = set t.attributes e x.attributes; contents = set t.contents e x.contents; clauses = set t.clauses e x.clauses.at; root = t.root })
   adds_rule l₁ l₂ l₃ s rs r d none' q tables = record { declares = λ k. declares' k (eqb k e) refl; names_root = refl; rule = λ k r' h. rule' k (eqb k e) refl r' h }
     where
       other : (k : ℕ) → eqb k e ≡ false → rule_of (rs ++ (r ∷ [])) k ≡ rule_of rs k
@@ -138,12 +146,12 @@ module _ (t : Tables) (e : ℕ) (x : RuleRead) (word : ℕ) (told : (k : ℕ) �
       declares' k false b = rw (told k, b, other k b) (d.declares k)
 
       rule' : (k : ℕ) (b : Bool) → eqb k e ≡ b → (r' : Rule) → rule_of (rs ++ (r ∷ [])) k ≡ some r'
-          → RuleTables s r' (get_or (set t.attributes e x.attributes) k 0) (get_or (set t.contents e x.contents) k 0) (get_or (set t.clauses e x.clauses) k 0)
+          → RuleTables s r' (get_or (set t.attributes e x.attributes) k 0) (get_or (set t.contents e x.contents) k 0) (get_or (set t.clauses e x.clauses.at) k 0)
       rule' k true b r' h =
           let y : k ≡ e = eqb-true k e b in
           let z : r' ≡ r = cc (rule_same rs r e none' q) in
-          rw (z, y, get_or-set_same t.attributes e x.attributes 0 l₁, get_or-set_same t.contents e x.contents 0 l₂, get_or-set_same t.clauses e x.clauses 0 l₃) tables
+          rw (z, y, get_or-set_same t.attributes e x.attributes 0 l₁, get_or-set_same t.contents e x.contents 0 l₂, get_or-set_same t.clauses e x.clauses.at 0 l₃) tables
       rule' k false b r' h =
           let n : k ≡ e → ⊥ = eqb-false k e b in
-          rw (get_or-set_other t.attributes e k x.attributes 0 n, get_or-set_other t.contents e k x.contents 0 n, get_or-set_other t.clauses e k x.clauses 0 n)
+          rw (get_or-set_other t.attributes e k x.attributes 0 n, get_or-set_other t.contents e k x.contents 0 n, get_or-set_other t.clauses e k x.clauses.at 0 n)
           (d.rule k r' (sym (other k b) ∙ h))

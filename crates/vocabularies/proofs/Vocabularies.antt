@@ -7,6 +7,7 @@ use native.Mathlib.Omega.{arith}
 use lib.ListN.{length}
 use lib.Dec.{leb, eqb}
 use borrow.Author.Tests.{eq-eqb, ne_eqb, eqb-true, eqb-false, leb-true, not-true, not-false}
+use Rattle.std.specs.Prelude.{Result, Ok, Err}
 use Rattle.verdicts.specs.declared.Form.{Form}
 use Rattle.verdicts.specs.declared.Form.TheVariants.{NotRising, Missing}
 use Rattle.sets.specs.Sets.{member}
@@ -14,19 +15,17 @@ use Rattle.commands.specs.declared.Context.TheVariants.{Rules}
 use Rattle.commands.specs.declared.Position.{Position}
 use Rattle.commands.specs.declared.Decoded.{Decoded}
 use Rattle.commands.specs.declared.Decoded.TheVariants as Decodeds
-use Rattle.commands.specs.declared.Part.{Part}
-use Rattle.commands.specs.declared.Part.TheVariants.{Whole, Refused}
+use Rattle.commands.specs.declared.ReadError.{ReadError}
 use Rattle.commands.specs.Commands.{byte, allowed, command, operands_of, in_range, all_in_range}
 use Rattle.commands.specs.Reading.{whole, refused, and_then, enough}
-use Rattle.commands.specs.Inner.Parts.{AgreesAs, Enough}
-use Rattle.commands.proofs.Laws.{moved, MovedOver, and_then_whole}
-use Rattle.vocabularies.specs.declared.RuleRead.{RuleRead}
+use Rattle.commands.specs.Inner.Parts.{part_of, AgreesWith, Enough}
+use Rattle.commands.proofs.Laws.{refused_with, moved, MovedOver, and_then_whole}
+use Rattle.vocabularies.specs.declared.Rule as Tabled
 use Rattle.vocabularies.specs.declared.Tables.{Tables}
-use Rattle.vocabularies.specs.declared.VocabularyRead.{VocabularyRead}
 use Rattle.vocabularies.specs.Vocabulary.{Rule, Vocabulary, declared}
 use Rattle.vocabularies.specs.VocabularyReading.{rule_body, rules, vocabulary}
-use Rattle.vocabularies.specs.Inner.Promises.{part_of, RuleTables, RuleReads, DescribesRules, AddsRule, Describes, VocabularyReads}
-use Rattle.vocabularies.proofs.Parts.{agrees_whole, agrees_refused, plenty, is_plenty, Finished, and_then_finishes}
+use Rattle.vocabularies.specs.Inner.Promises.{RuleTables, RuleReads, DescribesRules, AddsRule, Describes, VocabularyReads}
+use Rattle.vocabularies.proofs.Parts.{agrees_with_whole, agrees_with_refused, plenty, is_plenty, Finished, and_then_finishes}
 use Rattle.vocabularies.proofs.Rules.{rule_element, rule_fuel, rule_finishes}
 
 -- One step of the definition.
@@ -130,26 +129,26 @@ element_low s at code next m = go (eqb (byte s at) 0x01) refl
     go false e = second (leb 1 (byte s (at + 1))) (byte s (at + 1)) (rw (eqb-true (byte s at) 0x05 (rw e at m.permitted)) at m.ranges)
 
 -- What code that reads rules does: from a place on, after those given.
-abbrev pub RulesFrom : List ℕ → List Rule → ℕ → VocabularyRead → Type 0
-RulesFrom s given at r = (f : ℕ) → Enough s at f → AgreesAs (λ D end. Describes s D r.tables) (rules f s given at) r.part
+abbrev pub RulesFrom : List ℕ → List Rule → ℕ → Result (Tables × Position) ReadError → Type 0
+RulesFrom s given at r = (f : ℕ) → Enough s at f → AgreesWith (Describes s) (rules f s given at) r
 
 -- The tables describe the rules given, and what is read from here on after those is what is read from the start.
 pub record RulesContinue (s : List ℕ) (at : ℕ) (t : Tables) : Type 0 where
   pub given : List Rule
   pub describes : DescribesRules s given t
-  pub continues : (r : VocabularyRead) → RulesFrom s given at r → VocabularyReads s r
+  pub continues : (r : Result (Tables × Position) ReadError) → RulesFrom s given at r → VocabularyReads s r
 
 pub rules_start : (s : List ℕ) (t : Tables) (place : Position) → ((s : List ℕ) → DescribesRules s [] t) → place ≡ record { at = 0 } → RulesContinue s place.at t
 unfolding vocabulary
 rules_start s t place h e = rw e (record { given = []; describes = h s; continues = λ r k. k (enough s) (omega arith) })
 
 module _ (s : List ℕ) (place : Position) (t : Tables) (on : RulesContinue s place.at t) (d : Decoded) (c : d ≡ command Rules s place.at) where
-  pub rules_refused : (i : Form) (n : ℕ) (p : Part) → d ≡ Decodeds.Refused i n → p ≡ part_of d → VocabularyReads s (record { part = p; tables = t })
-  rules_refused i n p q r = on.continues (record { part = p; tables = t }) λ f h. agrees f h
+  pub rules_refused : (i : ReadError) → part_of d ≡ Err i → VocabularyReads s (Err i)
+  rules_refused i q = on.continues (Err i) λ f h. agrees f h
     where
-      agrees : (f : ℕ) → Enough s place.at f → AgreesAs (λ D end. Describes s D t) (rules f s on.given place.at) p
+      agrees : (f : ℕ) → Enough s place.at f → AgreesWith (Describes s) (rules f s on.given place.at) (Err i)
       agrees zero h = absurd (omega arith)
-      agrees (suc f) h = rw (step_refused f s on.given place.at i n (sym c ∙ q), r, q) (refl, refl)
+      agrees (suc f) h = rw (step_refused f s on.given place.at i.form i.at (sym c ∙ refused_with d i q)) (refl, refl)
 
   module _ (code : ℕ) (next : Position) (q : d ≡ Decodeds.Moved code next) (e : ℕ) (named : e ≡ byte s (place.at + 1)) where
     pub element_fits : e < 64
@@ -162,69 +161,72 @@ module _ (s : List ℕ) (place : Position) (t : Tables) (on : RulesContinue s pl
       is_declared : (b : Bool) → known ≡ b → declared on.given (byte s (place.at + 1)) ≡ b
       is_declared b k = declared_as b (sym told ∙ k)
 
-      pub rules_unrooted : code ≡ 0x05 → not known ≡ true → VocabularyReads s (record { part = Refused Missing place.at; tables = t })
-      rules_unrooted k z = on.continues (record { part = Refused Missing place.at; tables = t }) λ f h. agrees f h
+      pub rules_unrooted : code ≡ 0x05 → not known ≡ true → VocabularyReads s (Err (record { form = Missing; at = place.at }))
+      rules_unrooted k z = on.continues (Err (record { form = Missing; at = place.at })) λ f h. agrees f h
         where
-          agrees : (f : ℕ) → Enough s place.at f → AgreesAs (λ D end. Describes s D t) (rules f s on.given place.at) (Refused Missing place.at)
+          agrees : (f : ℕ) → Enough s place.at f → AgreesWith (Describes s) (rules f s on.given place.at) (Err (record { form = Missing; at = place.at }))
           agrees zero h = absurd (omega arith)
           agrees (suc f) h = rw (step_missing f s on.given place.at code next (sym c ∙ q) k (is_declared false (not-true known z))) (refl, refl)
 
       pub rules_rooted : code ≡ 0x05 → not known ≡ false
-          → VocabularyReads s (record { part = Whole next; tables = record { declared = t.declared; attributes = t.attributes; contents = t.contents; clauses = t.clauses; root = e } })
-      rules_rooted k z = on.continues (record { part = Whole next; tables = rooted }) λ f h. agrees f h
+          → VocabularyReads s (Ok (record { declared = t.declared; attributes = t.attributes; contents = t.contents; clauses = t.clauses; root = e }, next))
+      rules_rooted k z = on.continues (Ok (rooted, next)) λ f h. agrees f h
         where
           rooted : Tables
           rooted = record { declared = t.declared; attributes = t.attributes; contents = t.contents; clauses = t.clauses; root = e }
 
-          agrees : (f : ℕ) → Enough s place.at f → AgreesAs (λ D end. Describes s D rooted) (rules f s on.given place.at) (Whole next)
+          agrees : (f : ℕ) → Enough s place.at f → AgreesWith (Describes s) (rules f s on.given place.at) (Ok (rooted, next))
           agrees zero h = absurd (omega arith)
           agrees (suc f) h = rw (step_root f s on.given place.at code next (sym c ∙ q) k (is_declared true (not-false known z)))
               (refl, record { declares = on.describes.declares; names_root = named; rule = on.describes.rule })
 
-      pub rules_twice : (code ≡ 0x05 → ⊥) → known ≡ true → VocabularyReads s (record { part = Refused NotRising place.at; tables = t })
-      rules_twice k z = on.continues (record { part = Refused NotRising place.at; tables = t }) λ f h. agrees f h
+      pub rules_twice : (code ≡ 0x05 → ⊥) → known ≡ true → VocabularyReads s (Err (record { form = NotRising; at = place.at }))
+      rules_twice k z = on.continues (Err (record { form = NotRising; at = place.at })) λ f h. agrees f h
         where
-          agrees : (f : ℕ) → Enough s place.at f → AgreesAs (λ D end. Describes s D t) (rules f s on.given place.at) (Refused NotRising place.at)
+          agrees : (f : ℕ) → Enough s place.at f → AgreesWith (Describes s) (rules f s on.given place.at) (Err (record { form = NotRising; at = place.at }))
           agrees zero h = absurd (omega arith)
           agrees (suc f) h = rw (step_twice f s on.given place.at code next (sym c ∙ q) k (is_declared true z)) (refl, refl)
 
-      module _ (k : code ≡ 0x05 → ⊥) (z : known ≡ false) (x : RuleRead) (read : RuleReads s next.at x) where
+      module _ (k : code ≡ 0x05 → ⊥) (z : known ≡ false) (x : Result (Tabled.Rule × Position) ReadError) (read : RuleReads s next.at x) where
         m : MovedOver Rules s place.at code next
         m = moved Rules s place.at code next (sym c ∙ q)
 
         stepped : (f : ℕ) → rules (suc f) s on.given place.at ≡ and_then (rule_body f s e next.at) (λ r end. rules f s (on.given ++ (r ∷ [])) end)
         stepped f = rw (step_rule f s on.given place.at code next (sym c ∙ q) k (is_declared false z), named)
 
-        pub rules_broken : (i : Form) (n : ℕ) → x.part ≡ Refused i n → VocabularyReads s (record { part = x.part; tables = t })
-        rules_broken i n y = on.continues (record { part = x.part; tables = t }) λ f h. agrees f h
+        abbrev Described : Rule → Tabled.Rule → Type 0
+        Described r w = RuleTables s r w.attributes w.contents w.clauses.at
+
+        pub rules_broken : (i : ReadError) → x ≡ Err i → VocabularyReads s (Err i)
+        rules_broken i y = on.continues (Err i) λ f h. agrees f h
           where
-            agrees : (f : ℕ) → Enough s place.at f → AgreesAs (λ D end. Describes s D t) (rules f s on.given place.at) x.part
+            agrees : (f : ℕ) → Enough s place.at f → AgreesWith (Describes s) (rules f s on.given place.at) (Err i)
             agrees zero h = absurd (omega arith)
             agrees (suc f) h =
                 let l : Enough s next.at f = omega (arith, m) in
-                rw (y, stepped f, agrees_refused (λ r end. RuleTables s r x.attributes x.contents x.clauses) (rule_body f s e next.at) i n (rw y at (read e f l))) (refl, refl)
+                rw (stepped f, agrees_with_refused Described (rule_body f s e next.at) i (rw y at (read e f l))) (refl, refl)
 
-        module _ (end : Position) (y : x.part ≡ Whole end) where
+        module _ (w : Tabled.Rule) (end : Position) (y : x ≡ Ok (w, end)) where
           -- The rule, at a fuel that is enough.
-          the_rule : (r : Rule) × (rule_body (plenty s next.at) s e next.at ≡ whole r end.at) × RuleTables s r x.attributes x.contents x.clauses
-          the_rule = agrees_whole (λ r end. RuleTables s r x.attributes x.contents x.clauses) (rule_body (plenty s next.at) s e next.at) end (rw y at (read e (plenty s next.at) (is_plenty s next.at)))
+          the_rule : (r : Rule) × (rule_body (plenty s next.at) s e next.at ≡ whole r end.at) × RuleTables s r w.attributes w.contents w.clauses.at
+          the_rule = agrees_with_whole Described (rule_body (plenty s next.at) s e next.at) w end (rw y at (read e (plenty s next.at) (is_plenty s next.at)))
 
-          pub rules_more : (t' : Tables) → AddsRule t e x t' → RulesContinue s end.at t'
+          pub rules_more : (t' : Tables) → AddsRule t e w t' → RulesContinue s end.at t'
           rules_more t' adds =
               let r = the_rule in
-              let w = rule_element (plenty s next.at) s e next.at r.0 end.at r.1 in
+              let l = rule_element (plenty s next.at) s e next.at r.0 end.at r.1 in
               record {
                 given = on.given ++ (r.0 ∷ []);
-                describes = adds s on.given r.0 on.describes (rw named (is_declared false z)) w.0 r.2;
-                continues = λ v h. on.continues v λ f n. agrees r.0 r.1 w.1 v h f n;
+                describes = adds s on.given r.0 on.describes (rw named (is_declared false z)) l.0 r.2;
+                continues = λ v h. on.continues v λ f n. agrees r.0 r.1 l.1 v h f n;
               }
             where
-              agrees : (r : Rule) → rule_body (plenty s next.at) s e next.at ≡ whole r end.at → next.at ≤ end.at → (v : VocabularyRead) → RulesFrom s (on.given ++ (r ∷ [])) end.at v
-                  → (f : ℕ) → Enough s place.at f → AgreesAs (λ D end. Describes s D v.tables) (rules f s on.given place.at) v.part
-              agrees r w o v h zero n = absurd (omega arith)
-              agrees r w o v h (suc f) n =
+              agrees : (r : Rule) → rule_body (plenty s next.at) s e next.at ≡ whole r end.at → next.at ≤ end.at → (v : Result (Tables × Position) ReadError) → RulesFrom s (on.given ++ (r ∷ [])) end.at v
+                  → (f : ℕ) → Enough s place.at f → AgreesWith (Describes s) (rules f s on.given place.at) v
+              agrees r b o v h zero n = absurd (omega arith)
+              agrees r b o v h (suc f) n =
                   let l : Enough s next.at f = omega (arith, m) in
-                  rw (stepped f, rule_fuel f (plenty s next.at) s e next.at l (is_plenty s next.at), w) (h f (omega arith))
+                  rw (stepped f, rule_fuel f (plenty s next.at) s e next.at l (is_plenty s next.at), b) (h f (omega arith))
 
           pub rules_fall : length s - end.at < length s - place.at
-          rules_fall = let r = the_rule in let w = rule_element (plenty s next.at) s e next.at r.0 end.at r.1 in omega (arith, m)
+          rules_fall = let r = the_rule in let l = rule_element (plenty s next.at) s e next.at r.0 end.at r.1 in omega (arith, m)

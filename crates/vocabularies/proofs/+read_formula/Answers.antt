@@ -27,23 +27,23 @@ returns-then-depth-ge-FORMULA_NESTING-2 t c =
 pub overflow_add-depth-in-16 : goal.overflow_add-depth-in-16
 overflow_add-depth-in-16 t c = omega arith
 
-pub read_formula-first-requires : goal.read_formula-first-requires
-read_formula-first-requires t c = (search command_falls, tt)
+pub read_formula-requires-in-16 : goal.read_formula-requires-in-16
+read_formula-requires-in-16 t c = (search command_falls, tt)
 
-pub returns-in_default-first : goal.returns-in_default-first
-returns-in_default-first t c = search formula_first
+pub returns-in_err-middle-in-16 : goal.returns-in_err-middle-in-16
+returns-in_err-middle-in-16 t c = search formula_first
 
 pub overflow_add-depth-in-16-2 : goal.overflow_add-depth-in-16-2
 overflow_add-depth-in-16-2 t c = omega arith
 
-pub read_formula-requires-in-16 : goal.read_formula-requires-in-16
-read_formula-requires-in-16 t c = (search formula_falls, tt)
+pub read_formula-requires-in-16-2 : goal.read_formula-requires-in-16-2
+read_formula-requires-in-16-2 t c = (search formula_falls, tt)
 
 pub returns-else-depth-ge-FORMULA_NESTING : goal.returns-else-depth-ge-FORMULA_NESTING
 returns-else-depth-ge-FORMULA_NESTING t c = search formula_one
 
-pub returns-in-Whole : goal.returns-in-Whole
-returns-in-Whole t c = search formula_two
+pub returns-in_ok-middle-in-16 : goal.returns-in_ok-middle-in-16
+returns-in_ok-middle-in-16 t c = search formula_two
 
 pub returns-in_default-code : goal.returns-in_default-code
 returns-in_default-code t c = search formula_low

@@ -7,8 +7,8 @@ loop-start-init c = clauses_start _ _
 pub returns-in_default : goal.returns-in_default
 returns-in_default c = search clauses_end
 
-pub returns-in_default-part : goal.returns-in_default-part
-returns-in_default-part c = search clauses_refused
+pub returns-in_err-next : goal.returns-in_err-next
+returns-in_err-next c = search clauses_refused
 
 pub has_many_facts-requires : goal.has_many_facts-requires
 has_many_facts-requires c = search clause_stands

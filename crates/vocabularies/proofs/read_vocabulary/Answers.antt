@@ -26,7 +26,7 @@ has-requires-in-loop-code c = search element_fits
 
 pub loop-code-preserved : goal.loop-code-preserved
 loop-code-preserved c = let low : c.operand-e.result < 64 = search element_fits in
-    let adds = adds_rule c.loop-code.tables c.operand-e.result c.read_rule-rule.result c.with.result c.with.ensures
+    let adds = adds_rule c.loop-code.tables c.operand-e.result c.in_ok-rule.rule c.with.result c.with.ensures
     (omega (arith, low, c.loop-code.invariant.0.attributes_long)) (omega (arith, low, c.loop-code.invariant.0.contents_long)) (omega (arith, low, c.loop-code.invariant.0.clauses_long)) in (
       record {
         attributes_long = simp length-set c.loop-code.invariant.0.attributes_long;
@@ -39,8 +39,8 @@ loop-code-preserved c = let low : c.operand-e.result < 64 = search element_fits 
 pub returns-then-has : goal.returns-then-has
 returns-then-has c = search rules_twice
 
-pub returns-in_default-part : goal.returns-in_default-part
-returns-in_default-part c = search rules_broken
+pub returns-in_err-rule : goal.returns-in_err-rule
+returns-in_err-rule c = search rules_broken
 
 pub with-requires : goal.with-requires
 with-requires c = search element_fits
