@@ -1,9 +1,15 @@
 -- Sets differ where one of their words does.
-use native.Mathlib.Omega.{arith}
-use borrow.Author.Tests.{eqb-true, eqb-false}
+use mir.Syntax.{w64}
+use borrow.Author.Rules.{rules, elem_Fits}
 use Rattle.std.proofs.lemmas.Slice.Eq.{slice_eq-Decides}
 use Rattle.std.proofs.lemmas.Bool.Decides.{Decides-eqb}
+use Rattle.pattern_sets.proofs.Laws.{tells_same}
 use Rattle.pattern_sets.proofs.same.Goals as goal
 
 pub returns : goal.returns
-returns c = let w0 = c.well_formed.0 in let w1 = c.well_formed.1 in let w00 = c.well_formed.0.0 in let w01 = c.well_formed.0.1 in let d = slice_eq-Decides Decides-eqb c.args.a c.args.b c.eq.result c.eq.ensures in ?
+returns c =
+    let a = c.well_formed.0 in
+    let b = c.well_formed.1.0 in
+    let is = slice_eq-Decides Decides-eqb c.args.a c.args.b c.eq.result c.eq.ensures in
+    tells_same c.args.a c.args.b (search rules) (search rules) (λ i h. ((elem_Fits w64 w64 c.args.a a.0 i a.1.1 tt).fits, (elem_Fits w64 w64 c.args.b b.0 i b.1.1 tt).fits))
+    c.eq.result is.0 is.1
