@@ -72,44 +72,42 @@ rule_finishes f s e at h =
 abbrev Names : List ℕ → ℕ → Type 0
 Names ns set = (k : ℕ) → member set k ≡ is_in k ns
 
-module _ (s : List ℕ) (at : ℕ) (names : Result (ℕ × Position) ReadError) (read : NamesRead s Attributes at names) where
-  pub rule_attributes : (i : ReadError) → names ≡ Err i → RuleReads s at (Err i)
-  rule_attributes i q e f h = rw (agrees_with_refused Names (rising f Attributes s 0 at) i (rw q at (read f h))) (refl, refl)
+module _ (s : List ℕ) (at : ℕ) where
+  pub rule_attributes : (i : ReadError) → NamesRead s Attributes at (Err i) → RuleReads s at (Err i)
+  rule_attributes i read e f h = rw (agrees_with_refused Names (rising f Attributes s 0 at) i (read f h)) (refl, refl)
 
-  module _ (attributes : ℕ) (next : Position) (q : names ≡ Ok (attributes, next)) (held : Result (ℕ × Position) ReadError) (read' : NamesRead s Contents next.at held) where
+  module _ (attributes : ℕ) (next : Position) (read : NamesRead s Attributes at (Ok (attributes, next))) where
     -- The attributes at a fuel that is enough, and that it is enough behind them.
     attributes_read : (f : ℕ) → Enough s at f → (ns : List ℕ) × (rising f Attributes s 0 at ≡ whole ns next.at) × Names ns attributes × Enough s next.at f
     attributes_read f h =
-        let a = agrees_with_whole Names (rising f Attributes s 0 at) attributes next (rw q at (read f h)) in
+        let a = agrees_with_whole Names (rising f Attributes s 0 at) attributes next (read f h) in
         let l = rising_ends f Attributes s 0 at a.0 next.at a.1 in
         (a.0, a.1, a.2, omega arith)
 
-    pub rule_contents : (i : ReadError) → held ≡ Err i → RuleReads s at (Err i)
-    rule_contents i q' e f h =
+    pub rule_contents : (i : ReadError) → NamesRead s Contents next.at (Err i) → RuleReads s at (Err i)
+    rule_contents i read' e f h =
         let a = attributes_read f h in
-        rw (a.1, agrees_with_refused Names (rising f Contents s 0 next.at) i (rw q' at (read' f a.3))) (refl, refl)
+        rw (a.1, agrees_with_refused Names (rising f Contents s 0 next.at) i (read' f a.3)) (refl, refl)
 
-    module _ (contents : ℕ) (next' : Position) (q' : held ≡ Ok (contents, next')) (part : Result Position ReadError) (read'' : ClausesRead s next'.at part) where
+    module _ (contents : ℕ) (next' : Position) (read' : NamesRead s Contents next.at (Ok (contents, next'))) where
       -- The contents at a fuel that is enough, and that it is enough behind them.
-      contents_read : (f : ℕ) → Enough s at f → (ns : List ℕ) × (rising f Contents s 0 next.at ≡ whole ns next'.at) × Names ns contents × Enough s next'.at f
+      contents_read : (f : ℕ) → Enough s next.at f → (ns : List ℕ) × (rising f Contents s 0 next.at ≡ whole ns next'.at) × Names ns contents × Enough s next'.at f
       contents_read f h =
-          let a = attributes_read f h in
-          let b = agrees_with_whole Names (rising f Contents s 0 next.at) contents next' (rw q' at (read' f a.3)) in
+          let b = agrees_with_whole Names (rising f Contents s 0 next.at) contents next' (read' f h) in
           let l = rising_ends f Contents s 0 next.at b.0 next'.at b.1 in
-          let n = a.3 in
           (b.0, b.1, b.2, omega arith)
 
-      pub rule_clauses : (i : ReadError) → part ≡ Err i → RuleReads s at (Err i)
-      rule_clauses i q'' e f h =
+      pub rule_clauses : (i : ReadError) → ClausesRead s next'.at (Err i) → RuleReads s at (Err i)
+      rule_clauses i read'' e f h =
           let a = attributes_read f h in
-          let b = contents_read f h in
-          rw (a.1, b.1, agrees_refused (λ ψs end. Unit {0}) (clauses f s next'.at) i (rw q'' at (read'' f b.3))) (refl, refl)
+          let b = contents_read f a.3 in
+          rw (a.1, b.1, agrees_refused (λ ψs end. Unit {0}) (clauses f s next'.at) i (read'' f b.3)) (refl, refl)
 
-      pub rule_whole : (end : Position) → part ≡ Ok end → RuleReads s at (Ok (record { attributes = attributes; contents = contents; clauses = next' }, end))
-      rule_whole end q'' e f h =
+      pub rule_whole : (end : Position) → ClausesRead s next'.at (Ok end) → RuleReads s at (Ok (record { attributes = attributes; contents = contents; clauses = next' }, end))
+      rule_whole end read'' e f h =
           let a = attributes_read f h in
-          let b = contents_read f h in
-          let c = agrees_whole (λ ψs end. Unit {0}) (clauses f s next'.at) end (rw q'' at (read'' f b.3)) in
+          let b = contents_read f a.3 in
+          let c = agrees_whole (λ ψs end'. Unit {0}) (clauses f s next'.at) end (read'' f b.3) in
           rw (a.1, b.1, c.1) (refl, record { allows = a.2; holds = b.2; stands = λ g n'. (end.at, clauses_fuel g f s next'.at n' b.3 ∙ c.1) })
 
 -- The rule of an element, where one more is put behind the others.
