@@ -10,12 +10,15 @@ use Rattle.sets.specs.Sets.{member}
 use Rattle.commands.specs.declared.Context.{Context}
 use Rattle.commands.specs.declared.Context.TheVariants.{TemplateHoldings, StringHoldings}
 use Rattle.commands.specs.declared.Position.{Position}
-use Rattle.summaries.specs.Proposal.{root, Holding, claim, one_string, any_string}
+use Rattle.summaries.specs.Proposal.{root, Holding, claim}
 use Rattle.summaries.specs.Summaries.{Summary, says_claim, says_string, held}
-use Rattle.summaries.specs.Inner.Listed.{Listed, meaning_of}
+use Rattle.summaries.specs.Inner.Listed.{Listed, meaning_of, string_meaning_of, string_here}
 use Rattle.summaries.specs.declared.Claim.{Claim}
 use Rattle.summaries.specs.declared.Claim.TheVariants.{Root}
-use Rattle.summaries.proofs.Steps.{First}
+use Rattle.summaries.specs.declared.StringClaim.{StringClaim}
+use Rattle.summaries.specs.declared.StringClaim.TheVariants.{One, Any}
+use Rattle.std.specs.Prelude.{Option, Some}
+use Rattle.summaries.proofs.Steps.{First, strings_one, strings_any}
 use Rattle.strings.specs.declared.Values.{Values}
 use Rattle.strings.specs.Inner.Promises.{holds_value}
 use Rattle.entries.specs.declared.Passing.{Passing}
@@ -80,14 +83,16 @@ abbrev pub StringsGathered : Values → List Holding → List Holding → Type 0
 StringsGathered values = Gathered says_string (λ (t : ℕ). t) (holds_value values)
 
 module _ (s : List ℕ) (from at : ℕ) (values : Values) (h : Walked StringHoldings s from at (StringsGathered values)) where
-  pub gather_one : (u : ℕ) (next : Position) → ((ys : List Holding) → Listed StringHoldings s at ys → First s at StringHoldings (one_string u) next ys)
-      → (one more : Values) → ((t : ℕ) → holds_value one t ≡ eqb t u) → ((t : ℕ) → holds_value more t ≡ (holds_value values t || holds_value one t)) → Walked StringHoldings s from next.at (StringsGathered more)
-  gather_one u next first one more o m =
-      gather_goes says_string (λ t. t) StringHoldings s from at (holds_value values) h (one_string u) next first (holds_value more) λ t. m t ∙ (or_comm (holds_value values t) (holds_value one t) ∙ rw (o t))
-
-  pub gather_any : (next : Position) → ((ys : List Holding) → Listed StringHoldings s at ys → First s at StringHoldings any_string next ys)
-      → (any : Values) → ((t : ℕ) → holds_value any t ≡ true) → Walked StringHoldings s from next.at (StringsGathered any)
-  gather_any next first any e = gather_goes says_string (λ t. t) StringHoldings s from at (holds_value values) h any_string next first (holds_value any) e
+  pub gather_string : (r : Option (StringClaim × Position)) → r ≡ string_here s at → (item : StringClaim) (next : Position) → r ≡ Some (item, next)
+      → (said more : Values) → ((t : ℕ) → holds_value said t ≡ says_string (string_meaning_of item) t) → ((t : ℕ) → holds_value more t ≡ (holds_value values t || holds_value said t))
+      → Walked StringHoldings s from next.at (StringsGathered more)
+  gather_string r is item next e said more o m =
+      gather_goes says_string (λ t. t) StringHoldings s from at (holds_value values) h (string_meaning_of item) next (first item e) (holds_value more)
+      λ t. m t ∙ (or_comm (holds_value values t) (holds_value said t) ∙ rw (o t))
+    where
+      first : (item : StringClaim) → r ≡ Some (item, next) → (ys : List Holding) → Listed StringHoldings s at ys → First s at StringHoldings (string_meaning_of item) next ys
+      first (One u) e ys l = strings_one s at ys l r is u next e
+      first Any e ys l = strings_any s at ys l r is next e
 
 -- The roots.
 abbrev pub RootsGathered : ℕ → List Holding → List Holding → Type 0

@@ -10,8 +10,7 @@ use Rattle.commands.specs.declared.Position.{Position}
 use Rattle.summaries.specs.Proposal.{Holding}
 use Rattle.summaries.specs.Summaries.{Summary, says_claim, held}
 use Rattle.summaries.specs.declared.Claim as Declared
-use Rattle.summaries.specs.declared.ClaimHere.{ClaimHere}
-use Rattle.summaries.specs.declared.ClaimHere.TheVariants.{Item, End}
+use Rattle.std.specs.Prelude.{Option, Some, None}
 use Rattle.summaries.specs.Inner.Listed.{HoldingFits, Listed, meaning_of, claim_here, ClaimMoves}
 use Rattle.summaries.proofs.Steps.{claims_first, claims_end}
 use Rattle.graphs.specs.Inner.Graphs.{Keeps, Forgotten, nothing, adding}
@@ -27,8 +26,8 @@ swap false true r = refl
 swap false false r = refl
 
 -- The step that the code takes.
-module _ (s : List ℕ) (at : ℕ) (r : ClaimHere) (is : r ≡ claim_here s at) where
-  module _ (item : Declared.Claim) (next : Position) (e : r ≡ Item item next) where
+module _ (s : List ℕ) (at : ℕ) (r : Option (Declared.Claim × Position)) (is : r ≡ claim_here s at) where
+  module _ (item : Declared.Claim) (next : Position) (e : r ≡ Some (item, next)) where
     taken_more : (ys : List Holding) → Taken s next.at ys → Taken s at (meaning_of item ∷ ys)
     unfolding Taken
     taken_more ys t = record { item = item; next = next; is = sym is ∙ e; means = refl; more = t }
@@ -57,7 +56,7 @@ module _ (s : List ℕ) (at : ℕ) (r : ClaimHere) (is : r ≡ claim_here s at) 
             ]);
       }
 
-  module _ (e : r ≡ End) (graph : List ℕ) where
+  module _ (e : r ≡ None) (graph : List ℕ) where
     pub load_ends : Loads s at graph graph
     unfolding held Taken
     load_ends = record { items = []; taken = sym is ∙ e; keeps = λ R K. keeps_same graph R _ (λ c g. or-false (R c)) K }
@@ -84,10 +83,10 @@ taken_listed s at (x ∷ xs) ys t l =
 taken_once : (s : List ℕ) (at : ℕ) (xs ys : List Holding) → Taken s at xs → Taken s at ys → xs ≡ ys
 unfolding Taken
 taken_once s at [] [] t u = refl
-taken_once s at [] (y ∷ ys) t u = let q : End ≡ Item u.item u.next = sym t ∙ u.is in absurd (let z : ◌≡◌ {A = ℕ} 0 1 = cc in omega arith)
-taken_once s at (x ∷ xs) [] t u = let q : Item t.item t.next ≡ End = sym t.is ∙ u in absurd (let z : ◌≡◌ {A = ℕ} 0 1 = cc in omega arith)
+taken_once s at [] (y ∷ ys) t u = let q : None ≡ Some (u.item, u.next) = sym t ∙ u.is in absurd (let z : ◌≡◌ {A = ℕ} 0 1 = cc in omega arith)
+taken_once s at (x ∷ xs) [] t u = let q : Some (t.item, t.next) ≡ None = sym t.is ∙ u in absurd (let z : ◌≡◌ {A = ℕ} 0 1 = cc in omega arith)
 taken_once s at (x ∷ xs) (y ∷ ys) t u =
-    let q : Item t.item t.next ≡ Item u.item u.next = sym t.is ∙ u.is in
+    let q : Some (t.item, t.next) ≡ Some (u.item, u.next) = sym t.is ∙ u.is in
     let same : t.item ≡ u.item = cc in
     let same_next : t.next ≡ u.next = cc in
     let rest = taken_once s t.next.at xs ys t.more (rw same_next u.more) in

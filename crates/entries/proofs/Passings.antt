@@ -7,13 +7,12 @@ use mathlib.Core.Logic.{inl, inr}
 use lib.Dec.{eqb}
 use borrow.Author.Tests.{eq-eqb, ne_eqb, eqb-true}
 use Rattle.sets.specs.Sets.{member}
-use Rattle.sets.specs.Inner.Promises as Sets
 use Rattle.summaries.specs.Proposal.{Claim, root, edge, string, gap_from, attribute_gap_from, Holding, claim, any_at}
 use Rattle.summaries.specs.Summaries.{Summary, Within, same_code, says_claim, held}
 use Rattle.strings.specs.declared.Values.{Values}
 use Rattle.entries.specs.declared.Passing.{Passing}
 use Rattle.strings.specs.Inner.Promises.{holds_value}
-use Rattle.entries.specs.Inner.Passing.{stays, added, passed, Decides}
+use Rattle.entries.specs.Inner.Passing.{passes_roots, plugs, plugged, fills, filled, stays, added, passed, Decides}
 use Rattle.entries.proofs.Tests.{decides, decides_map}
 use Rattle.sets.proofs.Booleans.{or_left, or_right, or_cases, and_both, and_left, and_right, refuted}
 use Rattle.graphs.proofs.Claims.{says_itself, says_alone, says_any}
@@ -40,18 +39,18 @@ split_added false false false u v m = refl
 
 module _ (how : Passing) where
   pub passed_or : (S T : Summary) (c : Claim) → passed how (λ d. S d || T d) c ≡ (passed how S c || passed how T c)
-  passed_or S T (root n) = split how.roots (S (root n)) (T (root n))
-  passed_or S T (edge n g m) = split_added (S (edge n g m)) (T (edge n g m)) (eqb g how.gap) (S (gap_from g n)) (T (gap_from g n)) (member how.plugged m)
-  passed_or S T (string n h s) = split_added (S (string n h s)) (T (string n h s)) (eqb h how.attribute) (S (attribute_gap_from h n)) (T (attribute_gap_from h n)) (holds_value how.strings s)
-  passed_or S T (gap_from g n) = split (not (eqb g how.gap)) (S (gap_from g n)) (T (gap_from g n))
-  passed_or S T (attribute_gap_from h n) = split (not (eqb h how.attribute)) (S (attribute_gap_from h n)) (T (attribute_gap_from h n))
+  passed_or S T (root n) = split (passes_roots how) (S (root n)) (T (root n))
+  passed_or S T (edge n g m) = split_added (S (edge n g m)) (T (edge n g m)) (plugs how g) (S (gap_from g n)) (T (gap_from g n)) (plugged how m)
+  passed_or S T (string n h s) = split_added (S (string n h s)) (T (string n h s)) (fills how h) (S (attribute_gap_from h n)) (T (attribute_gap_from h n)) (filled how s)
+  passed_or S T (gap_from g n) = split (not (plugs how g)) (S (gap_from g n)) (T (gap_from g n))
+  passed_or S T (attribute_gap_from h n) = split (not (fills how h)) (S (attribute_gap_from h n)) (T (attribute_gap_from h n))
 
   nothing_passes : (c : Claim) → passed how (λ d. false) c ≡ false
-  nothing_passes (root n) = rw (and-false how.roots)
-  nothing_passes (edge n g m) = rw (and-false (eqb g how.gap))
-  nothing_passes (string n h s) = rw (and-false (eqb h how.attribute))
-  nothing_passes (gap_from g n) = rw (and-false (not (eqb g how.gap)))
-  nothing_passes (attribute_gap_from h n) = rw (and-false (not (eqb h how.attribute)))
+  nothing_passes (root n) = rw (and-false (passes_roots how))
+  nothing_passes (edge n g m) = rw (and-false (plugs how g))
+  nothing_passes (string n h s) = rw (and-false (fills how h))
+  nothing_passes (gap_from g n) = rw (and-false (not (plugs how g)))
+  nothing_passes (attribute_gap_from h n) = rw (and-false (not (fills how h)))
 
   module _ (R : Summary) where
     abbrev pub Passes : Holding → Type 0
@@ -82,8 +81,8 @@ module _ (how : Passing) where
     adds_none : (c : Claim) → ((g n : ℕ) → says_claim (claim c) (gap_from g n) ≡ false) → ((h n : ℕ) → says_claim (claim c) (attribute_gap_from h n) ≡ false)
         → (d : Claim) → added how (says_claim (claim c)) d ≡ false
     adds_none c f g (root n) = refl
-    adds_none c f g (edge n k m) = rw (f k n) (and-false (eqb k how.gap))
-    adds_none c f g (string n h s) = rw (g h n) (and-false (eqb h how.attribute))
+    adds_none c f g (edge n k m) = rw (f k n) (and-false (plugs how k))
+    adds_none c f g (string n h s) = rw (g h n) (and-false (fills how h))
     adds_none c f g (gap_from k n) = refl
     adds_none c f g (attribute_gap_from h n) = refl
 
@@ -95,11 +94,11 @@ module _ (how : Passing) where
         ])
         (λ w. sym is ∙ w c (or_left _ _ (and_both _ _ st (says_itself c))))
 
-    pub root_passes : (n : ℕ) (b : Bool) → how.roots ≡ true → R (root n) ≡ b → Decides b (Passes (claim (root n)))
+    pub root_passes : (n : ℕ) (b : Bool) → passes_roots how ≡ true → R (root n) ≡ b → Decides b (Passes (claim (root n)))
     unfolding same_code
     root_passes n b e is = stays_passes (root n) e (adds_none (root n) (λ g m. refl) (λ h m. refl)) b is
 
-    pub root_stays_out : (n : ℕ) → how.roots ≡ false → Passes (claim (root n))
+    pub root_stays_out : (n : ℕ) → passes_roots how ≡ false → Passes (claim (root n))
     unfolding same_code
     root_stays_out n e d p = elim (or_cases (stays how d && says_claim (claim (root n)) d) (added how (says_claim (claim (root n))) d) p) [
       | inl h ↦ let q : root n ≡ d = says_alone (root n) d (and_right (stays how d) _ h) in
@@ -119,11 +118,11 @@ module _ (how : Passing) where
     any_passes n h there is b v = decides_map b (λ w d p. covers w d (stays_or d p)) (λ w t e. sym (is t) ∙ w (string n h t) (or_left _ _ (says_any n h t))) v
       where
         stays_or : (d : Claim) → passed how (says_claim (any_at n h)) d ≡ true → says_claim (any_at n h) d ≡ true
-        stays_or (root m) p = absurd (false≢true (sym (and-false how.roots) ∙ (sym (or-false _) ∙ p)))
-        stays_or (edge m g k) p = absurd (false≢true (sym (and-false (eqb g how.gap)) ∙ p))
-        stays_or (string m k s) p = sym (rw (and-false (eqb k how.attribute)) (or-false _)) ∙ p
-        stays_or (gap_from g m) p = absurd (false≢true (sym (and-false (not (eqb g how.gap))) ∙ (sym (or-false _) ∙ p)))
-        stays_or (attribute_gap_from k m) p = absurd (false≢true (sym (and-false (not (eqb k how.attribute))) ∙ (sym (or-false _) ∙ p)))
+        stays_or (root m) p = absurd (false≢true (sym (and-false (passes_roots how)) ∙ (sym (or-false _) ∙ p)))
+        stays_or (edge m g k) p = absurd (false≢true (sym (and-false (plugs how g)) ∙ p))
+        stays_or (string m k s) p = sym (rw (and-false (fills how k)) (or-false _)) ∙ p
+        stays_or (gap_from g m) p = absurd (false≢true (sym (and-false (not (plugs how g))) ∙ (sym (or-false _) ∙ p)))
+        stays_or (attribute_gap_from k m) p = absurd (false≢true (sym (and-false (not (fills how k))) ∙ (sym (or-false _) ∙ p)))
 
         covers : Within (λ t. true) (holds_value there) → (d : Claim) → says_claim (any_at n h) d ≡ true → R d ≡ true
         covers w (root m) p = absurd (false≢true p)
@@ -137,69 +136,68 @@ module _ (how : Passing) where
 
     -- Origins of a gap that is not plugged, and of one that is: edges to the roots plugged in stand for those.
     module _ (g n : ℕ) where
-      adds_edges : (d : Claim) → added how (says_claim (claim (gap_from g n))) d ≡ true → (g ≡ how.gap) × (m : ℕ) × (edge n g m ≡ d) × (member how.plugged m ≡ true)
+      adds_edges : (d : Claim) → added how (says_claim (claim (gap_from g n))) d ≡ true → (plugs how g ≡ true) × (m : ℕ) × (edge n g m ≡ d) × (plugged how m ≡ true)
       unfolding same_code
       adds_edges (root k) p = absurd (false≢true p)
       adds_edges (edge k l m) p =
-          let a : l ≡ how.gap = eqb-true l how.gap (and_left _ _ p) in
-          let b : (says_claim (claim (gap_from g n)) (gap_from l k) && member how.plugged m) ≡ true = and_right (eqb l how.gap) _ p in
+          let a : plugs how l ≡ true = and_left _ _ p in
+          let b : (says_claim (claim (gap_from g n)) (gap_from l k) && plugged how m) ≡ true = and_right (plugs how l) _ p in
           let q : gap_from g n ≡ gap_from l k = says_alone (gap_from g n) (gap_from l k) (and_left _ _ b) in
           let r : g ≡ l = cc in
           let r' : n ≡ k = cc in
-          (r ∙ a, m, rw (r, r'), and_right (says_claim (claim (gap_from g n)) (gap_from l k)) _ b)
-      adds_edges (string k h s) p = absurd (false≢true (sym (and-false (eqb h how.attribute)) ∙ p))
+          (rw r a, m, rw (r, r'), and_right (says_claim (claim (gap_from g n)) (gap_from l k)) _ b)
+      adds_edges (string k h s) p = absurd (false≢true (sym (and-false (fills how h)) ∙ p))
       adds_edges (gap_from k l) p = absurd (false≢true p)
       adds_edges (attribute_gap_from h k) p = absurd (false≢true p)
 
-      pub gap_passes : (g ≡ how.gap → ⊥) → (b : Bool) → R (gap_from g n) ≡ b → Decides b (Passes (claim (gap_from g n)))
-      gap_passes other b is = stays_passes (gap_from g n) (rw (ne_eqb g how.gap other)) (λ d. refuted _ λ p. other (adds_edges d p).0) b is
+      pub gap_passes : plugs how g ≡ false → (b : Bool) → R (gap_from g n) ≡ b → Decides b (Passes (claim (gap_from g n)))
+      gap_passes other b is = stays_passes (gap_from g n) (rw (ne_plugs how g other)) (λ d. refuted _ λ p. other (adds_edges d p).0) b is
 
-      module _ (e : g ≡ how.gap) (targets : ℕ) (is : (m : ℕ) → R (edge n g m) ≡ member targets m) where
-        to_edges : Passes (claim (gap_from g n)) → (m : ℕ) → member how.plugged m ≡ true → member targets m ≡ true
-        to_edges w m p = sym (is m) ∙ w (edge n g m) (or_right (says_claim (claim (gap_from g n)) (edge n g m)) _ (and_both _ _ (eq-eqb g how.gap e) (and_both _ _ (says_itself (gap_from g n)) p)))
+      module _ (e : plugs how g ≡ true) (targets : ℕ) (is : (m : ℕ) → R (edge n g m) ≡ member targets m) where
+        to_edges : Passes (claim (gap_from g n)) → (m : ℕ) → plugged how m ≡ true → member targets m ≡ true
+        to_edges w m p = sym (is m) ∙ w (edge n g m) (or_right (says_claim (claim (gap_from g n)) (edge n g m)) _ (and_both _ _ (eq-plugs how g e) (and_both _ _ (says_itself (gap_from g n)) p)))
 
-        from_edges : ((m : ℕ) → member how.plugged m ≡ true → member targets m ≡ true) → Passes (claim (gap_from g n))
+        from_edges : ((m : ℕ) → plugged how m ≡ true → member targets m ≡ true) → Passes (claim (gap_from g n))
         from_edges w d p = elim (or_cases (stays how d && says_claim (claim (gap_from g n)) d) (added how (says_claim (claim (gap_from g n))) d) p) [
           | inl h ↦ let q : gap_from g n ≡ d = says_alone (gap_from g n) d (and_right (stays how d) _ h) in
-              let z : not (eqb g how.gap) ≡ true = ap (stays how) q ∙ and_left (stays how d) _ h in
-              absurd (false≢true (rw (eq-eqb g how.gap e) at z))
+              let z : not (plugs how g) ≡ true = ap (stays how) q ∙ and_left (stays how d) _ h in
+              absurd (false≢true (rw (eq-plugs how g e) at z))
           | inr h ↦ let a = adds_edges d h in rw (← a.2) (is a.1 ∙ w a.1 a.3)
         ]
 
-        pub plugged_passes : (b : Bool) → Sets.MembersWithin how.plugged targets b → Decides b (Passes (claim (gap_from g n)))
-        plugged_passes true w = from_edges w
-        plugged_passes false w = λ v. false≢true (sym w.3 ∙ to_edges v w.0 w.2)
+        pub plugged_passes : (b : Bool) → Decides b (Within (plugged how) (member targets)) → Decides b (Passes (claim (gap_from g n)))
+        plugged_passes b w = decides_map b from_edges to_edges w
 
     -- The same for attribute gaps, with strings.
     module _ (h n : ℕ) where
-      adds_strings : (d : Claim) → added how (says_claim (claim (attribute_gap_from h n))) d ≡ true → (h ≡ how.attribute) × (t : ℕ) × (string n h t ≡ d) × (holds_value how.strings t ≡ true)
+      adds_strings : (d : Claim) → added how (says_claim (claim (attribute_gap_from h n))) d ≡ true → (fills how h ≡ true) × (t : ℕ) × (string n h t ≡ d) × (filled how t ≡ true)
       unfolding same_code
       adds_strings (root k) p = absurd (false≢true p)
-      adds_strings (edge k l m) p = absurd (false≢true (sym (and-false (eqb l how.gap)) ∙ p))
+      adds_strings (edge k l m) p = absurd (false≢true (sym (and-false (plugs how l)) ∙ p))
       adds_strings (string k l t) p =
-          let a : l ≡ how.attribute = eqb-true l how.attribute (and_left _ _ p) in
-          let b : (says_claim (claim (attribute_gap_from h n)) (attribute_gap_from l k) && holds_value how.strings t) ≡ true = and_right (eqb l how.attribute) _ p in
+          let a : fills how l ≡ true = and_left _ _ p in
+          let b : (says_claim (claim (attribute_gap_from h n)) (attribute_gap_from l k) && filled how t) ≡ true = and_right (fills how l) _ p in
           let q : attribute_gap_from h n ≡ attribute_gap_from l k = says_alone (attribute_gap_from h n) (attribute_gap_from l k) (and_left _ _ b) in
           let r : h ≡ l = cc in
           let r' : n ≡ k = cc in
-          (r ∙ a, t, rw (r, r'), and_right (says_claim (claim (attribute_gap_from h n)) (attribute_gap_from l k)) _ b)
+          (rw r a, t, rw (r, r'), and_right (says_claim (claim (attribute_gap_from h n)) (attribute_gap_from l k)) _ b)
       adds_strings (gap_from k l) p = absurd (false≢true p)
       adds_strings (attribute_gap_from k l) p = absurd (false≢true p)
 
-      pub attribute_passes : (h ≡ how.attribute → ⊥) → (b : Bool) → R (attribute_gap_from h n) ≡ b → Decides b (Passes (claim (attribute_gap_from h n)))
-      attribute_passes other b is = stays_passes (attribute_gap_from h n) (rw (ne_eqb h how.attribute other)) (λ d. refuted _ λ p. other (adds_strings d p).0) b is
+      pub attribute_passes : fills how h ≡ false → (b : Bool) → R (attribute_gap_from h n) ≡ b → Decides b (Passes (claim (attribute_gap_from h n)))
+      attribute_passes other b is = stays_passes (attribute_gap_from h n) (rw (ne_fills how h other)) (λ d. refuted _ λ p. other (adds_strings d p).0) b is
 
-      module _ (e : h ≡ how.attribute) (there : Values) (is : (t : ℕ) → R (string n h t) ≡ holds_value there t) where
-        to_strings : Passes (claim (attribute_gap_from h n)) → Within (holds_value how.strings) (holds_value there)
-        to_strings w t p = sym (is t) ∙ w (string n h t) (or_right (says_claim (claim (attribute_gap_from h n)) (string n h t)) _ (and_both _ _ (eq-eqb h how.attribute e) (and_both _ _ (says_itself (attribute_gap_from h n)) p)))
+      module _ (e : fills how h ≡ true) (there : Values) (is : (t : ℕ) → R (string n h t) ≡ holds_value there t) where
+        to_strings : Passes (claim (attribute_gap_from h n)) → Within (filled how) (holds_value there)
+        to_strings w t p = sym (is t) ∙ w (string n h t) (or_right (says_claim (claim (attribute_gap_from h n)) (string n h t)) _ (and_both _ _ (eq-fills how h e) (and_both _ _ (says_itself (attribute_gap_from h n)) p)))
 
-        from_strings : Within (holds_value how.strings) (holds_value there) → Passes (claim (attribute_gap_from h n))
+        from_strings : Within (filled how) (holds_value there) → Passes (claim (attribute_gap_from h n))
         from_strings w d p = elim (or_cases (stays how d && says_claim (claim (attribute_gap_from h n)) d) (added how (says_claim (claim (attribute_gap_from h n))) d) p) [
           | inl k ↦ let q : attribute_gap_from h n ≡ d = says_alone (attribute_gap_from h n) d (and_right (stays how d) _ k) in
-              let z : not (eqb h how.attribute) ≡ true = ap (stays how) q ∙ and_left (stays how d) _ k in
-              absurd (false≢true (rw (eq-eqb h how.attribute e) at z))
+              let z : not (fills how h) ≡ true = ap (stays how) q ∙ and_left (stays how d) _ k in
+              absurd (false≢true (rw (eq-fills how h e) at z))
           | inr k ↦ let a = adds_strings d k in rw (← a.2) (is a.1 ∙ w a.1 a.3)
         ]
 
-        pub filled_passes : (b : Bool) → Decides b (Within (holds_value how.strings) (holds_value there)) → Decides b (Passes (claim (attribute_gap_from h n)))
+        pub filled_passes : (b : Bool) → Decides b (Within (filled how) (holds_value there)) → Decides b (Passes (claim (attribute_gap_from h n)))
         filled_passes b w = decides_map b from_strings to_strings w

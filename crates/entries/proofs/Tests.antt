@@ -2,6 +2,8 @@
 use Prim.Native.Nat.{ℕ}
 use mathlib.Core.Path.{◌≡◌, refl, sym, ◌∙◌}
 use mathlib.Core.Bool.{Bool, true, false, false≢true}
+use Rattle.sets.specs.Sets.{member}
+use Rattle.sets.specs.Inner.Promises.{MembersWithin}
 use Rattle.strings.specs.declared.Values.{Values}
 use Rattle.strings.specs.Inner.Promises.{holds_value, ValuesWithin}
 use Rattle.summaries.specs.Summaries.{Within}
@@ -24,6 +26,11 @@ module _ {P : Type 0} where
 pub decides_map : {P Q : Type 0} (b : Bool) → (P → Q) → (Q → P) → Decides b P → Decides b Q
 decides_map true f g d = f d
 decides_map false f g d = λ q. d (g q)
+
+-- Sets of numbers, compared.
+pub members_decide : (a b : ℕ) (r : Bool) → MembersWithin a b r → Decides r (Within (member a) (member b))
+members_decide a b true w = w
+members_decide a b false w = λ v. false≢true (sym w.3 ∙ v w.0 w.2)
 
 -- Sets of strings that are what attribute gaps can take, compared as these.
 pub values_decide : (F G : ℕ → Bool) (a b : Values) → ((t : ℕ) → F t ≡ holds_value a t) → ((t : ℕ) → G t ≡ holds_value b t) → (r : Bool) → ValuesWithin a b r → Decides r (Within F G)

@@ -4,13 +4,11 @@ use mathlib.Core.Path.{◌≡◌}
 use mathlib.Core.List.{List, [], ◌∷◌}
 use Rattle.commands.specs.declared.Context.{Context}
 use Rattle.commands.specs.declared.Position.{Position}
-use Rattle.summaries.specs.Proposal.{Holding, one_string, any_string}
+use Rattle.summaries.specs.Proposal.{Holding}
 use Rattle.summaries.specs.declared.Claim.{Claim}
-use Rattle.summaries.specs.declared.ClaimHere.{ClaimHere}
-use Rattle.summaries.specs.declared.ClaimHere.TheVariants.{Item}
-use Rattle.summaries.specs.declared.StringHere.{StringHere}
-use Rattle.summaries.specs.declared.StringHere.TheVariants.{One, Any}
-use Rattle.summaries.specs.Inner.Listed.{Listed, meaning_of, ClaimMoves, StringMoves, Moves}
+use Rattle.summaries.specs.declared.StringClaim.{StringClaim}
+use Rattle.std.specs.Prelude.{Option, Some}
+use Rattle.summaries.specs.Inner.Listed.{Listed, meaning_of, string_meaning_of, ClaimMoves, StringMoves, Moves}
 use Rattle.summaries.proofs.Steps.{First}
 
 module _ (x : Context) (s : List ℕ) where
@@ -49,11 +47,8 @@ module _ (x : Context) (s : List ℕ) (from : ℕ) where
 
 -- The step over an item that is known.
 module _ (s : List ℕ) (at : ℕ) where
-  pub claim_moves : (r : ClaimHere) → ClaimMoves s at r → (item : Claim) (next : Position) → r ≡ Item item next → Moves s at (meaning_of item) next
+  pub claim_moves : (r : Option (Claim × Position)) → ClaimMoves s at r → (item : Claim) (next : Position) → r ≡ Some (item, next) → Moves s at (meaning_of item) next
   claim_moves r m item next e = rw e at m
 
-  pub one_moves : (r : StringHere) → StringMoves s at r → (t : ℕ) (next : Position) → r ≡ One t next → Moves s at (one_string t) next
-  one_moves r m t next e = rw e at m
-
-  pub any_moves : (r : StringHere) → StringMoves s at r → (next : Position) → r ≡ Any next → Moves s at any_string next
-  any_moves r m next e = rw e at m
+  pub string_moves : (r : Option (StringClaim × Position)) → StringMoves s at r → (item : StringClaim) (next : Position) → r ≡ Some (item, next) → Moves s at (string_meaning_of item) next
+  string_moves r m item next e = rw e at m

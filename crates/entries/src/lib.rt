@@ -8,7 +8,7 @@ ghost use Rattle.pages.specs.Items.{Items};
 ghost use Rattle.pages.specs.Inner.Gaps.{GapsAre};
 ghost use Rattle.summaries.specs.Proposal.{root, gap_from, attribute_gap_from, Holding, claim};
 ghost use Rattle.summaries.specs.Summaries.{Summary, Strings, Within, fragment, plug_summary, plug_string_summary, says_claim, says_string, held};
-ghost use Rattle.summaries.specs.Inner.Listed.{Listed, meaning_of};
+ghost use Rattle.summaries.specs.Inner.Listed.{Listed, HoldingFits, meaning_of, string_meaning_of};
 ghost use Rattle.graphs.specs.Inner.Graphs.{holds, Keeps, nothing};
 ghost use Rattle.entries.specs.Inner.Passing.{passed, Decides};
 ghost use Rattle.entries.specs.Inner.Entries.{Loads, Unloads, ItemHolds, WithRoot, origin_of, with_origin};
@@ -163,17 +163,25 @@ pub fn roots_of(s: &[u8], here: Position) -> u64
     found
 }
 
+// The strings that an item says.
+fn said_by(item: StringClaim) -> Values
+    requires { HoldingFits (string_meaning_of item) }
+    ensures { (t : ℕ) → holds_value result t ≡ says_string (string_meaning_of item) t }
+{
+    match item {
+        StringClaim::One(t) => strings::one_value(t),
+        StringClaim::Any => strings::any_value(),
+    }
+}
+
 // The strings that the items from here on say.
 pub fn strings_of(s: &[u8], here: Position) -> Values
     ensures { (xs : List Holding) → Listed Context.StringHoldings s.now here.at xs → (t : ℕ) → held says_string xs t ≡ holds_value result t }
 {
     let mut found = strings::no_values();
     let mut at = here;
-    while let Some((claim, next)) = summaries::string_here(s, at) {
-        found = match claim {
-            StringClaim::One(t) => strings::values_union(found, strings::one_value(t)),
-            StringClaim::Any => strings::any_value(),
-        };
+    while let Some((item, next)) = summaries::string_here(s, at) {
+        found = strings::values_union(found, said_by(item));
         at = next;
     }
     found

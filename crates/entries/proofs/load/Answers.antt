@@ -1,17 +1,13 @@
-use native.Mathlib.Omega.{arith}
-use Rattle.entries.proofs.Walks.{claim_moves}
-use Rattle.entries.proofs.Loading.{load_goes, load_ends}
 use Rattle.entries.proofs.load.Goals as goal
 
 pub loop-item-init : goal.loop-item-init
 loop-item-init c = λ after l. l
 
-pub returns-in_default : goal.returns-in_default
-returns-in_default c = c.loop-item.invariant _ (load_ends c.args.s.now _ c.claim_here-step.result c.claim_here-step.ensures.is c.in_default.is _)
-
 pub loop-item-smaller : goal.loop-item-smaller
-loop-item-smaller c = let m = claim_moves c.args.s.now _ _ c.claim_here-step.ensures.fits _ _ c.in-Item.is in omega arith
+loop-item-smaller c = ?
 
 pub loop-item-preserved : goal.loop-item-preserved
-loop-item-preserved c = λ after l. c.loop-item.invariant after
-    (load_goes c.args.s.now _ c.claim_here-step.result c.claim_here-step.ensures.is _ _ c.in-Item.is c.claim_here-step.ensures.fits _ _ after c.add.ensures l)
+loop-item-preserved c = ?
+
+pub returns : goal.returns
+returns c = ?

@@ -12,15 +12,15 @@ use Rattle.entries.proofs.roots_of.Goals as goal
 pub loop-item-init : goal.loop-item-init
 loop-item-init c = gather_begins says_claim root TemplateHoldings _ _ (member 0) member_zero
 
-pub returns-in_default : goal.returns-in_default
-returns-in_default c = let s = c.args.s.now in
-    gather_ends says_claim root TemplateHoldings s _ _ (member c.loop-item.found) c.loop-item.invariant (λ ys m. claims_end s _ ys m _ c.claim_here-step.ensures.is c.in_default.is)
+pub returns : goal.returns
+returns c = let s = c.args.s.now in
+    gather_ends says_claim root TemplateHoldings s _ _ (member c.loop-item.found) c.loop-item.invariant (λ ys m. claims_end s _ ys m _ c.claim_here-item.ensures.is c.in-None.is)
 
 pub loop-item-smaller : goal.loop-item-smaller
-loop-item-smaller c = let m = claim_moves c.args.s.now _ _ c.claim_here-step.ensures.fits _ _ c.in-Item.is in
+loop-item-smaller c = let m = claim_moves c.args.s.now _ _ c.claim_here-item.ensures.fits _ _ c.in-Some.is in
     omega arith
 
 pub loop-item-preserved : goal.loop-item-preserved
 loop-item-preserved c = let s = c.args.s.now in
-    let e = c.in-Item.is in
-    gather_goes says_claim root TemplateHoldings s _ _ (member c.loop-item.found) c.loop-item.invariant _ _ (λ ys m. claims_first s _ ys m _ c.claim_here-step.ensures.is _ _ e) (member c.with_root-found.result) (c.with_root-found.ensures (claim_moves s _ _ c.claim_here-step.ensures.fits _ _ e).fits)
+    let e = c.in-Some.is in
+    gather_goes says_claim root TemplateHoldings s _ _ (member c.loop-item.found) c.loop-item.invariant _ _ (λ ys m. claims_first s _ ys m _ c.claim_here-item.ensures.is _ _ e) (member c.with_root-found.result) (c.with_root-found.ensures (claim_moves s _ _ c.claim_here-item.ensures.fits _ _ e).fits)

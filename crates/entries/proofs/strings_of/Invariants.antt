@@ -6,8 +6,8 @@ use Rattle.entries.proofs.Walks.{Walked}
 use Rattle.entries.proofs.Gathering.{StringsGathered}
 use Rattle.entries.proofs.strings_of.Given as goal
 
-abbrev pub invariant-loop-t : goal.invariant-loop-t
-invariant-loop-t l = Walked StringHoldings l.s l.initial.at.at l.at.at (StringsGathered l.found)
+abbrev pub invariant-loop-item : goal.invariant-loop-item
+invariant-loop-item l = Walked StringHoldings l.s l.initial.at.at l.at.at (StringsGathered l.found)
 
-abbrev pub decreases-loop-t : goal.decreases-loop-t
-decreases-loop-t l = length l.s - l.at.at
+abbrev pub decreases-loop-item : goal.decreases-loop-item
+decreases-loop-item l = length l.s - l.at.at
