@@ -26,7 +26,7 @@ pub judge_item-returns : goal.judge_item-returns
 judge_item-returns t c = let s = c.args in record {
   remembered = c.outcome_of-outcome.ensures.remembered;
   forward = rw (← c.item_here-item.ensures.is, c.in-Element.is) (omega (arith, c.read_attributes-named.ensures.forward, c.judge_items-list.ensures.forward));
-  judged = λ D T. rw c.of_element-wrong.ensures (element_judged D _ _ c.item_here-item.result c.item_here-item.ensures.is _ s.attributes.now s.contents.now s.clauses.now T _ _ c.in-Element.is c.read_attributes-named.result _ c.read_attributes-named.ensures.named c.judge_items-list.result _
+  judged = λ D T. (element_judged D _ _ c.item_here-item.result c.item_here-item.ensures.is _ s.attributes.now s.contents.now s.clauses.now T _ _ c.in-Element.is c.read_attributes-named.result _ c.read_attributes-named.ensures.named c.judge_items-list.result _
       (c.judge_items-list.ensures.judged D T) c.outcome_of-outcome.result (rw c.rule_of-rule.ensures at c.outcome_of-outcome.ensures.outcome));
 }
 

@@ -9,12 +9,12 @@ loop-here-init c = record { few = omega arith; left = λ o h. h; settles = λ B 
 
 pub returns-in_default : goal.returns-in_default
 returns-in_default c = let a = c.args in
-    let n = none_more c.loop-here.invariant (table_shaped a.shape a.strings.now a.order.now) (past_other _ _ _ _ c.past-past.ensures c.in_default.is (λ q. omega (arith, q))) in
+    let n = none_more c.loop-here.invariant (table_shaped a.shape a.strings.now a.order.now) (past_other _ _ _ _ c.past.ensures c.in_default.is (λ q. omega (arith, q))) in
     record { first = n.0; settled = n.1 }
 
 pub returns-then-not-held : goal.returns-then-not-held
 returns-then-not-held c = let a = c.args in
-    let o = past_over _ _ _ _ _ c.past-past.ensures c.in-Over.is in
+    let o = past_over _ _ _ _ _ c.past.ensures c.in-Some.is in
     let S = table_shaped a.shape a.strings.now a.order.now in
     record {
       first = one_fails c.loop-here.invariant S o.1 o.2 c.holds-held.ensures.truth (not-true _ c.if-not-held.true);
@@ -22,36 +22,36 @@ returns-then-not-held c = let a = c.args in
     }
 
 pub overflow_add-place : goal.overflow_add-place
-overflow_add-place c = let o = past_over _ _ _ _ _ c.past-past.ensures c.in-Over.is in
+overflow_add-place c = let o = past_over _ _ _ _ _ c.past.ensures c.in-Some.is in
     omega (arith, o.0, c.loop-here.invariant.few, c.well_formed.0.1)
 
 pub loop-here-smaller-then-to-v : goal.loop-here-smaller-then-to-v
-loop-here-smaller-then-to-v c = let o = past_over _ _ _ _ _ c.past-past.ensures c.in-Over.is in
+loop-here-smaller-then-to-v c = let o = past_over _ _ _ _ _ c.past.ensures c.in-Some.is in
     omega (arith, o.0, o.2, c.holds-held.ensures.forward)
 
 pub loop-here-preserved-then-to-v : goal.loop-here-preserved-then-to-v
 loop-here-preserved-then-to-v c = let a = c.args in
-    let o = past_over _ _ _ _ _ c.past-past.ensures c.in-Over.is in
+    let o = past_over _ _ _ _ _ c.past.ensures c.in-Some.is in
     let S = table_shaped a.shape a.strings.now a.order.now in
     one_more c.loop-here.invariant S o.1 o.2 c.holds-held.ensures.truth (not-false _ c.if-not-held.false) (omega (arith, o.0, o.2, c.holds-held.ensures.forward))
 
 pub loop-here-smaller-then-not-same : goal.loop-here-smaller-then-not-same
-loop-here-smaller-then-not-same c = let o = past_over _ _ _ _ _ c.past-past.ensures c.in-Over.is in
+loop-here-smaller-then-not-same c = let o = past_over _ _ _ _ _ c.past.ensures c.in-Some.is in
     omega (arith, o.0, o.2, c.holds-held.ensures.forward)
 
 pub loop-here-preserved-then-not-same : goal.loop-here-preserved-then-not-same
 loop-here-preserved-then-not-same c = let a = c.args in
-    let o = past_over _ _ _ _ _ c.past-past.ensures c.in-Over.is in
+    let o = past_over _ _ _ _ _ c.past.ensures c.in-Some.is in
     let S = table_shaped a.shape a.strings.now a.order.now in
     one_more c.loop-here.invariant S o.1 o.2 c.holds-held.ensures.truth (not-false _ c.if-not-held.false) (omega (arith, o.0, o.2, c.holds-held.ensures.forward))
 
 pub loop-here-smaller : goal.loop-here-smaller
-loop-here-smaller c = let o = past_over _ _ _ _ _ c.past-past.ensures c.in-Over.is in
+loop-here-smaller c = let o = past_over _ _ _ _ _ c.past.ensures c.in-Some.is in
     omega (arith, o.0, o.2, c.holds-held.ensures.forward)
 
 pub loop-here-preserved : goal.loop-here-preserved
 loop-here-preserved c = let a = c.args in
-    let o = past_over _ _ _ _ _ c.past-past.ensures c.in-Over.is in
+    let o = past_over _ _ _ _ _ c.past.ensures c.in-Some.is in
     let S = table_shaped a.shape a.strings.now a.order.now in
     one_settled c.loop-here.invariant S o.1 o.2 c.holds-held.ensures.truth (not-false _ c.if-not-held.false) (omega (arith, o.0, o.2, c.holds-held.ensures.forward)) c.is_settled-same.ensures.settled (not-false _ c.if-not-same.false)
 

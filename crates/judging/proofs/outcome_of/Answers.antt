@@ -26,6 +26,6 @@ remember-requires c = (c.shape_place-place.ensures, c.requires, c.first_failing-
 pub returns : goal.returns
 returns c = record {
   outcome = clauses_decide _ _ _ _ _ _ _ c.is_within.ensures c.if-not-is_within.false c.is_within-2.ensures c.if-not-is_within-2.false
-      c.first_failing-met.result.outcome c.first_failing-met.ensures.first;
+      c.first_failing-met.result.breach c.first_failing-met.ensures.first;
   remembered = c.remember.ensures;
 }
