@@ -6,16 +6,12 @@ use mathlib.Core.Bool.{Bool, true, false}
 use native.Mathlib.Omega.{arith}
 use lib.Dec.{eqb}
 use borrow.Author.Tests.{eq-eqb, ne_eqb, lt-ltb, le-ltb}
-use Rattle.verdicts.specs.declared.Form.{Form}
+use Rattle.std.specs.Prelude.{Option, Some, None, Result, Ok, Err}
 use Rattle.verdicts.specs.declared.Form.TheVariants.{NotRising, TooMany, Missing}
 use Rattle.commands.specs.declared.Context.{Context}
 use Rattle.commands.specs.declared.Position.{Position}
-use Rattle.commands.specs.declared.Decoded.{Decoded}
-use Rattle.commands.specs.declared.Decoded.TheVariants.{Moved}
-use Rattle.commands.specs.declared.Part.{Part}
-use Rattle.commands.specs.declared.Part.TheVariants.{Whole, Refused}
-use Rattle.commands.specs.declared.Past.{Past}
-use Rattle.commands.specs.declared.Past.TheVariants.{Over, Other}
+use Rattle.commands.specs.declared.ReadError.{ReadError}
+use Rattle.commands.specs.declared.Decoded.TheVariants.{Moved, Refused}
 use Rattle.commands.specs.Commands.{byte, allowed, command}
 use Rattle.commands.specs.Reading.{Read, whole, and_then}
 use Rattle.commands.specs.Inner.Parts.{Agrees, past}
@@ -29,29 +25,29 @@ use Rattle.pages.proofs.Laws.{some_end, item_move, attributes_move}
 use Rattle.pages.proofs.Parts.{agrees_made, refused_first, whole_first}
 
 -- What a part is made into does not change where it ends.
-made : {A B : Type 0} (g : A → B) (x : Read A) (r : Part) → Agrees x r → Agrees (and_then x (λ a end. whole (g a) end)) r
+made : {A B : Type 0} (g : A → B) (x : Read A) (r : Result Position ReadError) → Agrees x r → Agrees (and_then x (λ a end. whole (g a) end)) r
 made g x r h = agrees_made _ _ g (λ a end u. u) x r h
 
 -- The attributes; `x` is where they stand.
 module _ (k : Kind) (x : Context) (is : x ≡ attribute_context k) (s before : List ℕ) (at : ℕ) where
-  pub attributes_end : (p : Position) → allowed x (byte s at) ≡ false → p.at ≡ at → AttributesRead k s before at (Whole p)
+  pub attributes_end : (p : Position) → allowed x (byte s at) ≡ false → p.at ≡ at → AttributesRead k s before at (Ok p)
   unfolding attributes
   attributes_end p a e zero enough = absurd (omega arith)
   attributes_end p a e (suc f) enough = rw (← is, a) (e, tt)
 
   module _ (a : allowed x (byte s at) ≡ true) where
-    pub attributes_refused : (f : Form) (n : ℕ) (r : Part) → command x s at ≡ Decoded.Refused f n → r ≡ Refused f n → AttributesRead k s before at r
+    pub attributes_refused : (e : ReadError) → command x s at ≡ Refused e.form e.at → AttributesRead k s before at (Err e)
     unfolding attributes
-    attributes_refused f n r d is_refused zero enough = absurd (omega arith)
-    attributes_refused f n r d is_refused (suc g) enough = rw (← is, a, d, is_refused) (refl, refl)
+    attributes_refused e d zero enough = absurd (omega arith)
+    attributes_refused e d (suc g) enough = rw (← is, a, d) (refl, refl)
 
     module _ (code : ℕ) (next : Position) (d : command x s at ≡ Moved code next) where
-      pub attributes_twice : is_in (byte s (at + 1)) before ≡ true → AttributesRead k s before at (Refused NotRising at)
+      pub attributes_twice : is_in (byte s (at + 1)) before ≡ true → AttributesRead k s before at (Err (record { form = NotRising; at = at }))
       unfolding attributes
       attributes_twice twice zero enough = absurd (omega arith)
       attributes_twice twice (suc f) enough = rw (← is, a, d, twice) (refl, refl)
 
-      pub attributes_next : (r : Part) → is_in (byte s (at + 1)) before ≡ false → AttributesRead k s (byte s (at + 1) ∷ before) next.at r
+      pub attributes_next : (r : Result Position ReadError) → is_in (byte s (at + 1)) before ≡ false → AttributesRead k s (byte s (at + 1) ∷ before) next.at r
           → AttributesRead k s before at r
       unfolding attributes
       attributes_next r fresh goes zero enough = absurd (omega arith)
@@ -61,75 +57,75 @@ module _ (k : Kind) (x : Context) (is : x ≡ attribute_context k) (s before : L
 
 -- A list of items.
 module _ (k : Kind) (ruled : ℕ → Bool) (s : List ℕ) (depth at : ℕ) where
-  pub items_end : (p : Position) → byte s at ≡ end_of depth → p.at ≡ at + 1 → ItemsRead k ruled s depth at (Whole p)
+  pub items_end : (p : Position) → byte s at ≡ end_of depth → p.at ≡ at + 1 → ItemsRead k ruled s depth at (Ok p)
   unfolding items
   items_end p ended e zero enough = absurd (omega arith)
   items_end p ended e (suc f) enough = rw (eq-eqb _ _ ended) (e, tt)
 
-  module _ (goes_on : byte s at ≡ end_of depth → ⊥) (first : Part) (reads : ItemRead k ruled s depth at first) where
-    pub items_refused : (f : Form) (n : ℕ) → first ≡ Refused f n → ItemsRead k ruled s depth at first
+  module _ (goes_on : byte s at ≡ end_of depth → ⊥) (first : Result Position ReadError) (reads : ItemRead k ruled s depth at first) where
+    pub items_refused : (e : ReadError) → first ≡ Err e → ItemsRead k ruled s depth at (Err e)
     unfolding items
-    items_refused f n e zero enough = absurd (omega arith)
-    items_refused f n e (suc g) enough = rw (ne_eqb _ _ goes_on) (refused_first _ _ (item g k ruled s depth at) first (reads g (omega arith)) f n e)
+    items_refused e is zero enough = absurd (omega arith)
+    items_refused e is (suc g) enough = rw (ne_eqb _ _ goes_on) (refused_first (item g k ruled s depth at) first (reads g (omega arith)) _ _ e is)
 
-    pub items_next : (next : Position) (r : Part) → first ≡ Whole next → ItemsRead k ruled s depth next.at r → ItemsRead k ruled s depth at r
+    pub items_next : (next : Position) (r : Result Position ReadError) → first ≡ Ok next → ItemsRead k ruled s depth next.at r → ItemsRead k ruled s depth at r
     unfolding items
     items_next next r e goes zero enough = absurd (omega arith)
     items_next next r e goes (suc f) enough = rw (ne_eqb _ _ goes_on)
-        (whole_first _ _ (item f k ruled s depth at) first (reads f (omega arith)) next r e λ i e.
+        (whole_first (item f k ruled s depth at) first (reads f (omega arith)) _ _ next r e λ i e.
         let m = item_move f k ruled s depth at i next.at e in
         made _ (items f k ruled s depth next.at) r (goes f (omega arith)))
 
 -- What ends a list is passed over, or the list goes on.
-module _ (s : List ℕ) (depth at end : ℕ) (is : end ≡ end_of depth) (r : Past) (here : r ≡ past s at end) where
-  pub list_ended : (next : Position) → r ≡ Over next → (byte s at ≡ end_of depth) × (next.at ≡ at + 1)
+module _ (s : List ℕ) (depth at end : ℕ) (is : end ≡ end_of depth) (r : Option Position) (here : r ≡ past s at end) where
+  pub list_ended : (next : Position) → r ≡ Some next → (byte s at ≡ end_of depth) × (next.at ≡ at + 1)
   list_ended next e = let o = past_over s at end r next here e in (o.1 ∙ is, o.2)
 
-  pub list_goes_on : r ≡ Other → byte s at ≡ end_of depth → ⊥
+  pub list_goes_on : r ≡ None → byte s at ≡ end_of depth → ⊥
   list_goes_on e ended = past_other s at end r here e (λ z. some_end (eqb depth 0) (sym is ∙ z)) (ended ∙ sym is)
 
 -- An item; `x` is where it stands.
 module _ (k : Kind) (x : Context) (is : x ≡ item_context k) (ruled : ℕ → Bool) (s : List ℕ) (depth at : ℕ) where
-  pub item_refused : (f : Form) (n : ℕ) (r : Part) → command x s at ≡ Decoded.Refused f n → r ≡ Refused f n → ItemRead k ruled s depth at r
+  pub item_refused : (e : ReadError) → command x s at ≡ Refused e.form e.at → ItemRead k ruled s depth at (Err e)
   unfolding items
-  item_refused f n r d is_refused zero enough = absurd (omega arith)
-  item_refused f n r d is_refused (suc g) enough = rw (← is, d, is_refused) (refl, refl)
+  item_refused e d zero enough = absurd (omega arith)
+  item_refused e d (suc g) enough = rw (← is, d) (refl, refl)
 
   module _ (code : ℕ) (next : Position) (d : command x s at ≡ Moved code next) where
-    pub item_leaf : (code ≡ 0x23 → ⊥) → ItemRead k ruled s depth at (Whole next)
+    pub item_leaf : (code ≡ 0x23 → ⊥) → ItemRead k ruled s depth at (Ok next)
     unfolding items
     item_leaf leaf zero enough = absurd (omega arith)
     item_leaf leaf (suc f) enough = rw (← is, d, ne_eqb _ _ leaf) (refl, tt)
 
     module _ (opens : code ≡ 0x23) where
-      pub item_missing : ruled (byte s (at + 1)) ≡ false → ItemRead k ruled s depth at (Refused Missing at)
+      pub item_missing : ruled (byte s (at + 1)) ≡ false → ItemRead k ruled s depth at (Err (record { form = Missing; at = at }))
       unfolding items
       item_missing lacks zero enough = absurd (omega arith)
       item_missing lacks (suc f) enough = rw (← is, d, eq-eqb _ _ opens, lacks) (refl, refl)
 
       module _ (has : ruled (byte s (at + 1)) ≡ true) where
-        pub item_deep : nesting k ≤ depth → ItemRead k ruled s depth at (Refused TooMany at)
+        pub item_deep : nesting k ≤ depth → ItemRead k ruled s depth at (Err (record { form = TooMany; at = at }))
         unfolding items
         item_deep deep zero enough = absurd (omega arith)
         item_deep deep (suc f) enough = rw (← is, d, eq-eqb _ _ opens, has, le-ltb _ _ deep) (refl, refl)
 
-        module _ (nests : depth < nesting k) (named : Part) (reads : AttributesRead k s [] next.at named) where
-          pub item_attributes_refused : (f : Form) (n : ℕ) → named ≡ Refused f n → ItemRead k ruled s depth at named
+        module _ (nests : depth < nesting k) (named : Result Position ReadError) (reads : AttributesRead k s [] next.at named) where
+          pub item_attributes_refused : (e : ReadError) → named ≡ Err e → ItemRead k ruled s depth at (Err e)
           unfolding items
-          item_attributes_refused f n e zero enough = absurd (omega arith)
-          item_attributes_refused f n e (suc g) enough =
+          item_attributes_refused e refuses zero enough = absurd (omega arith)
+          item_attributes_refused e refuses (suc g) enough =
               let m = moved x s at code next d in
               rw (← is, d, eq-eqb _ _ opens, has, lt-ltb _ _ nests)
-              (refused_first _ _ (attributes g k s [] next.at) named (reads g (omega arith)) f n e)
+              (refused_first (attributes g k s [] next.at) named (reads g (omega arith)) _ _ e refuses)
 
-          pub item_element : (inside : Position) (r : Part) → named ≡ Whole inside → ItemsRead k ruled s (depth + 1) inside.at r
+          pub item_element : (inside : Position) (r : Result Position ReadError) → named ≡ Ok inside → ItemsRead k ruled s (depth + 1) inside.at r
               → ItemRead k ruled s depth at r
           unfolding items
           item_element inside r e goes zero enough = absurd (omega arith)
           item_element inside r e goes (suc f) enough =
               let m = moved x s at code next d in
               rw (← is, d, eq-eqb _ _ opens, has, lt-ltb _ _ nests)
-              (whole_first _ _ (attributes f k s [] next.at) named (reads f (omega arith)) inside r e λ δ e.
+              (whole_first (attributes f k s [] next.at) named (reads f (omega arith)) _ _ inside r e λ δ e.
               let n = attributes_move f k s [] next.at δ inside.at m.inside e in
               made _ (items f k ruled s (depth + 1) inside.at) r (goes f (omega arith)))
 

@@ -9,30 +9,28 @@ use native.Mathlib.Omega.{arith}
 use lib.ListN.{length, get_or, set, length-append, length-set, get_or-append}
 use lib.Seq.{get_or-set_same, get_or-set_other, get_or_at}
 use borrow.Author.Tests.{eq-eqb, ne_eqb, lt-ltb, le-ltb}
-use Rattle.verdicts.specs.declared.Form.{Form}
+use Rattle.std.specs.Prelude.{Result, Ok, Err}
 use Rattle.verdicts.specs.declared.Form.TheVariants.{TooMany}
-use Rattle.commands.specs.declared.Context.TheVariants.{Templates}
+use Rattle.commands.specs.declared.Context.TheVariants as Contexts
 use Rattle.commands.specs.declared.Position.{Position}
-use Rattle.commands.specs.declared.Decoded.TheVariants.{Moved}
-use Rattle.commands.specs.declared.Decoded.TheVariants as Decoded
-use Rattle.commands.specs.declared.Part.{Part}
-use Rattle.commands.specs.declared.Part.TheVariants.{Whole, Refused}
+use Rattle.commands.specs.declared.ReadError.{ReadError}
+use Rattle.commands.specs.declared.Decoded.TheVariants.{Moved, Refused}
 use Rattle.commands.specs.Commands.{command}
-use Rattle.commands.specs.Inner.Parts.{AgreesAs, Enough}
+use Rattle.commands.specs.Inner.Parts.{AgreesWith, Enough}
 use Rattle.commands.proofs.Laws.{moved}
 use Rattle.pages.specs.declared.Kind.TheVariants.{Template}
-use Rattle.pages.specs.declared.TemplatesRead.{TemplatesRead}
+use Rattle.pages.specs.declared.Templates.{Templates}
 use Rattle.pages.specs.Items.{Items, none}
 use Rattle.pages.specs.ItemReading.{items, most_templates, templates}
 use Rattle.pages.specs.Inner.Promises.{ItemsRead, StandsAt, Located, TemplatesFrom}
 use Rattle.pages.proofs.Laws.{items_move}
-use Rattle.pages.proofs.Parts.{agrees_made, refused_first}
+use Rattle.pages.proofs.Parts.{agrees_with_made, refused_first_with}
 use Rattle.pages.proofs.Trees.{TreeRead}
 
 -- The templates from an offset on, after those done: where they are read whole, all of them are located.
-abbrev pub TemplatesOn : (ℕ → Bool) → List ℕ → List Items → ℕ → ℕ → TemplatesRead → Type 0
+abbrev pub TemplatesOn : (ℕ → Bool) → List ℕ → List Items → ℕ → ℕ → Result (Templates × Position) ReadError → Type 0
 TemplatesOn ruled s done count at r = (f : ℕ) → Enough s at f
-    → AgreesAs (λ φs end. Located ruled s (done ++ φs) r.count r.starts) (templates f ruled s count at) r.part
+    → AgreesWith (λ φs found. Located ruled s (done ++ φs) found.count found.starts) (templates f ruled s count at) r
 
 module _ (ruled : ℕ → Bool) (s : List ℕ) where
   pub located_none : (starts : List ℕ) → Located ruled s [] 0 starts
@@ -54,62 +52,62 @@ module _ (ruled : ℕ → Bool) (s : List ℕ) where
     ];
   }
 
-module _ (ruled : ℕ → Bool) (s : List ℕ) (done : List Items) (count at : ℕ) (r : TemplatesRead) where
-  pub templates_refused : (f : Form) (n : ℕ) → command Templates s at ≡ Decoded.Refused f n → r.part ≡ Refused f n → TemplatesOn ruled s done count at r
+module _ (ruled : ℕ → Bool) (s : List ℕ) (done : List Items) (count at : ℕ) where
+  pub templates_refused : (e : ReadError) → command Contexts.Templates s at ≡ Refused e.form e.at → TemplatesOn ruled s done count at (Err e)
   unfolding templates
-  templates_refused f n d is_refused zero enough = absurd (omega arith)
-  templates_refused f n d is_refused (suc g) enough = rw (d, is_refused) (refl, refl)
+  templates_refused e d zero enough = absurd (omega arith)
+  templates_refused e d (suc g) enough = rw d (refl, refl)
 
-  module _ (code : ℕ) (next : Position) (d : command Templates s at ≡ Moved code next) where
-    pub templates_end : code ≡ 0x2F → r.part ≡ Whole next → Located ruled s done r.count r.starts → TemplatesOn ruled s done count at r
+  module _ (code : ℕ) (next : Position) (d : command Contexts.Templates s at ≡ Moved code next) where
+    pub templates_end : (found : Templates) → code ≡ 0x2F → Located ruled s done found.count found.starts → TemplatesOn ruled s done count at (Ok (found, next))
     unfolding templates
-    templates_end ended is_whole located zero enough = absurd (omega arith)
-    templates_end ended is_whole located (suc f) enough = rw (d, eq-eqb _ _ ended, is_whole) (refl, rw (append-nil done) located)
+    templates_end found ended located zero enough = absurd (omega arith)
+    templates_end found ended located (suc f) enough = rw (d, eq-eqb _ _ ended) (refl, rw (append-nil done) located)
 
     module _ (starts : code ≡ 0x2F → ⊥) where
-      pub templates_many : most_templates ≤ count → r.part ≡ Refused TooMany at → TemplatesOn ruled s done count at r
+      pub templates_many : most_templates ≤ count → TemplatesOn ruled s done count at (Err (record { form = TooMany; at = at }))
       unfolding templates
-      templates_many many is_refused zero enough = absurd (omega arith)
-      templates_many many is_refused (suc f) enough = rw (d, ne_eqb _ _ starts, le-ltb _ _ many, is_refused) (refl, refl)
+      templates_many many zero enough = absurd (omega arith)
+      templates_many many (suc f) enough = rw (d, ne_eqb _ _ starts, le-ltb _ _ many) (refl, refl)
 
       module _ (few : count < most_templates) where
-        pub template_refused : (f : Form) (n : ℕ) (body : Part) → ItemsRead Template ruled s 0 next.at body → body ≡ Refused f n → r.part ≡ body
-            → TemplatesOn ruled s done count at r
+        pub template_refused : (e : ReadError) (body : Result Position ReadError) → ItemsRead Template ruled s 0 next.at body → body ≡ Err e
+            → TemplatesOn ruled s done count at (Err e)
         unfolding templates
-        template_refused f n body reads e same zero enough = absurd (omega arith)
-        template_refused f n body reads e same (suc g) enough =
-            let m = moved Templates s at code next d in
-            rw (d, ne_eqb _ _ starts, lt-ltb _ _ few, same) (refused_first _ _ (items g Template ruled s 0 next.at) body (reads g (omega arith)) f n e)
+        template_refused e body reads is zero enough = absurd (omega arith)
+        template_refused e body reads is (suc g) enough =
+            let m = moved Contexts.Templates s at code next d in
+            rw (d, ne_eqb _ _ starts, lt-ltb _ _ few) (refused_first_with (items g Template ruled s 0 next.at) body (reads g (omega arith)) _ _ e is)
 
-        pub templates_next : (after : ℕ) (read : TreeRead Template ruled s 0 next.at after)
+        pub templates_next : (r : Result (Templates × Position) ReadError) (after : ℕ) (read : TreeRead Template ruled s 0 next.at after)
             → TemplatesOn ruled s (done ++ (read.tree ∷ [])) (count + 1) after r → TemplatesOn ruled s done count at r
         unfolding templates
-        templates_next after read goes zero enough = absurd (omega arith)
-        templates_next after read goes (suc f) enough =
-            let m = moved Templates s at code next d in
+        templates_next r after read goes zero enough = absurd (omega arith)
+        templates_next r after read goes (suc f) enough =
+            let m = moved Contexts.Templates s at code next d in
             let reads = read.reads f (omega arith) in
             let n = items_move f Template ruled s 0 next.at read.tree after reads in
             rw (d, ne_eqb _ _ starts, lt-ltb _ _ few, reads)
-            (agrees_made _ _ (λ φs. read.tree ∷ φs) (λ φs end located. rw (append_assoc done (read.tree ∷ []) φs) at located)
-            (templates f ruled s (count + 1) after) r.part (goes f (omega arith)))
+            (agrees_with_made _ _ (λ φs. read.tree ∷ φs) (λ φs found located. rw (append_assoc done (read.tree ∷ []) φs) at located)
+            (templates f ruled s (count + 1) after) r (goes f (omega arith)))
 
 -- The templates done in the turns of a loop: they are located, and what is read after them goes on them.
 pub record TemplatesDone (ruled : ℕ → Bool) (s : List ℕ) (from count : ℕ) (starts : List ℕ) (at : ℕ) : Type 0 where
   pub done : List Items
   pub located : Located ruled s done count starts
   pub wide : length starts ≡ 32
-  pub goes : (r : TemplatesRead) → TemplatesOn ruled s done count at r → TemplatesFrom ruled s from r
+  pub goes : (r : Result (Templates × Position) ReadError) → TemplatesOn ruled s done count at r → TemplatesFrom ruled s from r
 
 module _ (ruled : ℕ → Bool) (s : List ℕ) (from : ℕ) where
   pub done_none : (starts : List ℕ) → length starts ≡ 32 → TemplatesDone ruled s from 0 starts from
   done_none starts wide = record { done = []; located = located_none ruled s starts; wide = wide; goes = λ r h. h }
 
   pub done_more : (count : ℕ) (starts : List ℕ) (at : ℕ) (h : TemplatesDone ruled s from count starts at)
-      → (code : ℕ) (next : Position) → command Templates s at ≡ Moved code next → (code ≡ 0x2F → ⊥) → count < most_templates
+      → (code : ℕ) (next : Position) → command Contexts.Templates s at ≡ Moved code next → (code ≡ 0x2F → ⊥) → count < most_templates
       → (after : ℕ) → TreeRead Template ruled s 0 next.at after → TemplatesDone ruled s from (count + 1) (set starts (count + 1) next.at) after
   done_more count starts at h code next d begins few after read = record {
     done = h.done ++ (read.tree ∷ []);
     located = located_more ruled s h.done count starts next.at read.tree h.located (omega (arith, h.wide)) λ f enough. (after, read.reads f enough);
     wide = length-set starts (count + 1) next.at ∙ h.wide;
-    goes = λ r rest. h.goes r (templates_next ruled s h.done count at r code next d begins few after read rest);
+    goes = λ r rest. h.goes r (templates_next ruled s h.done count at code next d begins few r after read rest);
   }

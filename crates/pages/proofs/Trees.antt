@@ -6,9 +6,9 @@ use mathlib.Core.List.{List}
 use mathlib.Core.Bool.{Bool}
 use native.Mathlib.Omega.{arith}
 use lib.ListN.{length}
+use Rattle.std.specs.Prelude.{Result, Ok}
 use Rattle.commands.specs.declared.Position.{Position}
-use Rattle.commands.specs.declared.Part.{Part}
-use Rattle.commands.specs.declared.Part.TheVariants.{Whole}
+use Rattle.commands.specs.declared.ReadError.{ReadError}
 use Rattle.commands.specs.Reading.{whole}
 use Rattle.commands.specs.Inner.Parts.{Enough}
 use Rattle.pages.specs.declared.Kind.{Kind}
@@ -22,13 +22,13 @@ use Rattle.pages.proofs.Parts.{agrees_whole}
 abbrev plenty : List ℕ → ℕ → ℕ
 plenty s at = (length s - at) + (length s - at) + 2
 
-pub attributes_onward : (k : Kind) (s before : List ℕ) (at : ℕ) (r : Part) (p : Position) → r ≡ Whole p → AttributesRead k s before at r
+pub attributes_onward : (k : Kind) (s before : List ℕ) (at : ℕ) (r : Result Position ReadError) (p : Position) → r ≡ Ok p → AttributesRead k s before at r
     → at ≤ length s → (at ≤ p.at) × (p.at ≤ length s)
 attributes_onward k s before at r p e h inside =
     let w = agrees_whole _ (attributes (plenty s at) k s before at) r p e (h (plenty s at) (omega arith)) in
     attributes_move (plenty s at) k s before at w.0 p.at inside w.1
 
-pub item_onward : (k : Kind) (ruled : ℕ → Bool) (s : List ℕ) (depth at : ℕ) (r : Part) (p : Position) → r ≡ Whole p
+pub item_onward : (k : Kind) (ruled : ℕ → Bool) (s : List ℕ) (depth at : ℕ) (r : Result Position ReadError) (p : Position) → r ≡ Ok p
     → ItemRead k ruled s depth at r → Onward s at p.at
 item_onward k ruled s depth at r p e h =
     let w = agrees_whole _ (item (plenty s at) k ruled s depth at) r p e (h (plenty s at) (omega arith)) in
@@ -39,7 +39,7 @@ pub record TreeRead (k : Kind) (ruled : ℕ → Bool) (s : List ℕ) (depth at e
   pub reads : (f : ℕ) → Enough s at f → items f k ruled s depth at ≡ whole tree end
   pub onward : Onward s at end
 
-pub tree_read : (k : Kind) (ruled : ℕ → Bool) (s : List ℕ) (depth at : ℕ) (r : Part) (p : Position) → r ≡ Whole p
+pub tree_read : (k : Kind) (ruled : ℕ → Bool) (s : List ℕ) (depth at : ℕ) (r : Result Position ReadError) (p : Position) → r ≡ Ok p
     → ItemsRead k ruled s depth at r → TreeRead k ruled s depth at p.at
 tree_read k ruled s depth at r p e h =
     let w = agrees_whole _ (items (plenty s at) k ruled s depth at) r p e (h (plenty s at) (omega arith)) in

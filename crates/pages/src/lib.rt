@@ -210,7 +210,7 @@ fn items_gaps(s: &[u8], here: Position, gaps: u64) -> GapsFound
     loop {
         let item = item_here(s, p);
         match item {
-            ItemHere::Text(next) | ItemHere::Blank(next) => p = next,
+            ItemHere::Text(next) => p = next,
             ItemHere::Gap(g, next) => {
                 all = sets::with(all, g);
                 p = next;
@@ -220,6 +220,7 @@ fn items_gaps(s: &[u8], here: Position, gaps: u64) -> GapsFound
                 all = inside.gaps;
                 p = inside.next;
             }
+            ItemHere::Blank(next) => p = next,
             ItemHere::End(next) => return GapsFound { gaps: all, next },
         }
     }
@@ -248,7 +249,13 @@ pub fn gaps_of(s: &[u8], templates: &Templates) -> [u64; 32]
 
 // A list of items below `depth` open elements, up to and with what ends it; `declared` is the set of elements that have a rule.
 #[cycle(read_item_read_items)]
-fn read_items(kind: Kind, declared: u64, s: &[u8], here: Position, depth: usize) -> Result<Position, ReadError>
+fn read_items(
+    kind: Kind,
+    declared: u64,
+    s: &[u8],
+    here: Position,
+    depth: usize,
+) -> Result<Position, ReadError>
     ensures { ItemsRead kind (member declared) s.now depth here.at result }
 {
     let end = end_of(depth);
@@ -263,7 +270,13 @@ fn read_items(kind: Kind, declared: u64, s: &[u8], here: Position, depth: usize)
 
 // Text, blank text, a gap, or an element with its attributes and contents.
 #[cycle(read_item_read_items)]
-fn read_item(kind: Kind, declared: u64, s: &[u8], here: Position, depth: usize) -> Result<Position, ReadError>
+fn read_item(
+    kind: Kind,
+    declared: u64,
+    s: &[u8],
+    here: Position,
+    depth: usize,
+) -> Result<Position, ReadError>
     ensures { ItemRead kind (member declared) s.now depth here.at result }
 {
     let d = here.item_command(s, item_context(kind));
@@ -322,7 +335,11 @@ pub fn read_page(declared: u64, s: &[u8]) -> Result<Position, ReadError>
 }
 
 // The templates of a job, up to `2F`.
-pub fn read_templates(declared: u64, s: &[u8], here: Position) -> Result<(Templates, Position), ReadError>
+pub fn read_templates(
+    declared: u64,
+    s: &[u8],
+    here: Position,
+) -> Result<(Templates, Position), ReadError>
     ensures { TemplatesFrom (member declared) s.now here.at result }
 {
     let mut count: usize = 0;

@@ -18,7 +18,7 @@ use Rattle.commands.specs.declared.Part.TheVariants as Parts
 use Rattle.commands.specs.Commands.{command}
 use Rattle.commands.specs.Reading.{Read, whole, refused, and_then, on_decoded, when}
 use Rattle.commands.proofs.Laws.{MovedOver, moved}
-use Rattle.vocabularies.specs.Inner.Promises.{part_of}
+use Rattle.commands.specs.Inner.Parts.{part_of}
 use Rattle.programs.specs.declared.ProgramRead.{ProgramRead}
 use Rattle.programs.specs.declared.Statement as Declared
 use Rattle.programs.specs.Program.{statement_names, named}

@@ -1,11 +1,12 @@
 use Prim.Native.Nat.{◌+◌}
-use mathlib.Core.Path.{◌≡◌, sym, ap, ◌∙◌}
+use mathlib.Core.Path.{◌≡◌, sym, ◌∙◌}
 use native.Mathlib.Omega.{arith}
+use borrow.Author.Rules.{rules}
+use Rattle.std.specs.Prelude.{Err}
 use Rattle.sets.specs.Sets.{member}
 use Rattle.commands.specs.declared.Decoded.TheVariants.{Moved}
 use Rattle.commands.specs.Commands.{byte, command}
-use Rattle.commands.specs.Inner.Parts.{part_of}
-use Rattle.commands.proofs.Laws.{moved}
+use Rattle.commands.proofs.Laws.{moved, refused_with}
 use Rattle.pages.proofs.Laws.{element_range}
 use Rattle.pages.proofs.Agreement.{items_end, items_refused, items_next, list_ended, list_goes_on, item_refused, item_leaf, item_missing, item_deep, item_attributes_refused, item_element, item_permitted}
 use Rattle.pages.proofs.Trees.{attributes_onward, item_onward}
@@ -17,8 +18,7 @@ read_item-item_command-d-requires t c =
 
 pub read_item-returns-in_default : goal.read_item-returns-in_default
 read_item-returns-in_default t c =
-    let told = c.in_default in
-    item_refused _ c.item_context.result c.item_context.ensures _ _ _ _ told.field-0 told.field-1 _ (sym c.item_command-d.ensures ∙ told.is) (c.part.ensures ∙ ap part_of told.is)
+    item_refused _ c.item_context.result c.item_context.ensures _ _ _ _ _ (sym c.item_command-d.ensures ∙ refused_with _ _ c.refusal.ensures)
 
 pub read_item-returns-then-code-ne35 : goal.read_item-returns-then-code-ne35
 read_item-returns-then-code-ne35 t c =
@@ -43,11 +43,12 @@ read_item-returns-then-not-has t c =
     let ruled : member c.args.declared (byte c.args.s.now (c.args.here.at + 1)) ≡ c.has.result = rw (← c.operand.ensures) (sym c.has.ensures) in
     item_missing _ c.item_context.result c.item_context.ensures _ _ _ _ _ _ stands c.if-code-ne35.false (ruled ∙ c.if-not-has.true)
 
-pub read_item-returns-in_default-attributes : goal.read_item-returns-in_default-attributes
-read_item-returns-in_default-attributes t c =
+pub read_item-returns-in_err-inside : goal.read_item-returns-in_err-inside
+read_item-returns-in_err-inside t c =
     let stands : command c.item_context.result c.args.s.now c.args.here.at ≡ Moved c.in-Moved.code c.in-Moved.next = sym c.item_command-d.ensures ∙ c.in-Moved.is in
     let ruled : member c.args.declared (byte c.args.s.now (c.args.here.at + 1)) ≡ c.has.result = rw (← c.operand.ensures) (sym c.has.ensures) in
-    item_attributes_refused _ c.item_context.result c.item_context.ensures _ _ _ _ _ _ stands c.if-code-ne35.false (ruled ∙ c.if-not-has.false) (rw (← c.most_nested.ensures) c.if-most_nested-depth.false) _ c.read_attributes-attributes.ensures _ _ c.in_default-attributes.is
+    let up : c.from_residual.result ≡ Err c.in_err-inside.field-0.0 = search rules in
+    rw up (item_attributes_refused _ c.item_context.result c.item_context.ensures _ _ _ _ _ _ stands c.if-code-ne35.false (ruled ∙ c.if-not-has.false) (rw (← c.most_nested.ensures) c.if-most_nested-depth.false) _ c.read_attributes.ensures _ c.in_err-inside.was)
 
 pub read_item-overflow_add-depth : goal.read_item-overflow_add-depth
 read_item-overflow_add-depth t c =
@@ -57,41 +58,42 @@ pub read_item-read_items-requires : goal.read_item-read_items-requires
 read_item-read_items-requires t c =
     let stands : command c.item_context.result c.args.s.now c.args.here.at ≡ Moved c.in-Moved.code c.in-Moved.next = sym c.item_command-d.ensures ∙ c.in-Moved.is in
     let m = moved _ _ _ _ _ stands in
-    let i = attributes_onward _ _ _ _ _ _ c.in-Whole.is c.read_attributes-attributes.ensures m.inside in
+    let i = attributes_onward _ _ _ _ _ _ c.in_ok-inside.was c.read_attributes.ensures m.inside in
     (omega (arith, i, m.forward), tt)
 
 pub read_item-returns : goal.read_item-returns
 read_item-returns t c =
     let stands : command c.item_context.result c.args.s.now c.args.here.at ≡ Moved c.in-Moved.code c.in-Moved.next = sym c.item_command-d.ensures ∙ c.in-Moved.is in
     let ruled : member c.args.declared (byte c.args.s.now (c.args.here.at + 1)) ≡ c.has.result = rw (← c.operand.ensures) (sym c.has.ensures) in
-    item_element _ c.item_context.result c.item_context.ensures _ _ _ _ _ _ stands c.if-code-ne35.false (ruled ∙ c.if-not-has.false) (rw (← c.most_nested.ensures) c.if-most_nested-depth.false) _ c.read_attributes-attributes.ensures _ _ c.in-Whole.is c.read_items.ensures
+    item_element _ c.item_context.result c.item_context.ensures _ _ _ _ _ _ stands c.if-code-ne35.false (ruled ∙ c.if-not-has.false) (rw (← c.most_nested.ensures) c.if-most_nested-depth.false) _ c.read_attributes.ensures _ _ c.in_ok-inside.was c.read_items.ensures
 
 pub read_items-loop-next-init : goal.read_items-loop-next-init
 read_items-loop-next-init t c =
     (omega arith, λ r h. h)
 
-pub read_items-returns-in-Over : goal.read_items-returns-in-Over
-read_items-returns-in-Over t c =
-    let e = list_ended _ c.args.depth _ _ c.end_of-end.ensures _ c.past-past.ensures _ c.in-Over.is in
+pub read_items-returns-in-Some : goal.read_items-returns-in-Some
+read_items-returns-in-Some t c =
+    let e = list_ended _ c.args.depth _ _ c.end_of-end.ensures _ c.past.ensures _ c.in-Some.is in
     c.loop-next.invariant.1 _ (items_end _ _ _ _ _ _ e.0 e.1)
 
-pub read_items-read_item-part-requires : goal.read_items-read_item-part-requires
-read_items-read_item-part-requires t c =
+pub read_items-read_item-requires : goal.read_items-read_item-requires
+read_items-read_item-requires t c =
     (omega (arith, c.loop-next.invariant.0, c.decreases), tt)
 
-pub read_items-returns-in_default-part : goal.read_items-returns-in_default-part
-read_items-returns-in_default-part t c =
-    let goes_on = list_goes_on _ c.args.depth _ _ c.end_of-end.ensures _ c.past-past.ensures c.in_default.is in
-    c.loop-next.invariant.1 _ (items_refused _ _ _ _ _ goes_on _ c.read_item-part.ensures _ _ c.in_default-part.is)
+pub read_items-returns-in_err-p : goal.read_items-returns-in_err-p
+read_items-returns-in_err-p t c =
+    let goes_on = list_goes_on _ c.args.depth _ _ c.end_of-end.ensures _ c.past.ensures c.in_default.is in
+    let up : c.from_residual.result ≡ Err c.in_err-p.field-0.0 = search rules in
+    c.loop-next.invariant.1 _ (rw up (items_refused _ _ _ _ _ goes_on _ c.read_item.ensures _ c.in_err-p.was))
 
 pub read_items-loop-next-smaller : goal.read_items-loop-next-smaller
 read_items-loop-next-smaller t c =
-    let o = item_onward _ _ _ _ _ _ _ c.in-Whole.is c.read_item-part.ensures in
+    let o = item_onward _ _ _ _ _ _ _ c.in_ok-p.was c.read_item.ensures in
     omega (arith, o.forward, o.within)
 
 pub read_items-loop-next-preserved : goal.read_items-loop-next-preserved
 read_items-loop-next-preserved t c =
-    let q = c.in-Whole.is in
-    let goes_on = list_goes_on _ c.args.depth _ _ c.end_of-end.ensures _ c.past-past.ensures c.in_default.is in
-    let o = item_onward _ _ _ _ _ _ _ q c.read_item-part.ensures in
-    (omega (arith, o.forward, c.loop-next.invariant.0), λ r h. c.loop-next.invariant.1 r (items_next _ _ _ _ _ goes_on _ c.read_item-part.ensures _ r q h))
+    let q = c.in_ok-p.was in
+    let goes_on = list_goes_on _ c.args.depth _ _ c.end_of-end.ensures _ c.past.ensures c.in_default.is in
+    let o = item_onward _ _ _ _ _ _ _ q c.read_item.ensures in
+    (omega (arith, o.forward, c.loop-next.invariant.0), λ r h. c.loop-next.invariant.1 r (items_next _ _ _ _ _ goes_on _ c.read_item.ensures _ r q h))

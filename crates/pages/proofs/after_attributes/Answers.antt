@@ -1,25 +1,24 @@
 use mathlib.Core.Path.{refl}
 use native.Mathlib.Omega.{arith}
-use Rattle.pages.proofs.Steps.{fixed_moves, open_moves}
-use Rattle.pages.proofs.Walks.{after_fixed, after_open, after_none}
+use Rattle.pages.proofs.Walks.{after_one, after_none}
 use Rattle.pages.proofs.after_attributes.Goals as goal
 
 pub loop-next-init : goal.loop-next-init
 loop-next-init c = record { forward = omega arith; goes = λ r A. A }
 
 pub loop-next-smaller-in-Fixed : goal.loop-next-smaller-in-Fixed
-loop-next-smaller-in-Fixed c = let m = (fixed_moves _ _ _ c.attribute_here-attribute.ensures.moves _ _ _ c.in-Fixed.is).0 in
+loop-next-smaller-in-Fixed c = let m = (after_one _ _ _ c.attribute_here-attribute.ensures.is c.attribute_here-attribute.ensures.moves _ c.loop-next.invariant _ c.in-Fixed.is).0 in
     omega (arith, m.inside, m.forward)
 
 pub loop-next-preserved-in-Fixed : goal.loop-next-preserved-in-Fixed
-loop-next-preserved-in-Fixed c = after_fixed _ _ _ c.attribute_here-attribute.ensures.is c.attribute_here-attribute.ensures.moves _ c.loop-next.invariant _ _ _ c.in-Fixed.is
+loop-next-preserved-in-Fixed c = (after_one _ _ _ c.attribute_here-attribute.ensures.is c.attribute_here-attribute.ensures.moves _ c.loop-next.invariant _ c.in-Fixed.is).1
 
 pub loop-next-smaller : goal.loop-next-smaller
-loop-next-smaller c = let m = (open_moves _ _ _ c.attribute_here-attribute.ensures.moves _ _ _ c.in-Open.is).0 in
+loop-next-smaller c = let m = (after_one _ _ _ c.attribute_here-attribute.ensures.is c.attribute_here-attribute.ensures.moves _ c.loop-next.invariant _ c.in-Fixed.is).0 in
     omega (arith, m.inside, m.forward)
 
 pub loop-next-preserved : goal.loop-next-preserved
-loop-next-preserved c = after_open _ _ _ c.attribute_here-attribute.ensures.is c.attribute_here-attribute.ensures.moves _ c.loop-next.invariant _ _ _ c.in-Open.is
+loop-next-preserved c = (after_one _ _ _ c.attribute_here-attribute.ensures.is c.attribute_here-attribute.ensures.moves _ c.loop-next.invariant _ c.in-Fixed.is).1
 
 pub returns-in-Done : goal.returns-in-Done
 returns-in-Done c =

@@ -1,5 +1,4 @@
 -- The templates passed have their gaps in the table.
-use Prim.Native.Nat.{◌-◌, ◌≤◌}
 use mathlib.Core.Path.{◌≡◌}
 use mathlib.Core.List.{List}
 use lib.ListN.{length}
@@ -9,7 +8,4 @@ use Rattle.pages.proofs.Gathering.{Tabled}
 use Rattle.pages.proofs.gaps_of.Given as goal
 
 abbrev pub invariant-loop-t : goal.invariant-loop-t
-invariant-loop-t l = (l.t ≤ 32) × ((φs : List Items) → StartsAt l.s φs l.starts → l.count ≡ length φs → Tabled φs l.t l.table)
-
-abbrev pub decreases-loop-t : goal.decreases-loop-t
-decreases-loop-t l = 32 - l.t
+invariant-loop-t l = (φs : List Items) → StartsAt l.s φs l.templates.starts → l.templates.count ≡ length φs → Tabled φs l.t l.table

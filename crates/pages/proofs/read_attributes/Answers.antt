@@ -1,13 +1,12 @@
 use Prim.Native.Nat.{◌+◌}
-use mathlib.Core.Path.{◌≡◌, refl, sym, ap, ◌∙◌}
+use mathlib.Core.Path.{◌≡◌, refl, sym, ◌∙◌}
 use mathlib.Core.List.{[], ◌∷◌}
 use native.Mathlib.Omega.{arith}
 use Rattle.sets.proofs.Laws.{member_zero}
 use Rattle.commands.specs.declared.Decoded.TheVariants.{Moved}
 use Rattle.commands.specs.Commands.{byte, allowed, command}
-use Rattle.commands.proofs.Laws.{moved}
+use Rattle.commands.proofs.Laws.{moved, refused_with}
 use Rattle.vocabularies.specs.Vocabulary.{is_in}
-use Rattle.commands.specs.Inner.Parts.{part_of}
 use Rattle.pages.proofs.Laws.{attribute_range}
 use Rattle.pages.proofs.Agreement.{attributes_end, attributes_refused, attributes_twice, attributes_next, string_permitted}
 use Rattle.pages.proofs.read_attributes.Goals as goal
@@ -22,10 +21,9 @@ attribute_command-d-requires c = rw c.attribute_context-context.ensures (string_
 pub returns-in_default : goal.returns-in_default
 returns-in_default c =
     let x = c.attribute_context-context in
-    let told = c.in_default in
     let tested : allowed x.result (byte c.args.s.now c.loop-context.p.at) ≡ c.is_allowed.result = rw (← c.byte_at.ensures) (sym c.is_allowed.ensures) in
     c.loop-context.invariant.2 _ x.ensures _
-    (attributes_refused _ x.result x.ensures _ _ _ (tested ∙ c.loop-context-test.true) told.field-0 told.field-1 _ (sym c.attribute_command-d.ensures ∙ told.is) (c.part.ensures ∙ ap part_of told.is))
+    (attributes_refused _ x.result x.ensures _ _ _ (tested ∙ c.loop-context-test.true) _ (sym c.attribute_command-d.ensures ∙ refused_with _ _ c.refusal.ensures))
 
 pub has-requires : goal.has-requires
 has-requires c =

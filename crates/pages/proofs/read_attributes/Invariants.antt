@@ -4,7 +4,9 @@ use mathlib.Core.Path.{◌≡◌}
 use mathlib.Core.List.{List, []}
 use lib.ListN.{length}
 use Rattle.sets.specs.Sets.{member}
-use Rattle.commands.specs.declared.Part.{Part}
+use Rattle.std.specs.Prelude.{Result}
+use Rattle.commands.specs.declared.Position.{Position}
+use Rattle.commands.specs.declared.ReadError.{ReadError}
 use Rattle.vocabularies.specs.Vocabulary.{is_in}
 use Rattle.pages.specs.declared.Kind.{Kind}
 use Rattle.pages.specs.ItemReading.{attribute_context}
@@ -14,7 +16,7 @@ use Rattle.pages.proofs.read_attributes.Given as goal
 abbrev pub invariant-loop-context : goal.invariant-loop-context
 invariant-loop-context l = (before : List ℕ)
     × ((a : ℕ) → member l.seen a ≡ is_in a before)
-    × ((k : Kind) → l.context ≡ attribute_context k → (r : Part) → AttributesRead k l.s before l.p.at r → AttributesRead k l.s [] l.initial.p.at r)
+    × ((k : Kind) → l.context ≡ attribute_context k → (r : Result Position ReadError) → AttributesRead k l.s before l.p.at r → AttributesRead k l.s [] l.initial.p.at r)
 
 abbrev pub decreases-loop-context : goal.decreases-loop-context
 decreases-loop-context l = length l.s - l.p.at
