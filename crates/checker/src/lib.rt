@@ -2,7 +2,7 @@
 #![tactic(auto)]
 
 ghost use Rattle.std.specs.Prelude.{◌≡◌, ℕ};
-ghost use Rattle.verdicts.specs.Printed.{numbers_of};
+ghost use Rattle.verdicts.specs.Printed.{numbers_of, verdict_of};
 ghost use Rattle.verdicts.specs.TheVerdict.{TheVerdict};
 ghost use Rattle.commands.specs.Reading.{whole};
 ghost use Rattle.summaries.specs.Summaries.{entries};
@@ -10,146 +10,83 @@ ghost use Rattle.jobs.specs.Job.{Job, job};
 ghost use Rattle.jobs.specs.Inner.Promises.{JobKept};
 ghost use Rattle.jobs.specs.JobVerdict.{AllCovered, ScriptVerdict, JobVerdict};
 ghost use Rattle.jobs.specs.Guarantee.{Guarantee};
-ghost use Rattle.checker.specs.Inner.Promises.{fault_at, ReadAt, PassesBy, PassedBy};
+ghost use Rattle.checker.specs.Inner.Promises.{fault_at, ReadAt, IsSame};
 
-use commands::Part;
-use covering::Covering;
 use graphs::Graph;
 use jobs::ScriptRead;
-use shows::{Showing, Shown, TemplateTables};
-use verdicts::{Fault, Form, Place, Refusal, Verdict};
+use pages::Templates;
+use programs::Points;
+use shows::{TemplateTables, WrongShow};
+use verdicts::{Fault, Refusal, Verdict};
 use vocabularies::Tables;
 
-fn unreadable(form: Form, at: usize) -> Verdict
-    ensures { result ≡ Verdict.Refused (Refusal.Form form (record { at = at; slice = 0 })) }
+// 11, 12, 14 or 15 at a point, by what is wrong in its show.
+fn fault_at(p: usize, wrong: WrongShow) -> Refusal
+    ensures { result ≡ fault_at p wrong }
 {
-    Verdict::Refused(Refusal::Form(form, Place { at, slice: 0 }))
+    let fault = match wrong {
+        WrongShow::NotRoot(template) => Fault::NotRoot { point: p, template },
+        WrongShow::Element(w) => verdicts::element_fault(p, w.template, w.at, w.breach),
+    };
+    Refusal::Page(fault)
 }
 
-// 11, 12, 14 or 15 at a point, by what its show was found to be.
-fn fault_at(p: usize, found: Shown) -> Verdict
-    ensures { result ≡ fault_at p found }
+// Whether a graph is the one that was found right.
+fn is_right(right: &Option<Graph>, graph: &Graph) -> bool
+    ensures { IsSame right.now graph.now result }
 {
-    match found {
-        Shown::Right => Verdict::Accepted,
-        Shown::NotRoot(template) => {
-            let fault = Fault::NotRoot { point: p, template };
-            Verdict::Refused(Refusal::Page(fault))
-        }
-        Shown::Wrong {
-            template,
-            at,
-            breach,
-        } => {
-            let element = verdicts::element_fault(p, template, at, breach);
-            Verdict::Refused(Refusal::Page(element))
-        }
-    }
+    let Some(last) = right else {
+        return false;
+    };
+    graphs::same(last, graph)
 }
 
-// Whether a point, whose statement stands at an offset, shows nothing or this graph.
-fn is_passed_by(
-    s: &[u8],
-    heads: &[usize; 256],
-    gaps: &[u64; 32],
-    place: usize,
-    p: usize,
-    graph: &Graph,
-) -> bool
-    ensures { PassesBy s.now heads.now gaps.now place p graph.now result }
-{
-    match shows::showing_at(s, place) {
-        Showing::Nothing => true,
-        Showing::Page(source) => {
-            let mut other = graphs::none();
-            shows::shown_graph(s, heads, gaps, p, source, &mut other);
-            graphs::same(graph, &other)
-        }
-    }
-}
-
-// The lowest point from one on that shows another graph than this one, or the number of points.
-fn other_show(
-    s: &[u8],
-    heads: &[usize; 256],
-    gaps: &[u64; 32],
-    places: &[usize; 32],
-    points: usize,
-    graph: &Graph,
-    from: usize,
-) -> usize
-    ensures { PassedBy s.now heads.now gaps.now places.now points graph.now from result }
-{
-    let mut q = from;
-    while q < points {
-        if !is_passed_by(s, heads, gaps, places[q % 32], q, graph) {
-            return q;
-        }
-        q += 1;
-    }
-    q
-}
-
-// Each show in turn, the lowest point first. A show of the graph of the one before it is right as that one was.
+// Each show in turn, the lowest point first. A show of the graph that was found right last is right as well.
 fn first_fault(
     s: &[u8],
     rules: Tables,
-    templates: TemplateTables,
-    count: usize,
-    starts: &[usize; 32],
-    points: usize,
-    places: &[usize; 32],
+    tables: TemplateTables,
+    templates: &Templates,
+    points: &Points,
     heads: &[usize; 256],
-) -> Verdict
-    ensures { (j : Job) → ReadAt s.now rules templates count starts.now points places.now heads.now j → AllCovered j.script (entries j.proposal) → ScriptVerdict j.script (entries j.proposal) (numbers_of result) }
+) -> Result<(), Refusal>
+    ensures { (j : Job) → ReadAt s.now rules tables templates.now.count templates.now.starts points.now.count points.now.places heads.now j → AllCovered j.script (entries j.proposal) → ScriptVerdict j.script (entries j.proposal) (numbers_of (verdict_of result)) }
 {
-    let gaps = templates.gaps;
-    let mut p: usize = 0;
-    while p < points {
-        let place = places[p % 32];
-        let showing = shows::showing_at(s, place);
-        let Showing::Page(source) = showing else {
-            p += 1;
+    let mut right: Option<Graph> = None;
+    for p in 0..points.count {
+        let Some(source) = shows::showing_at(s, points.places[p % 32]) else {
             continue;
         };
         let mut graph = graphs::none();
-        shows::shown_graph(s, heads, &gaps, p, source, &mut graph);
-        let found = shows::decide(s, rules, templates, count, starts, &graph);
-        let verdict = fault_at(p, found);
-        if !verdicts::is_accepted(verdict) {
-            return verdict;
+        shows::shown_graph(s, heads, &tables.gaps, p, source, &mut graph);
+        if is_right(&right, &graph) {
+            continue;
         }
-        p = other_show(s, heads, &gaps, places, points, &graph, p + 1);
+        shows::decide(s, rules, tables, templates, &graph).map_err(|wrong| fault_at(p, wrong))?;
+        right = Some(graph);
     }
-    Verdict::Accepted
+    Ok(())
 }
 
 // The verdict of a job that was read: 9 and 10, then the shows.
-fn check_read(s: &[u8], heads: &[usize; 256], read: ScriptRead) -> Verdict
-    ensures { (j : Job) (end : ℕ) → job s.now ≡ whole j end → JobKept s.now heads.now j read → ScriptVerdict j.script (entries j.proposal) (numbers_of result) }
+fn check_read(s: &[u8], heads: &[usize; 256], read: ScriptRead) -> Result<(), Refusal>
+    ensures { (j : Job) (end : ℕ) → job s.now ≡ whole j end → JobKept s.now heads.now j read → ScriptVerdict j.script (entries j.proposal) (numbers_of (verdict_of result)) }
 {
-    let count = read.templates.count;
-    let starts = read.templates.starts;
-    let points = read.program.count;
-    let places = read.program.places;
-    let gaps = pages::gaps_of(s, &starts, count);
-    let covering = covering::first_uncovered(s, &gaps, points, &places, read.program.named, heads);
-    match covering {
-        Covering::Uncovered(cover) => Verdict::Refused(Refusal::Cover(cover)),
-        Covering::Covered => {
-            let rules = read.tables;
-            first_fault(
-                s,
-                rules,
-                shows::tables_of(s, gaps, &starts, count),
-                count,
-                &starts,
-                points,
-                &places,
-                heads,
-            )
-        }
-    }
+    let templates = read.templates;
+    let points = read.points;
+    let gaps = pages::gaps_of(s, &templates);
+    covering::first_uncovered(s, &gaps, &points, heads).map_err(|cover| Refusal::Cover(cover))?;
+    let tables = shows::tables_of(s, gaps, &templates);
+    first_fault(s, read.tables, tables, &templates, &points, heads)
+}
+
+// The verdict of a job: 1 to 8 where it cannot be read.
+fn check_job(job: &[u8]) -> Result<(), Refusal>
+    ensures { JobVerdict job.now (numbers_of (verdict_of result)) }
+{
+    let mut heads = [0usize; 256];
+    let read = jobs::read_job(job, &mut heads).map_err(|e| verdicts::unreadable(e.form, e.at, 0))?;
+    check_read(job, &heads, read)
 }
 
 // The verdict of a job. Acceptance means that every run of it, over any list of choices, shows only right pages, whatever its
@@ -159,11 +96,5 @@ pub fn check(job: &[u8]) -> Verdict
     ensures untouched { job.now ≡ job.now }
     ensures shows_only_right_pages { Guarantee job.now (numbers_of result) }
 {
-    let mut heads = [0usize; 256];
-    let read = jobs::read_job(job, &mut heads);
-    let part = read.part;
-    match part {
-        Part::Whole(_) => check_read(job, &heads, read),
-        Part::Refused(form, at) => unreadable(form, at),
-    }
+    verdicts::verdict_of(check_job(job))
 }

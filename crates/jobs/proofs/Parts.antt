@@ -25,7 +25,7 @@ use Rattle.programs.specs.declared.Points.{Points}
 use Rattle.programs.specs.Program.{Statement}
 use Rattle.programs.specs.ProgramReading.{program}
 use Rattle.programs.specs.Inner.Promises.{Tabled, ProgramReads}
-use Rattle.programs.proofs.Laws.{WholeAs, agrees_whole, agrees_refuses, enough_enough}
+use Rattle.programs.proofs.Laws.{WholeAs, agrees_whole, whole_then, agrees_refuses, agrees_with_whole, agrees_with_refuses, whole_agrees_with, refused_agrees_with, enough_enough}
 use Rattle.summaries.specs.Proposal.{Head}
 use Rattle.summaries.specs.ProposalReading.{proposal}
 use Rattle.summaries.specs.Inner.Promises.{Kept, ProposalReads}
@@ -34,31 +34,6 @@ use Rattle.jobs.specs.Job.{Script, Job, script, job}
 use Rattle.jobs.specs.Inference.{script_slice}
 use Rattle.jobs.specs.Inner.Promises.{ScriptKept, JobKept, short, FewEnough, EndedAt, ScriptReads, SliceReads, JobReads}
 use Rattle.jobs.proofs.Alone.{whole_alone, refusal_alone}
-
--- ---- parts that are read with a value
-
-module _ {A B : Type 0} (P : A → B → Type 0) where
-  -- A part that was read whole.
-  pub record Held (r : Read A) (b : B) (p : Position) : Type 0 where
-    pub tree : A
-    pub reads : r ≡ whole tree p.at
-    pub holds : P tree b
-
-  pub held : (r : Read A) (b : B) (p : Position) → AgreesWith P r (Ok (b, p)) → Held r b p
-  held (whole a end) b p h = record { tree = a; reads = rw h.0; holds = h.1 }
-  held (refused f at) b p h = absurd h
-  held unfinished b p h = absurd h
-
-  pub with_refuses : (r : Read A) (e : ReadError) → AgreesWith P r (Err e) → r ≡ refused e.form e.at
-  with_refuses (whole a end) e h = absurd h
-  with_refuses (refused f at) e h = rw (h.0, h.1)
-  with_refuses unfinished e h = absurd h
-
-  pub holds_with : (r : Read A) (a : A) (b : B) (p : Position) → r ≡ whole a p.at → P a b → AgreesWith P r (Ok (b, p))
-  holds_with r a b p e h = rw e (refl, h)
-
-  pub refusal_with : (r : Read A) (e : ReadError) → r ≡ refused e.form e.at → AgreesWith P r (Err e)
-  refusal_with r e q = rw q (refl, refl)
 
 -- What is read after each part.
 module _ (s : List ℕ) where
@@ -73,34 +48,34 @@ module _ (s : List ℕ) where
 
   -- Bytes that are too many are refused; otherwise the script is what its parts are.
   pub too_long : (e : ReadError) → FewEnough s (Err e) → ScriptReads s (Err e)
-  too_long e h = refusal_with (ScriptKept s) (short s (script s)) e (rw (h.1, lt-leb (length s) most_bytes h.0))
+  too_long e h = refused_agrees_with (ScriptKept s) (short s (script s)) e (rw (h.1, lt-leb (length s) most_bytes h.0))
 
   module _ (fits : length s ≤ most_bytes) where
-    script_whole : (π : Script) (r : ScriptRead) (p : Position) → script s ≡ whole π p.at → ScriptKept s π r → ScriptReads s (Ok (r, p))
-    script_whole π r p e K = holds_with (ScriptKept s) (short s (script s)) π r p (rw (le-leb (length s) most_bytes fits) e) K
+    script_whole : (π : Script) (end : ℕ) (r : ScriptRead) (p : Position) → script s ≡ whole π end → p.at ≡ end → ScriptKept s π r → ScriptReads s (Ok (r, p))
+    script_whole π end r p e ends K = whole_agrees_with (ScriptKept s) (short s (script s)) r p π end (rw (le-leb (length s) most_bytes fits) e) ends K
 
     script_refuses : (e : ReadError) → script s ≡ refused e.form e.at → ScriptReads s (Err e)
-    script_refuses e q = refusal_with (ScriptKept s) (short s (script s)) e (rw (le-leb (length s) most_bytes fits) q)
+    script_refuses e q = refused_agrees_with (ScriptKept s) (short s (script s)) e (rw (le-leb (length s) most_bytes fits) q)
 
 -- The vocabulary is refused, or is there.
 pub vocabulary_refuses : (s : List ℕ) (e : ReadError) → length s ≤ most_bytes → VocabularyReads s (Err e) → ScriptReads s (Err e)
 unfolding script
-vocabulary_refuses s e fits reads = script_refuses s fits e (rw (with_refuses (Describes s) (vocabulary s) e reads))
+vocabulary_refuses s e fits reads = script_refuses s fits e (rw (agrees_with_refuses (Describes s) (vocabulary s) (Err e) e refl reads))
 
 pub record VocabularyThere (s : List ℕ) (v : Tables) (next : Position) : Type 0 where
   pub fits : length s ≤ most_bytes
   pub reads : VocabularyReads s (Ok (v, next))
 
 module _ {s : List ℕ} {v : Tables} {next : Position} (there : VocabularyThere s v next) where
-  v_tree : Held (Describes s) (vocabulary s) v next
-  v_tree = held (Describes s) (vocabulary s) v next there.reads
+  v_tree : WholeAs (λ D end. Describes s D v) (vocabulary s) next
+  v_tree = agrees_with_whole (Describes s) (vocabulary s) (Ok (v, next)) v next refl there.reads
 
   abbrev D : Vocabulary
   D = v_tree.tree
 
   after_v : script s ≡ after_vocabulary s D next.at
   unfolding script
-  after_v = rw v_tree.reads
+  after_v = whole_then (λ D end. Describes s D v) (vocabulary s) next v_tree (after_vocabulary s)
 
   abbrev LocatedHere : List Items → Templates → Type 0
   LocatedHere φs t = Located (declared D.rules) s φs t.count t.starts
@@ -112,22 +87,25 @@ module _ {s : List ℕ} {v : Tables} {next : Position} (there : VocabularyThere 
 
   pub templates_refuse : (e : ReadError) → TemplatesFrom (member v.declared) s next.at (Err e) → ScriptReads s (Err e)
   templates_refuse e reads =
-      script_refuses s there.fits e (after_v ∙ rw (with_refuses LocatedHere (templates (enough s) (declared D.rules) s 0 next.at) e (t_agree (Err e) reads)))
+      script_refuses s there.fits e (after_v ∙ rw (agrees_with_refuses LocatedHere (templates (enough s) (declared D.rules) s 0 next.at) (Err e) e refl (t_agree (Err e) reads)))
 
 pub record TemplatesThere (s : List ℕ) (v : Tables) (next : Position) (t : Templates) (next' : Position) : Type 0 where
   pub before : VocabularyThere s v next
   pub reads : TemplatesFrom (member v.declared) s next.at (Ok (t, next'))
 
 module _ {s : List ℕ} {v : Tables} {next : Position} {t : Templates} {next' : Position} (there : TemplatesThere s v next t next') where
-  t_tree : Held (LocatedHere there.before) (templates (enough s) (declared (D there.before).rules) s 0 next.at) t next'
+  t_tree : WholeAs (λ φs end. LocatedHere there.before φs t) (templates (enough s) (declared (D there.before).rules) s 0 next.at) next'
   t_tree =
-      held (LocatedHere there.before) (templates (enough s) (declared (D there.before).rules) s 0 next.at) t next' (t_agree there.before (Ok (t, next')) there.reads)
+      agrees_with_whole (LocatedHere there.before) (templates (enough s) (declared (D there.before).rules) s 0 next.at) (Ok (t, next')) t next' refl
+      (t_agree there.before (Ok (t, next')) there.reads)
 
   abbrev φs : List Items
   φs = t_tree.tree
 
   after_t : script s ≡ after_templates s (D there.before) φs next'.at
-  after_t = after_v there.before ∙ rw t_tree.reads
+  after_t =
+      after_v there.before
+      ∙ whole_then (λ φs end. LocatedHere there.before φs t) (templates (enough s) (declared (D there.before).rules) s 0 next.at) next' t_tree (after_templates s (D there.before))
 
   abbrev TabledHere : List Statement → Points → Type 0
   TabledHere ts p = Tabled s (length φs) p ts
@@ -138,12 +116,12 @@ module _ {s : List ℕ} {v : Tables} {next : Position} {t : Templates} {next' : 
 
   pub program_refuses : (e : ReadError) → ProgramReads s t.count next'.at (Err e) → ScriptReads s (Err e)
   program_refuses e reads =
-      script_refuses s there.before.fits e (after_t ∙ rw (with_refuses TabledHere (program (enough s) (length φs) s next'.at) e (p_agrees (Err e) reads)))
+      script_refuses s there.before.fits e (after_t ∙ rw (agrees_with_refuses TabledHere (program (enough s) (length φs) s next'.at) (Err e) e refl (p_agrees (Err e) reads)))
 
   pub program_last : (p : Points) (end : Position) → ProgramReads s t.count next'.at (Ok (p, end)) → ScriptReads s (Ok (record { tables = v; templates = t; points = p }, end))
   program_last p end reads =
-      let h = held TabledHere (program (enough s) (length φs) s next'.at) p end (p_agrees (Ok (p, end)) reads) in
-      script_whole s there.before.fits (of_parts s (D there.before) φs h.tree) (record { tables = v; templates = t; points = p }) end (after_t ∙ rw h.reads)
+      let h = agrees_with_whole TabledHere (program (enough s) (length φs) s next'.at) (Ok (p, end)) p end refl (p_agrees (Ok (p, end)) reads) in
+      script_whole s there.before.fits (of_parts s (D there.before) φs h.tree) h.end (record { tables = v; templates = t; points = p }) end (after_t ∙ rw h.reads) h.ends
       (record { vocabulary = (v_tree there.before).holds; templates = t_tree.holds; program = h.holds })
 
 -- Bytes that are read alone: not too many, and nothing after the last part.
@@ -179,14 +157,14 @@ module _ (s : List ℕ) where
   slice_is = alone_is s (script s)
 
   pub slice_refused : (e : ReadError) → ScriptReads s (Err e) → SliceReads s (Err e)
-  slice_refused e reads = refusal_alone (ScriptKept s) (script_slice s) e (slice_is ∙ rw (with_refuses (ScriptKept s) (short s (script s)) e reads))
+  slice_refused e reads = refusal_alone (ScriptKept s) (script_slice s) e (slice_is ∙ rw (agrees_with_refuses (ScriptKept s) (short s (script s)) (Err e) e refl reads))
 
   module _ (r : ScriptRead) (end : Position) (reads : ScriptReads s (Ok (r, end))) where
-    slice_there : Held (ScriptKept s) (short s (script s)) r end
-    slice_there = held (ScriptKept s) (short s (script s)) r end reads
+    slice_there : WholeAs (λ π at. ScriptKept s π r) (short s (script s)) end
+    slice_there = agrees_with_whole (ScriptKept s) (short s (script s)) (Ok (r, end)) r end refl reads
 
     slice_stops : script_slice s ≡ stops s slice_there.tree end.at
-    slice_stops = slice_is ∙ rw slice_there.reads
+    slice_stops = slice_is ∙ whole_then (λ π at. ScriptKept s π r) (short s (script s)) end slice_there (stops s)
 
     pub slice_longer : (e : ReadError) → EndedAt s end.at (Err e) → SliceReads s (Err e)
     slice_longer e h = refusal_alone (ScriptKept s) (script_slice s) e (slice_stops ∙ more_follows s slice_there.tree end e h)
@@ -205,11 +183,11 @@ module _ (s : List ℕ) where
   job_is = alone_is s (and_then (script s) after_script) ∙ ap (λ (r : Read Job). and_then r (stops s)) (short_then s (script s) after_script)
 
   pub script_refused : (e : ReadError) (heads : List ℕ) → ScriptReads s (Err e) → JobReads s heads (Err e)
-  script_refused e heads reads = refusal_alone (JobKept s heads) (job s) e (job_is ∙ rw (with_refuses (ScriptKept s) (short s (script s)) e reads))
+  script_refused e heads reads = refusal_alone (JobKept s heads) (job s) e (job_is ∙ rw (agrees_with_refuses (ScriptKept s) (short s (script s)) (Err e) e refl reads))
 
   module _ (r : ScriptRead) (next : Position) (reads : ScriptReads s (Ok (r, next))) where
-    there : Held (ScriptKept s) (short s (script s)) r next
-    there = held (ScriptKept s) (short s (script s)) r next reads
+    there : WholeAs (λ π end. ScriptKept s π r) (short s (script s)) next
+    there = agrees_with_whole (ScriptKept s) (short s (script s)) (Ok (r, next)) r next refl reads
 
     abbrev π : Script
     π = there.tree
@@ -218,7 +196,7 @@ module _ (s : List ℕ) where
     points_low = there.holds.program.most
 
     job_goes : job s ≡ and_then (after_script π next.at) (stops s)
-    job_goes = job_is ∙ rw there.reads
+    job_goes = job_is ∙ ap (λ (x : Read Job). and_then x (stops s)) (whole_then (λ π end. ScriptKept s π r) (short s (script s)) next there after_script)
 
     -- The proposal is the last part.
     module _ (heads : List ℕ) where
@@ -236,7 +214,7 @@ module _ (s : List ℕ) where
 
       pub proposal_refused : (e : ReadError) → ProposalReads r.templates.count r.points.count s 0 next.at heads (Err e) → JobReads s heads (Err e)
       proposal_refused e h =
-          refusal_alone (JobKept s heads) (job s) e (job_goes ∙ rw (agrees_refuses KeptHere heads_from (Err e) e.form e.at refl (h_agrees (Err e) h)))
+          refusal_alone (JobKept s heads) (job s) e (job_goes ∙ rw (agrees_refuses KeptHere heads_from (Err e) e refl (h_agrees (Err e) h)))
 
       module _ (end : Position) (h : ProposalReads r.templates.count r.points.count s 0 next.at heads (Ok end)) where
         h_tree : WholeAs KeptHere heads_from end
@@ -246,7 +224,7 @@ module _ (s : List ℕ) where
         whole_job = record { script = π; proposal = h_tree.tree }
 
         job_stops : job s ≡ stops s whole_job end.at
-        job_stops = job_goes ∙ rw (h_tree.reads, h_tree.ends)
+        job_stops = job_goes ∙ rw (h_tree.reads, ← h_tree.ends)
 
         pub job_longer : (e : ReadError) → EndedAt s end.at (Err e) → JobReads s heads (Err e)
         job_longer e q = refusal_alone (JobKept s heads) (job s) e (job_stops ∙ more_follows s whole_job end e q)

@@ -1,32 +1,28 @@
 -- The verdict of a page, from what reading and judging it tell.
 use Prim.Native.Nat.{ℕ, zero, suc, ◌≤◌, ◌<◌}
-use mathlib.Core.Path.{◌≡◌, refl, sym, fun_ext, subst, ◌∙◌}
+use mathlib.Core.Path.{◌≡◌, refl, sym, ap, fun_ext, subst, ◌∙◌}
 use mathlib.Core.List.{List}
 use mathlib.Core.Logic.{inl, inr}
 use mathlib.Core.Bool.{Bool, true, false, cond, false≢true}
+use Rattle.std.specs.Prelude.{Result, Ok, Err}
 use lib.ListN.{length}
 use lib.Dec.{eqb}
-use borrow.Author.Tests.{eq-eqb, ne_eqb, eqb-true, lt-leb, le-leb, lt-ltb, le-ltb}
-use Rattle.verdicts.specs.declared.Form.{Form}
-use Rattle.verdicts.specs.declared.Form.TheVariants.{TooLong, NotAllowed}
-use Rattle.verdicts.specs.declared.Refusal.TheVariants as Refusals
+use borrow.Author.Tests.{eq-eqb, ne_eqb, eqb-true, le-leb, le-ltb}
+use Rattle.verdicts.specs.declared.Refusal.{Refusal}
 use Rattle.verdicts.specs.declared.Verdict.{Verdict}
 use Rattle.verdicts.specs.declared.Verdict.TheVariants.{Accepted, Refused}
-use Rattle.verdicts.specs.Printed.{numbers_of}
+use Rattle.verdicts.specs.Printed.{unreadable, numbers_of}
 use Rattle.verdicts.specs.TheVerdict.{TheVerdict}
 use Rattle.sets.specs.Sets.{member}
 use Rattle.commands.specs.declared.Position.{Position}
-use Rattle.commands.specs.declared.Part.{Part}
-use Rattle.commands.specs.declared.Part.TheVariants as Parts
+use Rattle.commands.specs.declared.ReadError.{ReadError}
 use Rattle.commands.specs.Commands.{byte}
-use Rattle.commands.specs.Reading.{whole, enough}
-use Rattle.commands.specs.Inner.Parts.{Agrees}
+use Rattle.commands.specs.Reading.{Read, whole, refused, enough}
+use Rattle.commands.specs.Inner.Parts.{Agrees, AgreesWith}
 use Rattle.vocabularies.specs.declared.Tables.{Tables}
-use Rattle.vocabularies.specs.declared.VocabularyRead.{VocabularyRead}
 use Rattle.vocabularies.specs.Vocabulary.{Vocabulary, declared}
-use Rattle.vocabularies.specs.VocabularyReading.{vocabulary, vocabulary_slice}
-use Rattle.vocabularies.specs.Inner.Promises.{Describes, VocabularyReads}
-use Rattle.vocabularies.proofs.Laws.{agrees_whole, agrees_refused}
+use Rattle.vocabularies.specs.VocabularyReading.{vocabulary, alone, vocabulary_slice}
+use Rattle.vocabularies.specs.Inner.Promises.{Describes}
 use Rattle.pages.specs.declared.Kind.TheVariants.{Page}
 use Rattle.pages.specs.declared.ItemHere.{ItemHere}
 use Rattle.pages.specs.declared.ItemHere.TheVariants.{Text, Gap, Element, Blank, End}
@@ -43,7 +39,10 @@ use Rattle.judging.specs.Inner.Promises.{JudgesItem}
 use Rattle.judging.proofs.Booleans.{by_test}
 use Rattle.judging.proofs.AttributeLaws.{no_template}
 use Rattle.judging.proofs.ItemLaws.{or_none}
-use Rattle.judge.specs.Inner.Answers.{not_root, first_refusal, Solid, AfterBlank, JudgesRead, JudgesPage}
+use Rattle.judge.specs.Inner.Answers.{not_root, Solid, AfterBlank, JudgesRead, VocabularyReads, PageReads}
+use Rattle.jobs.specs.Inner.Promises.{FewEnough, EndedAt, AgreesAlone}
+use Rattle.jobs.proofs.Alone.{WholeAlone, kept_alone, refused_alone}
+use Rattle.jobs.proofs.Tables.{alone_whole}
 use Rattle.judge.proofs.BlankLaws.{none_left}
 
 is_none_lem : (φ : Items) → is_none φ ≡ true → φ ≡ none
@@ -109,25 +108,21 @@ module _ (D : Vocabulary) (p : List ℕ) (φ : Items) (at end : ℕ) (S : Solid 
           let n : b.left ≡ none = is_none_lem b.left (ends_there b.fuel ruled p last.at b.left end b.reads ∙ eq-eqb _ 0x27 at_end) in
           rw (S.finds D, first.is_more, b.finds D, n) (or_none _ ∙ sym j.finds)
 
-abbrev unreadable : Form → ℕ → ℕ → Verdict
-unreadable f at slice = Refused (Refusals.Form f (record { at = at; slice = slice }))
-
 -- ---- a page that was read
 
 module _ (v p : List ℕ) (t : Tables) (r : Verdict) (at : Position) (A : AfterBlank p 0 at) where
   module _ (h : ItemHere) (first-is : h ≡ item_here p at.at) where
-    pub no_element_first : r ≡ not_root → ((x : ℕ) (next : Position) → h ≡ Element x next → ⊥) → JudgesRead v p t r
+    pub no_element_first : r ≡ Refused not_root → ((x : ℕ) (next : Position) → h ≡ Element x next → ⊥) → JudgesRead v p t r
     no_element_first is other D H φ end reads = is ∙ rw (no_element D p φ at.at end (A _ (enough p) end φ reads) h first-is D.root other)
 
     module _ (x : ℕ) (start : Position) (opens : h ≡ Element x start) where
-      pub other_root_first : r ≡ not_root → (x ≡ t.root → ⊥) → JudgesRead v p t r
+      pub other_root_first : r ≡ Refused not_root → (x ≡ t.root → ⊥) → JudgesRead v p t r
       other_root_first is other D H φ end reads =
           is ∙ rw (other_element D p φ at.at end (A _ (enough p) end φ reads) h first-is x start opens D.root (λ q. other (q ∙ sym H.names_root)))
 
       module _ (i : Judged) (J : (D : Vocabulary) → Describes v D t → JudgesItem D p at.at i) (last : Position) (B : AfterBlank p i.next.at last) where
         -- 11 by what follows the root, before 12, 14 and 15.
-        pub root_judged : x ≡ t.root → r ≡ first_refusal (cond (eqb (byte p last.at) 0x27) Accepted not_root) (wrong_verdict i.wrong)
-            → JudgesRead v p t r
+        pub root_judged : x ≡ t.root → r ≡ cond (eqb (byte p last.at) 0x27) (wrong_verdict i.wrong) (Refused not_root) → JudgesRead v p t r
         root_judged root is D H φ end reads =
             let S = A _ (enough p) end φ reads in
             let a = alone_if D p φ at.at end S h first-is x start opens i (J D H) last B D.root (root ∙ H.names_root) in
@@ -135,69 +130,38 @@ module _ (v p : List ℕ) (t : Tables) (r : Verdict) (at : Position) (A : AfterB
             (λ e. rw (a, e, wrong_in D p φ at.at end S h first-is x start opens i (J D H) last B (eqb-true (byte p last.at) 0x27 e)))
             (λ e. rw (a, e))
 
--- ---- a page under a vocabulary that was read
-
-module _ (v p : List ℕ) (t : Tables) (r : Verdict) where
-  pub page_too_long : r ≡ unreadable TooLong 0 1 → 65535 < length p → JudgesPage v p t r
-  unfolding page_slice
-  page_too_long is long D H = is ∙ rw (lt-leb (length p) 65535 long)
-
-  module _ (fits : length p ≤ 65535) (part : Part) (A : Agrees (items (enough p) Page (member t.declared) p 0 0) part) where
-    same_reading : (D : Vocabulary) → Describes v D t → Agrees (items (enough p) Page (declared D.rules) p 0 0) part
-    same_reading D H = subst (λ (ruled : ℕ → Bool). Agrees (items (enough p) Page ruled p 0 0) part) (fun_ext H.declares) A
-
-    pub page_refused : (f : Form) (at : ℕ) → r ≡ unreadable f at 1 → part ≡ Parts.Refused f at → JudgesPage v p t r
-    unfolding page_slice
-    page_refused f at is e D H =
-        let q = agrees_refused (λ φ end. Unit {0}) (items (enough p) Page (declared D.rules) p 0 0) f at (rw e at (same_reading D H)) in
-        is ∙ rw (le-leb (length p) 65535 fits, q)
-
-    module _ (end : Position) (e : part ≡ Parts.Whole end) where
-      pub page_longer : r ≡ unreadable NotAllowed end.at 1 → end.at < length p → JudgesPage v p t r
-      unfolding page_slice
-      page_longer is more' D H =
-          let q = agrees_whole (λ φ n. Unit {0}) (items (enough p) Page (declared D.rules) p 0 0) end (rw e at (same_reading D H)) in
-          is ∙ rw (le-leb (length p) 65535 fits, q.1, lt-ltb end.at (length p) more')
-
-      whole_judged : (D : Vocabulary) (φ : Items) → items (enough p) Page (declared D.rules) p 0 0 ≡ whole φ end.at → length p ≤ end.at
-          → cond (is_alone D.root φ) (wrong_verdict (first_wrong D φ)) not_root ≡ judged D (page_slice D p)
-      unfolding page_slice
-      whole_judged D φ q ended = rw (le-leb (length p) 65535 fits, q, le-ltb end.at (length p) ended)
-
-      pub page_read : length p ≤ end.at → JudgesRead v p t r → JudgesPage v p t r
-      page_read ended R D H =
-          let q = agrees_whole (λ φ n. Unit {0}) (items (enough p) Page (declared D.rules) p 0 0) end (rw e at (same_reading D H)) in
-          R D H q.0 end.at q.1 ∙ whole_judged D q.0 q.1 ended
-
 -- ---- any vocabulary and any page
 
-module _ (v p : List ℕ) (r : Verdict) where
-  pub vocabulary_too_long : r ≡ unreadable TooLong 0 0 → 65535 < length v → r ≡ page_verdict v p
-  unfolding page_verdict vocabulary_slice
-  vocabulary_too_long is long = is ∙ rw (lt-leb (length v) 65535 long)
+module _ (v p : List ℕ) (x : Result Tables ReadError) (A : VocabularyReads v x) where
+  pub vocabulary_refused : (e : ReadError) → x ≡ Err e → (f : Refusal) → f ≡ unreadable e.form e.at 0 → Refused f ≡ page_verdict v p
+  unfolding page_verdict
+  vocabulary_refused e q f is = rw (is, refused_alone (Describes v) (vocabulary_slice v) x e q A)
 
-  module _ (fits : length v ≤ 65535) (read : VocabularyRead) (A : VocabularyReads v read) where
-    pub vocabulary_refused : (f : Form) (at : ℕ) → r ≡ unreadable f at 0 → read.part ≡ Parts.Refused f at → r ≡ page_verdict v p
-    unfolding page_verdict vocabulary_slice
-    vocabulary_refused f at is e =
-        let q = agrees_refused (λ D end. Describes v D read.tables) (vocabulary v) f at (rw e at A) in
-        is ∙ rw (le-leb (length v) 65535 fits, q)
+  module _ (t : Tables) (q : x ≡ Ok t) where
+    read : WholeAlone (Describes v) (vocabulary_slice v) t
+    read = kept_alone (Describes v) (vocabulary_slice v) x t q A
 
-    module _ (end : Position) (e : read.part ≡ Parts.Whole end) where
-      pub vocabulary_longer : r ≡ unreadable NotAllowed end.at 0 → end.at < length v → r ≡ page_verdict v p
-      unfolding page_verdict vocabulary_slice
-      vocabulary_longer is more' =
-          let q = agrees_whole (λ D n. Describes v D read.tables) (vocabulary v) end (rw e at A) in
-          is ∙ rw (le-leb (length v) 65535 fits, q.1, lt-ltb end.at (length v) more')
+    abbrev D : Vocabulary
+    D = read.tree
 
-      whole_read : (D : Vocabulary) → vocabulary v ≡ whole D end.at → length v ≤ end.at → judged D (page_slice D p) ≡ page_verdict v p
-      unfolding page_verdict vocabulary_slice
-      whole_read D q ended = rw (le-leb (length v) 65535 fits, q, le-ltb end.at (length v) ended)
+    under : judged D (page_slice D p) ≡ page_verdict v p
+    unfolding page_verdict
+    under = rw read.reads
 
-      pub vocabulary_read : length v ≤ end.at → JudgesPage v p read.tables r → r ≡ page_verdict v p
-      vocabulary_read ended R =
-          let q = agrees_whole (λ D n. Describes v D read.tables) (vocabulary v) end (rw e at A) in
-          R q.0 q.2 ∙ whole_read q.0 q.1 ended
+    module _ (y : Result (Unit {0}) ReadError) (B : PageReads t.declared p y) where
+      page_reads : AgreesAlone (λ (φ : Items) u. Unit {0}) (page_slice D p) y
+      unfolding page_slice
+      page_reads = subst (λ (ruled : ℕ → Bool). AgreesAlone (λ (φ : Items) (u : Unit {0}). Unit {0}) (alone p (items (enough p) Page ruled p 0 0)) y) (fun_ext read.holds.declares) B
+
+      pub page_refused : (e : ReadError) → y ≡ Err e → (f : Refusal) → f ≡ unreadable e.form e.at 1 → Refused f ≡ page_verdict v p
+      page_refused e z f is = rw (is, refused_alone (λ (φ : Items) u. Unit {0}) (page_slice D p) y e z page_reads) under
+
+      pub page_judged : (u : Unit {0}) → y ≡ Ok u → (r : Verdict) → JudgesRead v p t r → r ≡ page_verdict v p
+      unfolding page_slice
+      page_judged u z r R =
+          let w = kept_alone (λ (φ : Items) u. Unit {0}) (page_slice D p) y u z page_reads in
+          let reads = alone_whole p (items (enough p) Page (declared D.rules) p 0 0) w.reads in
+          R D read.holds w.tree w.end reads ∙ (sym (ap (judged D) w.reads) ∙ under)
 
 -- The judgement that was computed is the page's one verdict.
 pub the_verdict : (v p : List ℕ) (r : Verdict) → r ≡ page_verdict v p → TheVerdict (PageVerdict v p) (numbers_of r)

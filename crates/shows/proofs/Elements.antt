@@ -9,13 +9,12 @@ use Rattle.summaries.specs.Summaries.{entries}
 use Rattle.jobs.specs.Job.{Job}
 use Rattle.jobs.specs.JobVerdict.{WrongIn}
 use Rattle.judging.specs.Inner.Judgement.{or_first}
-use Rattle.patterns.specs.declared.Wrong.{Wrong}
 use Rattle.patterns.specs.Inner.Morphisms.{root_morphism}
 use Rattle.patterns.specs.Inner.Given.{Bounded}
 use Rattle.patterns.specs.Inner.Exactness.{YieldsExact}
 use Rattle.patterns.specs.Inner.Shows.{ExactTables, tested}
 use Rattle.patterns.specs.Inner.Shows as Decided
-use Rattle.patterns.specs.Inner.LowestWrong.{lower_wrong, Test, LowestWrong, LowestBreach, Passing}
+use Rattle.patterns.specs.Inner.LowestWrong.{MaybeWrong, lower_wrong, Test, LowestWrong, LowestBreach, Passing}
 use Rattle.patterns.proofs.LowestOf.{lowest_iff, lowest_either, lowest_same}
 use Rattle.patterns.proofs.ReadVocabularies.{Bytes}
 use Rattle.patterns.proofs.ReadJobs.{GivenShows, job_given}
@@ -51,8 +50,8 @@ module _ (s : List ℕ) (rules : Tables) (templates : TemplateTables) (count : �
       (yields : ℕ) (tells_yields : TellsYielding classes count yields)
       (reached : ℕ) (tells_reached : TellsReached graph templates.gaps count yields reached)
       (within : List ℕ) (tells_contents : TellsContents graph templates.contents templates.outer count yields within)
-      (plain : Wrong) (tells_plain : TellsPlainlyWrong s rules.attributes rules.contents starts count graph within reached plain)
-      (by_clause : Wrong) (searches : SearchesRules s rules.declared rules.clauses templates.standing graph starts count reached by_clause) where
+      (plain : MaybeWrong) (tells_plain : TellsPlainlyWrong s rules.attributes rules.contents starts count graph within reached plain)
+      (by_clause : MaybeWrong) (searches : SearchesRules s rules.declared rules.clauses templates.standing graph starts count reached by_clause) where
     yielding : YieldsExact j.script.templates A.shown (member yields)
     yielding = tells_yields j.script.templates A.shown j.script.vocabulary.root T.classes A.located.counted A.few sets exact.classes
 
@@ -83,5 +82,5 @@ module _ (s : List ℕ) (rules : Tables) (templates : TemplateTables) (count : �
       λ f. (f.there, is_reached n f.there ∙ f.is_reached, f.element),
     )) passing
 
-    pub elements_are : (w : Wrong) → w ≡ lower_wrong plain by_clause → LowestBreach (WrongIn j.script (entries j.proposal) p) w
+    pub elements_are : (w : MaybeWrong) → w ≡ lower_wrong plain by_clause → LowestBreach (WrongIn j.script (entries j.proposal) p) w
     elements_are w is = rw is (lowest_told j.script (entries j.proposal) given p A.shown A.shows T exact found)

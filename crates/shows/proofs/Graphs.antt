@@ -3,6 +3,8 @@ use Prim.Native.Nat.{ℕ, ◌≤◌}
 use native.Mathlib.Omega.{arith}
 use mathlib.Core.Path.{◌≡◌, subst}
 use mathlib.Core.List.{List, []}
+use Rattle.std.specs.Prelude.{Some, None, Ok, Err}
+use Rattle.std.specs.Prelude as Prelude
 use lib.ListN.{get_or}
 use Rattle.sets.specs.Sets.{member}
 use Rattle.vocabularies.specs.declared.Tables.{Tables}
@@ -10,7 +12,8 @@ use Rattle.summaries.specs.Proposal.{root}
 use Rattle.summaries.specs.Summaries.{entries}
 use Rattle.jobs.specs.Job.{Job}
 use Rattle.graphs.specs.Inner.Graphs.{holds}
-use Rattle.patterns.specs.declared.Wrong as Wrongs
+use Rattle.patterns.specs.Inner.LowestWrong.{MaybeWrong}
+use Rattle.patterns.specs.declared.Wrong.{Wrong}
 use Rattle.patterns.specs.Inner.Morphisms.{empty, other, root_morphism}
 use Rattle.patterns.specs.Inner.Shows.{ExactTables, not_root}
 use Rattle.patterns.specs.Inner.Shows as Decided
@@ -22,12 +25,9 @@ use Rattle.languages.specs.Inner.Tables.{SetsAre, of_root, Lent}
 use Rattle.languages.specs.Inner.Promises.{Settles}
 use Rattle.languages.proofs.Settling.{settled_exact}
 use Rattle.shows.specs.declared.TemplateTables.{TemplateTables}
-use Rattle.shows.specs.declared.Shown.{Shown}
-use Rattle.shows.specs.declared.Shown.TheVariants.{NotRoot}
-use Rattle.shows.specs.declared.OtherRoot.{OtherRoot}
-use Rattle.shows.specs.declared.OtherRoot.TheVariants.{Nowhere, At}
-use Rattle.shows.specs.Inner.Promises.{ShowFound, ShowAt, is_other, LowestRoot, shown_of, WrongElements}
-use Rattle.shows.proofs.Deciding.{found_other, no_other, found_wrong}
+use Rattle.shows.specs.declared.WrongShow.TheVariants.{NotRoot, Element}
+use Rattle.shows.specs.Inner.Promises.{ShowFound, ShowAt, is_other, LowestRoot, WrongElements}
+use Rattle.shows.proofs.Deciding.{told_of, found_other, no_other, found_wrong}
 use Rattle.shows.proofs.Elements.{given, bounded}
 
 module _ (s : List ℕ) (rules : Tables) (templates : TemplateTables) (count : ℕ) (starts graph : List ℕ) (j : Job) (p : ℕ)
@@ -39,7 +39,7 @@ module _ (s : List ℕ) (rules : Tables) (templates : TemplateTables) (count : �
 
   module _ (r : Scheme) (reads : StandsFor r (root_morphism rules.root)) (made : ℕ) (classes : List (List ℕ))
       (settles : Settles r s graph starts count made classes) (roots : ℕ) (roots_are : (n : ℕ) → member roots n ≡ holds graph (root n))
-      (other_root_lem : OtherRoot) (found : LowestRoot roots classes count other_root_lem) where
+      (other_root_lem : Prelude.Option ℕ) (found : LowestRoot roots classes count other_root_lem) where
     lent : Lent r graph j.script.templates A.shown (root_morphism j.script.vocabulary.root)
     lent = record {
       used = of_root j.script.vocabulary.root;
@@ -62,15 +62,21 @@ module _ (s : List ℕ) (rules : Tables) (templates : TemplateTables) (count : �
         let row = sets n (omega arith) in
         rw (roots_are n, A.keeps.same (root n) tt, row.inside empty (omega arith), row.inside other (omega arith))
 
-    pub root_found : (t : ℕ) → other_root_lem ≡ At t → ShowFound j.script (entries j.proposal) p (NotRoot t)
+    pub root_found : (t : ℕ) → other_root_lem ≡ Some t → ShowFound j.script (entries j.proposal) p (Err (NotRoot t))
     root_found =
         found_other j.script (entries j.proposal) (given s rules templates count starts graph j p A bytes) p A.shown A.shows tables.0 tables.1 count A.located.counted
         roots classes other_root_lem found same_root
 
-    pub element_found : other_root_lem ≡ Nowhere → (w : Wrongs.Wrong) → WrongElements s rules templates count starts graph classes w
-        → (x : Shown) → x ≡ shown_of w → ShowFound j.script (entries j.proposal) p x
-    element_found z w wrong x is =
-        rw is (found_wrong j.script (entries j.proposal) (given s rules templates count starts graph j p A bytes) p A.shown A.shows tables.0 tables.1 count A.located.counted
-        (no_other j.script (entries j.proposal) (given s rules templates count starts graph j p A bytes) p A.shown A.shows tables.0 tables.1 count A.located.counted
-        roots classes other_root_lem found same_root z)
-        (wrong j p A tables.0 tables.1 sets))
+    module _ (z : other_root_lem ≡ None) (w : MaybeWrong) (wrong : WrongElements s rules templates count starts graph classes w) where
+      told : ShowFound j.script (entries j.proposal) p (told_of w)
+      told =
+          found_wrong j.script (entries j.proposal) (given s rules templates count starts graph j p A bytes) p A.shown A.shows tables.0 tables.1 count A.located.counted
+          (no_other j.script (entries j.proposal) (given s rules templates count starts graph j p A bytes) p A.shown A.shows tables.0 tables.1 count A.located.counted
+          roots classes other_root_lem found same_root z)
+          (wrong j p A tables.0 tables.1 sets)
+
+      pub element_found : (v : Wrong) → w ≡ Some v → ShowFound j.script (entries j.proposal) p (Err (Element v))
+      element_found v is = subst (λ (x : MaybeWrong). ShowFound j.script (entries j.proposal) p (told_of x)) is told
+
+      pub nothing_found : w ≡ None → ShowFound j.script (entries j.proposal) p (Ok tt)
+      nothing_found is = subst (λ (x : MaybeWrong). ShowFound j.script (entries j.proposal) p (told_of x)) is told

@@ -4,6 +4,7 @@ use native.Mathlib.Omega.{arith}
 use mathlib.Core.Path.{◌≡◌, refl, sym, ◌∙◌}
 use mathlib.Core.List.{List, []}
 use mathlib.Core.Bool.{Bool, true, false, not, false≢true}
+use Rattle.std.specs.Prelude.{Some, None}
 use lib.ListN.{get_or}
 use lib.Dec.{eqb, ltb}
 use borrow.Author.Tests.{eqb-true, eqb-false, ltb-true, ltb-false}
@@ -11,30 +12,7 @@ use Rattle.sets.specs.Sets.{member}
 use Rattle.pattern_sets.specs.Inner.PatternSets.{holds}
 use Rattle.patterns.specs.Inner.Morphisms.{empty, other}
 use Rattle.patterns.specs.Inner.Shows.{nowhere, least}
-use Rattle.shows.specs.declared.OtherRoot.TheVariants.{Nowhere, At}
 use Rattle.shows.specs.Inner.Promises.{is_other, LowestRoot}
-
-not_true : (b : Bool) → not b ≡ true → b ≡ false
-not_true true h = absurd (false≢true h)
-not_true false h = refl
-
-not_false : (b : Bool) → not b ≡ false → b ≡ true
-not_false true h = refl
-not_false false h = absurd (false≢true (sym h))
-
-module _ (roots : ℕ) (classes : List ℕ) (n : ℕ) where
-  pub no_root_there : (b : Bool) → b ≡ member roots n → not b ≡ true → false ≡ is_other roots classes n
-  no_root_there b e h = let q : b ≡ false = not_true b h in rw (sym e ∙ q)
-
-  module _ (b : Bool) (e : b ≡ member roots n) (h : not b ≡ false) (x : Bool) (f : x ≡ holds classes empty) where
-    there : member roots n ≡ true
-    there = sym e ∙ not_false b h
-
-    pub empty_there : x ≡ true → true ≡ is_other roots classes n
-    empty_there q = rw (there, sym f ∙ q)
-
-    pub other_there : x ≡ false → (y : Bool) → y ≡ holds classes other → y ≡ is_other roots classes n
-    other_there q y g = rw (there, sym f ∙ q) g
 
 module _ (roots : ℕ) (classes : List (List ℕ)) where
   -- The templates below n are none such.
@@ -48,12 +26,12 @@ module _ (roots : ℕ) (classes : List (List ℕ)) where
       go true i = rw (eqb-true m n i) (sym e ∙ f)
       go false i = let ne = eqb-false m n i in h m (omega arith)
 
-  pub root_found : (count n : ℕ) (b : Bool) → b ≡ is_other roots (get_or classes n []) n → b ≡ true → n ≤ count → NoneBelow n → LowestRoot roots classes count (At n)
+  pub root_found : (count n : ℕ) (b : Bool) → b ≡ is_other roots (get_or classes n []) n → b ≡ true → n ≤ count → NoneBelow n → LowestRoot roots classes count (Some n)
   root_found count n b e f l h = least {n = n} (l, sym e ∙ f) (λ m q. go m q (ltb m n) refl)
     where
       go : (m : ℕ) → (m ≤ count) × (is_other roots (get_or classes m []) m ≡ true) → (t : Bool) → ltb m n ≡ t → n ≤ m
       go m q true i = absurd (false≢true (sym (h m (ltb-true m n i)) ∙ q.1))
       go m q false i = ltb-false m n i
 
-  pub no_root_found : (count n : ℕ) → count < n → NoneBelow n → LowestRoot roots classes count Nowhere
+  pub no_root_found : (count n : ℕ) → count < n → NoneBelow n → LowestRoot roots classes count None
   no_root_found count n l h = nowhere (λ m q. let le = q.0 in false≢true (sym (h m (omega arith)) ∙ q.1))

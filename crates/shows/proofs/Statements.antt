@@ -5,6 +5,7 @@ use mathlib.Core.Path.{◌≡◌, sym, ap, subst, ◌∙◌}
 use mathlib.Core.List.{List}
 use mathlib.Core.Bool.{true, ◌||◌}
 use mathlib.Core.Option.{none}
+use Rattle.std.specs.Prelude.{Some, None}
 use lib.ListN.{length, get_or}
 use lib.Dec.{leb}
 use borrow.Author.Tests.{leb-true}
@@ -25,7 +26,6 @@ use Rattle.graphs.specs.Inner.Graphs.{Keeps, nothing}
 use Rattle.entries.specs.Inner.Entries.{Loads}
 use Rattle.entries.proofs.Loading.{kept_entry}
 use Rattle.covering.proofs.Steps.{template_listed}
-use Rattle.shows.specs.declared.Showing.TheVariants.{Nothing, Page}
 use Rattle.shows.specs.declared.Source.{Source}
 use Rattle.shows.specs.declared.Source.TheVariants.{Variable, Framed}
 use Rattle.shows.specs.Inner.Promises.{PointStands, shown_at, ShowsAt, HoldsEntry, HoldsSource, HoldsShown}
@@ -35,12 +35,12 @@ module _ (s : List ℕ) (place : ℕ) (t : Declared.Statement) (is : as_statemen
   unfolding graph_shown
   shown_by heads gaps p j P = ap (λ (u : Statement). statement_graph j.script.templates u (entries j.proposal p)) (sym (is ∙ P.stands.is))
 
-  pub stop_shows_nothing : t ≡ Stop → ShowsAt s place Nothing
+  pub stop_shows_nothing : t ≡ Stop → ShowsAt s place None
   stop_shows_nothing e heads gaps p j P = shown_by heads gaps p j P ∙ rw e
 
   module _ (act : Acts.Act) (first second : ℕ) (e : t ≡ Step act first second) where
     -- An act other than `37` and `39`.
-    pub act_shows_nothing : (a : Acts.Act) → act ≡ a → ((φs : List Items) (E : Environment) → summary_shown φs (as_act a) E ≡ none) → ShowsAt s place Nothing
+    pub act_shows_nothing : (a : Acts.Act) → act ≡ a → ((φs : List Items) (E : Environment) → summary_shown φs (as_act a) E ≡ none) → ShowsAt s place None
     act_shows_nothing a f h heads gaps p j P = shown_by heads gaps p j P ∙ rw (e, f, h j.script.templates (entries j.proposal p))
 
     module _ (heads gaps : List ℕ) (p : ℕ) (j : Job) (P : PointStands s heads gaps place p j) where
@@ -50,12 +50,12 @@ module _ (s : List ℕ) (place : ℕ) (t : Declared.Statement) (is : as_statemen
       there : templates_there (length j.script.templates) (as_statement t) ≡ true
       there = subst (λ (u : Statement). templates_there (length j.script.templates) u ≡ true) (sym (is ∙ P.stands.is)) P.stands.template_there
 
-    pub act_shows : (x : ℕ) → act ≡ Show x → ShowsAt s place (Page (Variable x))
+    pub act_shows : (x : ℕ) → act ≡ Show x → ShowsAt s place (Some (Variable x))
     act_shows x f heads gaps p j P =
         let low : x < 4 = rw (e, f) at (fits heads gaps p j P) in
         (low, shown_by heads gaps p j P ∙ rw (e, f))
 
-    pub act_shows_framed : (x k g : ℕ) → act ≡ ShowFramed x k g → ShowsAt s place (Page (Framed x k g))
+    pub act_shows_framed : (x k g : ℕ) → act ≡ ShowFramed x k g → ShowsAt s place (Some (Framed x k g))
     act_shows_framed x k g f heads gaps p j P =
         let low : (x < 4) × (g < 8) = rw (e, f) at (fits heads gaps p j P) in
         let found : leb k (length j.script.templates) ≡ true = rw (e, f) at (there heads gaps p j P) in

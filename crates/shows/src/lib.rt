@@ -142,13 +142,8 @@ fn is_other(roots: u64, classes: [u64; 4], t: usize) -> bool
     requires { t < 32 }
     ensures { result ≡ is_other roots classes t }
 {
-    if !sets::has(roots, t as u8) {
-        return false;
-    }
-    if pattern_sets::has(classes, EMPTY) {
-        return true;
-    }
-    pattern_sets::has(classes, OTHER)
+    sets::has(roots, t as u8)
+        && (pattern_sets::has(classes, EMPTY) || pattern_sets::has(classes, OTHER))
 }
 
 // 11: the lowest such template.

@@ -115,10 +115,10 @@ module _ (count points : ℕ) (s : List ℕ) (least at : ℕ) where
       by_decoded (Moved code next) = by_tests f code next (eqb code 0x4F) (ltb (byte s (at + 1)) points) (leb least number) refl
       by_decoded (Refused form n) = refl
 
-  pub heads_refused : (d : Decoded) (form : Form) (n : ℕ) (heads : List ℕ) (r : Result Position ReadError) → d ≡ head_here points s least at → d ≡ Refused form n → r ≡ part_of d
+  pub heads_refused : (d : Decoded) (form : Form) (n : ℕ) (heads : List ℕ) (r : Result Position ReadError) → d ≡ head_here points s least at → d ≡ Refused form n → part_of d ≡ r
       → ProposalReads count points s least at heads r
   heads_refused d form n heads r d_is e p zero h = absurd (omega arith)
-  heads_refused d form n heads r d_is e p (suc f) h = rw (reads_here f, ← d_is, p, e) (refl, refl)
+  heads_refused d form n heads r d_is e p (suc f) h = rw (reads_here f, ← d_is, ← p, e) (refl, refl)
 
   -- `4F` ends the heads.
   pub heads_end : (d : Decoded) (code : ℕ) (next : Position) (heads : List ℕ) → d ≡ head_here points s least at → d ≡ Moved code next → code ≡ 0x4F
@@ -140,13 +140,13 @@ module _ (count points : ℕ) (s : List ℕ) (least at : ℕ) where
         and_then (proposal f count points s (number + 1) after) λ hs end. whole (made φs ∷ hs) end)
     reads_items f = reads_here f ∙ rw (← d_is, e, ne_eqb code 0x4F on)
 
-    pub items_refused : (part : Result Position ReadError) (form : Form) (n : ℕ) (heads : List ℕ) → HoldingsRead (holding_context (variable_of (byte s (at + 2)))) count s 0 next.at part
-        → part ≡ Err (record { form = form; at = n }) → ProposalReads count points s least at heads part
-    items_refused part form n heads read q zero h = absurd (omega arith)
-    items_refused part form n heads read q (suc f) h =
-        rw (reads_items f)
+    pub items_refused : (part : Result Position ReadError) (i : ReadError) (heads : List ℕ) → HoldingsRead (holding_context (variable_of (byte s (at + 2)))) count s 0 next.at part
+        → part ≡ Err i → ProposalReads count points s least at heads (Err i)
+    items_refused part i heads read q zero h = absurd (omega arith)
+    items_refused part i heads read q (suc f) h =
+        rw (← q, reads_items f)
         (agrees_refused (λ φs end. next.at ≤ end) (λ hs end. Kept count s least heads hs) (holdings f (holding_context (variable_of (byte s (at + 2)))) count s 0 next.at)
-        (λ φs after. and_then (proposal f count points s (number + 1) after) λ hs end. whole (made φs ∷ hs) end) part form n q
+        (λ φs after. and_then (proposal f count points s (number + 1) after) λ hs end. whole (made φs ∷ hs) end) part i q
         (read f (enough_after Heads s at code next m.read f h)))
 
 -- A variable of a head is low.
@@ -226,8 +226,8 @@ module _ (count points : ℕ) (s : List ℕ) (least at : ℕ) (d : Decoded) (cod
   read_there : HoldingsRead context count s 0 next.at part
   read_there = rw (x-is, v_is) at read
 
-  pub items_refuse : (form : Form) (k : ℕ) (heads : List ℕ) → part ≡ Err (record { form = form; at = k }) → ProposalReads count points s least at heads part
-  items_refuse form k heads q = items_refused count points s least at d code next d_is e on m part form k heads read_there q
+  pub items_refuse : (i : ReadError) (heads : List ℕ) → part ≡ Err i → ProposalReads count points s least at heads (Err i)
+  items_refuse i heads q = items_refused count points s least at d code next d_is e on m part i heads read_there q
 
   module _ (after : Position) (is_whole : part ≡ Ok after) where
     items : (f : ℕ) → Enough s next.at f → WholeAs (λ φs end. next.at ≤ end) (holdings f context count s 0 next.at) after

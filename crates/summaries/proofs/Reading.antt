@@ -69,8 +69,8 @@ module _ (x : Context) (count : ℕ) (s : List ℕ) (least at : ℕ) where
     reads_refusal form n e (suc f) h = rw (reads_here f, an_item, ← e) (refl, refl)
 
     module _ (d : Decoded) (d_is : d ≡ command x s at) where
-      pub holdings_refused : (form : Form) (n : ℕ) (part : Result Position ReadError) → d ≡ Refused form n → part ≡ part_of d → HoldingsRead x count s least at part
-      holdings_refused form n part e p = rw (p, e) (reads_refusal form n (sym e ∙ holding_refused x count s least at d d_is form n e))
+      pub holdings_refused : (form : Form) (n : ℕ) (part : Result Position ReadError) → d ≡ Refused form n → part_of d ≡ part → HoldingsRead x count s least at part
+      holdings_refused form n part e p = rw (← p, e) (reads_refusal form n (sym e ∙ holding_refused x count s least at d d_is form n e))
 
       module _ (code : ℕ) (next : Position) (e : d ≡ Moved code next) (b' : Bool) (there : b' ≡ holding_there count (holding_at s at code)) where
         pub holdings_missing : not b' ≡ true → HoldingsRead x count s least at (Err (record { form = Missing; at = at }))

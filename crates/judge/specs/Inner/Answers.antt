@@ -1,25 +1,27 @@
 -- What the judge of a page answers once its vocabulary, or the page too, was read.
-use Rattle.std.specs.Prelude.{ℕ, ◌≡◌, List, Bool, cond}
+use Rattle.std.specs.Prelude.{ℕ, ◌≡◌, List, Bool, cond, Result}
 use Rattle.verdicts.specs.declared.Fault.TheVariants.{NotRoot}
+use Rattle.verdicts.specs.declared.Refusal.{Refusal}
 use Rattle.verdicts.specs.declared.Refusal.TheVariants as Refusals
 use Rattle.verdicts.specs.declared.Verdict.{Verdict}
 use Rattle.verdicts.specs.declared.Verdict.TheVariants.{Refused}
-use Rattle.verdicts.specs.Inner.Acceptance.{accepts}
+use Rattle.sets.specs.Sets.{member}
 use Rattle.commands.specs.declared.Position.{Position}
+use Rattle.commands.specs.declared.ReadError.{ReadError}
 use Rattle.commands.specs.Reading.{whole, enough}
 use Rattle.vocabularies.specs.declared.Tables.{Tables}
-use Rattle.vocabularies.specs.Vocabulary.{Vocabulary, declared}
+use Rattle.vocabularies.specs.Vocabulary.{Vocabulary}
+use Rattle.vocabularies.specs.Vocabulary as Vocabularies
+use Rattle.vocabularies.specs.VocabularyReading.{alone, vocabulary_slice}
 use Rattle.vocabularies.specs.Inner.Promises.{Describes}
 use Rattle.pages.specs.declared.Kind.TheVariants.{Page}
 use Rattle.pages.specs.Items.{blank, Items, more, without_blank}
-use Rattle.pages.specs.ItemReading.{items, page_slice}
-use Rattle.judging.specs.Inner.Judgement.{first_wrong, is_alone, wrong_verdict, judged}
+use Rattle.pages.specs.ItemReading.{items}
+use Rattle.judging.specs.Inner.Judgement.{first_wrong, is_alone, wrong_verdict}
+use Rattle.jobs.specs.Inner.Promises.{AgreesAlone}
 
-abbrev pub not_root : Verdict
-not_root = Refused (Refusals.Page (NotRoot 0 0))
-
-abbrev pub first_refusal : Verdict → Verdict → Verdict
-first_refusal first second = cond (accepts first) second first
+abbrev pub not_root : Refusal
+not_root = Refusals.Page (NotRoot 0 0)
 
 -- What is left of a page behind its first blank text.
 pub record Solid (ruled : ℕ → Bool) (p : List ℕ) (φ : Items) (at end : ℕ) : Type 0 where
@@ -36,9 +38,12 @@ AfterBlank p at r = (ruled : ℕ → Bool) (f end : ℕ) (φ : Items) → items 
 -- Under a vocabulary that these tables describe, the verdict of a page that can be read.
 abbrev pub JudgesRead : List ℕ → List ℕ → Tables → Verdict → Type 0
 JudgesRead v p t r = (D : Vocabulary) → Describes v D t → (φ : Items) (end : ℕ)
-    → items (enough p) Page (declared D.rules) p 0 0 ≡ whole φ end
-    → r ≡ cond (is_alone D.root φ) (wrong_verdict (first_wrong D φ)) not_root
+    → items (enough p) Page (Vocabularies.declared D.rules) p 0 0 ≡ whole φ end
+    → r ≡ cond (is_alone D.root φ) (wrong_verdict (first_wrong D φ)) (Refused not_root)
 
--- Under a vocabulary that these tables describe, the verdict of any page.
-abbrev pub JudgesPage : List ℕ → List ℕ → Tables → Verdict → Type 0
-JudgesPage v p t r = (D : Vocabulary) → Describes v D t → r ≡ judged D (page_slice D p)
+-- A vocabulary, and a page of these elements, that are slices of their own.
+abbrev pub VocabularyReads : List ℕ → Result Tables ReadError → Type 0
+VocabularyReads v r = AgreesAlone (Describes v) (vocabulary_slice v) r
+
+abbrev pub PageReads : ℕ → List ℕ → Result (Unit {0}) ReadError → Type 0
+PageReads declared p r = AgreesAlone (λ (φ : Items) u. Unit {0}) (alone p (items (enough p) Page (member declared) p 0 0)) r
