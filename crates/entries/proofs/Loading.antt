@@ -1,16 +1,16 @@
 -- A graph while the items under a head are put into it, and while they are taken out again.
 use Prim.Native.Nat.{ℕ}
-use mathlib.Core.Path.{◌≡◌, refl, sym, ◌∙◌}
+use mathlib.Core.Path.{◌≡◌, refl, sym, ap, ◌∙◌}
 use mathlib.Core.List.{List, [], ◌∷◌}
 use mathlib.Core.Logic.{inl, inr}
 use mathlib.Core.Bool.{Bool, true, false, ◌||◌, or-false, false≢true}
-use native.Mathlib.Omega.{arith}
 use Rattle.commands.specs.declared.Context.TheVariants.{TemplateHoldings}
 use Rattle.commands.specs.declared.Position.{Position}
 use Rattle.summaries.specs.Proposal.{Holding}
 use Rattle.summaries.specs.Summaries.{Summary, says_claim, held}
 use Rattle.summaries.specs.declared.Claim as Declared
 use Rattle.std.specs.Prelude.{Option, Some, None}
+use Rattle.std.proofs.lemmas.Option.{none-some, same_Some}
 use Rattle.summaries.specs.Inner.Listed.{HoldingFits, Listed, meaning_of, claim_here, ClaimMoves}
 use Rattle.summaries.proofs.Steps.{claims_first, claims_end}
 use Rattle.graphs.specs.Inner.Graphs.{Keeps, Forgotten, nothing, adding}
@@ -83,12 +83,12 @@ taken_listed s at (x ∷ xs) ys t l =
 taken_once : (s : List ℕ) (at : ℕ) (xs ys : List Holding) → Taken s at xs → Taken s at ys → xs ≡ ys
 unfolding Taken
 taken_once s at [] [] t u = refl
-taken_once s at [] (y ∷ ys) t u = let q : None ≡ Some (u.item, u.next) = sym t ∙ u.is in absurd (let z : ◌≡◌ {A = ℕ} 0 1 = cc in omega arith)
-taken_once s at (x ∷ xs) [] t u = let q : Some (t.item, t.next) ≡ None = sym t.is ∙ u in absurd (let z : ◌≡◌ {A = ℕ} 0 1 = cc in omega arith)
+taken_once s at [] (y ∷ ys) t u = absurd (none-some (u.item, u.next) (sym t ∙ u.is))
+taken_once s at (x ∷ xs) [] t u = absurd (none-some (t.item, t.next) (sym u ∙ t.is))
 taken_once s at (x ∷ xs) (y ∷ ys) t u =
-    let q : Some (t.item, t.next) ≡ Some (u.item, u.next) = sym t.is ∙ u.is in
-    let same : t.item ≡ u.item = cc in
-    let same_next : t.next ≡ u.next = cc in
+    let q : (t.item, t.next) ≡ (u.item, u.next) = same_Some (t.item, t.next) (u.item, u.next) (sym t.is ∙ u.is) in
+    let same : t.item ≡ u.item = ap (λ (p : Declared.Claim × Position). p.0) q in
+    let same_next : t.next ≡ u.next = ap (λ (p : Declared.Claim × Position). p.1) q in
     let rest = taken_once s t.next.at xs ys t.more (rw same_next u.more) in
     let m = t.means in
     let n = u.means in
