@@ -22,12 +22,13 @@ fn union_of(templates: u64, sets: &[[u64; 4]; 32]) -> [u64; 4]
     ensures { UnionOf templates sets.now result }
 {
     let mut set = pattern_sets::empty();
-    let mut m = sets::first_member(templates, 0);
-    while m < 32 {
-        let row = sets[m as usize];
-        let more = pattern_sets::union(set, row);
-        set = more;
-        m = sets::first_member(templates, m + 1);
+    let mut next = sets::next_member(templates, 0);
+    while let Some(m) = next {
+        let Some(row) = sets.get(m as usize) else {
+            break;
+        };
+        set = pattern_sets::union(set, *row);
+        next = sets::next_member(templates, m + 1);
     }
     set
 }
@@ -38,11 +39,8 @@ pub fn gaps_from(graph: &Graph, sets: &[[u64; 4]; 32], n: usize) -> [[u64; 4]; 8
     ensures { (φs : List Items) (G : Summary) (M : Morphism) (X : Sets) → length φs < 32 → Bounded φs G → Keeps graph.now G → SetsAre φs M X sets.now → GapSetsAre φs G M X n result }
 {
     let mut takes = [[0u64; 4]; 8];
-    let mut g: u8 = 0;
-    while g < 8 {
-        let set = union_of(graphs::edges(graph, n as u8, g), sets);
-        takes[g as usize] = set;
-        g += 1;
+    for g in 0..8 {
+        takes[g] = union_of(graphs::edges(graph, n as u8, g as u8), sets);
     }
     takes
 }
@@ -129,7 +127,7 @@ pub fn with_content(r: Scheme, line: Line, c: u8) -> Line
 {
     let set = line.set;
     let more = schemes::followed(r, set, schemes::single(r, c));
-    if pattern_sets::same(more, set) {
+    if more == set {
         return Line {
             set,
             contents: sets::without(line.contents, sets::with(0, c)),
@@ -146,7 +144,7 @@ pub fn with_gap(r: Scheme, line: Line, takes: &[[u64; 4]; 8], g: u8) -> Line
 {
     let set = line.set;
     let joined = schemes::product(r, set, takes[g as usize]);
-    if pattern_sets::same(joined, set) {
+    if joined == set {
         return Line {
             set,
             contents: line.contents,
@@ -303,10 +301,8 @@ fn targets(graph: &Graph, n: usize) -> u64
     ensures { Targets graph.now n result }
 {
     let mut all = sets::with(0, FIRST);
-    let mut g: u8 = 0;
-    while g < 8 {
+    for g in 0..8 {
         all = sets::union(all, graphs::edges(graph, n as u8, g));
-        g += 1;
     }
     all
 }
@@ -316,13 +312,11 @@ fn all_targets(graph: &Graph, count: usize) -> [u64; 32]
     ensures { TargetsTable graph.now count result }
 {
     let mut table = [0u64; 32];
-    let mut n = 0;
-    while n < 32 {
+    for n in 0..32 {
         if count < n {
             return table;
         }
         table[n] = targets(graph, n);
-        n += 1;
     }
     table
 }
@@ -341,19 +335,15 @@ fn round(
     ensures { Rounds r s.now graph.now templates.now.starts targets.now sets.now templates.now.count changed result }
 {
     let mut next = [[0u64; 4]; 32];
-    let mut n = 0;
-    while n < 32 {
-        if count < n {
+    for n in 0..32 {
+        if templates.count < n {
             return next;
         }
-        if sets::common(targets[n], changed) == 0 {
-            let kept = sets[n];
-            next[n] = kept;
+        next[n] = if sets::common(targets[n], changed) == 0 {
+            sets[n]
         } else {
-            let new = template_patterns(s, r, graph, starts, sets, n);
-            next[n] = new;
-        }
-        n += 1;
+            template_patterns(s, r, graph, templates, sets, n)
+        };
     }
     next
 }
@@ -370,28 +360,23 @@ fn grown(before: &[[u64; 4]; 32], after: &[[u64; 4]; 32], count: usize) -> u64
     ensures { Grows count before.now after.now result }
 {
     let mut more: u64 = 0;
-    let mut n: u8 = 0;
-    while n < 32 {
-        let m = n as usize;
-        if count < m {
+    for n in 0..32 {
+        if count < n {
             return more;
         }
-        let old = before[m];
-        let new = after[m];
-        if !is_within(old, new) {
+        if !is_within(before[n], after[n]) {
             return 0;
         }
-        if !is_within(new, old) {
-            more = sets::with(more, n);
+        if !is_within(after[n], before[n]) {
+            more = sets::with(more, n as u8);
         }
-        n += 1;
     }
     more
 }
 
 // The sets of all templates: all empty at first, then round after round, until a round changes nothing. Sets of rounds grow, so there
 // are at most as many rounds as patterns that the sets can hold, and one more. Answers how many were made, the last of which changed
-// nothing; what the lent sets held before does not matter. (A struct with sets of all templates beside their count cannot be made.)
+// nothing; what the lent sets held before does not matter.
 pub fn settle(
     s: &[u8],
     r: Scheme,
@@ -401,13 +386,13 @@ pub fn settle(
 ) -> usize
     ensures { Settles r s.now graph.now templates.now.starts templates.now.count result sets.new }
 {
-    let targets = all_targets(graph, count);
+    let targets = all_targets(graph, templates.count);
     *sets = [[0u64; 4]; 32];
     let mut changed = sets::with(0, FIRST);
     let mut made = 0;
     while changed != 0 {
-        let next = round(s, r, graph, starts, &targets, sets, count, changed);
-        changed = grown(sets, &next, count);
+        let next = round(s, r, graph, templates, &targets, sets, changed);
+        changed = grown(sets, &next, templates.count);
         *sets = next;
         made += 1;
     }

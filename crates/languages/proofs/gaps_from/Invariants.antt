@@ -1,11 +1,7 @@
 -- The gaps before the loop's have their rows.
-use Prim.Native.Nat.{◌-◌}
 use mathlib.Core.List.{[]}
 use Rattle.languages.proofs.GapSets.{FilledTo, GapRow}
 use Rattle.languages.proofs.gaps_from.Given as goal
 
 abbrev pub invariant-loop-g : goal.invariant-loop-g
 invariant-loop-g l = FilledTo 8 [] (GapRow l.graph l.n l.sets) l.takes l.g
-
-abbrev pub decreases-loop-g : goal.decreases-loop-g
-decreases-loop-g l = 8 - l.g

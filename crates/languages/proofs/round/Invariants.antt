@@ -1,12 +1,8 @@
 -- The templates before the loop's have their sets.
-use Prim.Native.Nat.{◌-◌}
 use mathlib.Core.List.{[]}
 use Rattle.languages.proofs.GapSets.{FilledTo}
 use Rattle.languages.proofs.RoundLaws.{RowIs}
 use Rattle.languages.proofs.round.Given as goal
 
 abbrev pub invariant-loop-n : goal.invariant-loop-n
-invariant-loop-n l = FilledTo 32 [] (RowIs l.r l.s l.graph l.starts l.targets l.sets l.count l.changed) l.next l.n
-
-abbrev pub decreases-loop-n : goal.decreases-loop-n
-decreases-loop-n l = 32 - l.n
+invariant-loop-n l = FilledTo 32 [] (RowIs l.r l.s l.graph l.templates.starts l.targets l.sets l.templates.count l.changed) l.next l.n

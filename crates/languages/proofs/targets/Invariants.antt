@@ -1,10 +1,6 @@
 -- The gaps before the loop's are passed.
-use Prim.Native.Nat.{◌-◌}
 use Rattle.languages.proofs.RoundLaws.{TargetsTo}
 use Rattle.languages.proofs.targets.Given as goal
 
 abbrev pub invariant-loop-g : goal.invariant-loop-g
 invariant-loop-g l = TargetsTo l.graph l.n l.all l.g
-
-abbrev pub decreases-loop-g : goal.decreases-loop-g
-decreases-loop-g l = 8 - l.g
