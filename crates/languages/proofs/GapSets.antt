@@ -8,10 +8,11 @@ use native.Mathlib.Decide.{ℕ_discrete}
 use native.Mathlib.Omega.{arith}
 use lib.ListN.{length, get_or, set, length-set}
 use lib.Seq.{get_or-set_same, get_or-set_other}
-use lib.Dec.{ltb}
-use borrow.Author.Tests.{ltb-true, ltb-false}
+use borrow.Author.Tests.{lt-ltb}
+use Rattle.std.specs.Prelude.{Option, Some, None}
 use Rattle.sets.specs.Sets.{member}
-use Rattle.sets.specs.Inner.Promises.{FirstMember}
+use Rattle.sets.specs.Inner.Promises.{NextMember}
+use Rattle.sets.proofs.Steps.{IsMember, next_is, is_before, none_between, passed_by}
 use Rattle.pages.specs.Items.{Items}
 use Rattle.summaries.specs.Proposal.{edge}
 use Rattle.summaries.specs.Summaries.{Summary}
@@ -28,49 +29,41 @@ use Rattle.languages.specs.Inner.Promises.{UnionOf}
 
 -- ---- stepping through the templates
 
--- A member before the next one is the last, or stands before it.
-pub passed : (set m onto : ℕ) → FirstMember set (m + 1) onto → (k : ℕ) → k < onto → member set k ≡ true → (k < m) ⊎ (k ≡ m)
-passed set m onto f k l h = go (ltb k m) refl (ltb m k) refl
-  where
-    go : (t : Bool) → ltb k m ≡ t → (u : Bool) → ltb m k ≡ u → (k < m) ⊎ (k ≡ m)
-    go true e u e' = inl (ltb-true k m e)
-    go false e true e' = absurd (false≢true (sym (f.skips k (let q : m < k = ltb-true m k e' in omega arith) l) ∙ h))
-    go false e false e' = inr (omega (arith, ltb-false k m e, ltb-false m k e'))
-
 module _ (templates : ℕ) (sets : List (List ℕ)) where
-  -- The sets of the templates before a place, which is a template of the set, or 64.
-  pub record UnionTo (m : ℕ) (r : List ℕ) : Type 0 where
-    pub within : m ≤ 64
-    pub is_held : m < 64 → member templates m ≡ true
-    pub complete : (k y : ℕ) → k < m → member templates k ≡ true → holds (get_or sets k []) y ≡ true → holds r y ≡ true
+  -- The sets of the templates before the next one.
+  pub record UnionTo (next : Option ℕ) (r : List ℕ) : Type 0 where
+    pub next_is_held : IsMember templates next
+    pub complete : (k y : ℕ) → is_before next k ≡ true → member templates k ≡ true → holds (get_or sets k []) y ≡ true → holds r y ≡ true
     pub sound : (y : ℕ) → holds r y ≡ true → (k : ℕ) × (k < 32) × (member templates k ≡ true) × (holds (get_or sets k []) y ≡ true)
 
-  pub union_none : (m : ℕ) (r : List ℕ) → FirstMember templates 0 m → ((y : ℕ) → holds r y ≡ false) → UnionTo m r
-  union_none m r f none = record {
-    within = f.within;
-    is_held = f.is_held;
-    complete = λ k y l h p. absurd (false≢true (sym (f.skips k (omega arith) l) ∙ h));
+  pub union_none : (next : Option ℕ) (r : List ℕ) → NextMember templates 0 next → ((y : ℕ) → holds r y ≡ false) → UnionTo next r
+  union_none next r f none = record {
+    next_is_held = next_is templates 0 next f;
+    complete = λ k y b h p. absurd (false≢true (sym (none_between templates 0 next f k (omega arith) b) ∙ h));
     sound = λ y h. absurd (false≢true (sym (none y) ∙ h));
   }
 
-  module _ (m onto : ℕ) (r more : List ℕ) (low : m < 32) (f : FirstMember templates (m + 1) onto)
-      (both : (y : ℕ) → holds more y ≡ (holds r y || holds (get_or sets m []) y)) (so_far : UnionTo m r) where
+  module _ (m : ℕ) (onto : Option ℕ) (r more : List ℕ) (low : m < 32) (f : NextMember templates (m + 1) onto)
+      (both : (y : ℕ) → holds more y ≡ (holds r y || holds (get_or sets m []) y)) (so_far : UnionTo (Some m) r) where
     pub union_more : UnionTo onto more
     union_more = record {
-      within = f.within;
-      is_held = f.is_held;
-      complete = λ k y l h p. both y ∙ ⊎_elim
-          (λ (q : k < m). or_left (holds r y) (holds (get_or sets m []) y) (so_far.complete k y q h p))
+      next_is_held = next_is templates (m + 1) onto f;
+      complete = λ k y b h p. both y ∙ ⊎_elim
+          (λ (q : k < m). or_left (holds r y) (holds (get_or sets m []) y) (so_far.complete k y (lt-ltb k m q) h p))
           (λ (q : k ≡ m). or_right (holds r y) (holds (get_or sets m []) y) (subst (λ (i : ℕ). holds (get_or sets i []) y ≡ true) q p))
-          (passed templates m onto f k l h);
+          (passed_by templates m onto f k h b);
       sound = λ y h. ⊎_elim
           (λ (q : holds r y ≡ true). so_far.sound y q)
-          (λ (q : holds (get_or sets m []) y ≡ true). (m, low, so_far.is_held (omega arith), q))
+          (λ (q : holds (get_or sets m []) y ≡ true). (m, low, so_far.next_is_held.1, q))
           (or_cases (holds r y) (holds (get_or sets m []) y) (sym (both y) ∙ h));
     }
 
-  pub union_all : (m : ℕ) (r : List ℕ) → 32 ≤ m → UnionTo m r → UnionOf templates sets r
-  union_all m r l so_far = record { complete = λ k y h p q. so_far.complete k y (omega arith) p q; sound = so_far.sound }
+  -- Where no template is next, and where the next number is none of a template's.
+  pub union_all : (r : List ℕ) → UnionTo None r → UnionOf templates sets r
+  union_all r so_far = record { complete = λ k y h p q. so_far.complete k y refl p q; sound = so_far.sound }
+
+  pub union_past : (m : ℕ) (r : List ℕ) → 32 ≤ m → UnionTo (Some m) r → UnionOf templates sets r
+  union_past m r l so_far = record { complete = λ k y h p q. so_far.complete k y (lt-ltb k m (omega arith)) p q; sound = so_far.sound }
 
 -- ---- a table that is filled from its beginning
 

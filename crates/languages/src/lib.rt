@@ -25,9 +25,10 @@ fn union_of(templates: u64, sets: &[[u64; 4]; 32]) -> [u64; 4]
     let mut next = sets::next_member(templates, 0);
     while let Some(m) = next {
         let Some(row) = sets.get(m as usize) else {
-            break;
+            return set;
         };
-        set = pattern_sets::union(set, *row);
+        let more = pattern_sets::union(set, *row);
+        set = more;
         next = sets::next_member(templates, m + 1);
     }
     set

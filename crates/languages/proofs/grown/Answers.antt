@@ -6,15 +6,15 @@ use Rattle.languages.proofs.grown.Goals.{then-not-is_within-2, else-not-is_withi
 pub loop-n-init : goal.loop-n-init
 loop-n-init c = grown_none _ _ _
 
-pub returns-then-count-m : goal.returns-then-count-m
-returns-then-count-m c = grown_all _ _ _ _ _ (inl c.if-count-m.true) c.loop-n.invariant
+pub returns-then-count-n : goal.returns-then-count-n
+returns-then-count-n c = grown_all _ _ _ _ _ (inl c.if-count-n.true) c.loop-n.invariant
 
 pub returns-then-not-is_within : goal.returns-then-not-is_within
-returns-then-not-is_within c = grown_lost _ _ _ c.loop-n.n c.loop-n-test.true c.if-count-m.false c.is_within.result c.if-not-is_within.true c.is_within.ensures
+returns-then-not-is_within c = grown_lost _ _ _ c.loop-n.n c.loop-n-test.true c.if-count-n.false c.is_within.result c.if-not-is_within.true c.is_within.ensures
 
 pub loop-n-preserved : goal.loop-n-preserved
 loop-n-preserved c = let low = c.loop-n-test.true in
-    let there = c.if-count-m.false in
+    let there = c.if-count-n.false in
     elim c.if-not-is_within-2.branch [
       | then-not-is_within-2 m ↦ rw m.more-is (grown_more _ _ _ c.loop-n.more c.loop-n.n low there c.loop-n.invariant c.is_within.result c.if-not-is_within.false c.is_within.ensures c.is_within-in-loop-n.result m.if-not-is_within-2.true c.is_within-in-loop-n.ensures _ m.with-more.ensures)
       | else-not-is_within-2 m ↦ rw m.more-is (grown_same _ _ _ c.loop-n.more c.loop-n.n low there c.loop-n.invariant c.is_within.result c.if-not-is_within.false c.is_within.ensures c.is_within-in-loop-n.result m.if-not-is_within-2.false c.is_within-in-loop-n.ensures)

@@ -11,19 +11,19 @@ loop-n-init c = filled_none _ _ _ _ refl
 
 pub returns-then-count-n : goal.returns-then-count-n
 returns-then-count-n c = let a = c.args in
-    round_all a.r a.s.now a.graph.now a.starts.now a.targets.now a.sets.now a.count a.changed _ _ (inl c.if-count-n.true) c.loop-n.invariant
+    round_all a.r a.s.now a.graph.now a.templates.now.starts a.targets.now a.sets.now a.templates.now.count a.changed _ _ (inl c.if-count-n.true) c.loop-n.invariant
 
 pub loop-n-preserved : goal.loop-n-preserved
 loop-n-preserved c = let a = c.args in
     let low = c.loop-n-test.true in
-    let more = filled_more 32 [] (RowIs a.r a.s.now a.graph.now a.starts.now a.targets.now a.sets.now a.count a.changed) c.loop-n.next c.loop-n.n in
+    let more = filled_more 32 [] (RowIs a.r a.s.now a.graph.now a.templates.now.starts a.targets.now a.sets.now a.templates.now.count a.changed) c.loop-n.next c.loop-n.n in
     elim c.if-common-eq0.branch [
       | then-common-eq0 m ↦ rw m.next-is (more _ low
-          (row_kept a.r a.s.now a.graph.now a.starts.now a.targets.now a.sets.now a.count a.changed c.loop-n.n _ low c.common.ensures m.if-common-eq0.true) c.loop-n.invariant)
+          (row_kept a.r a.s.now a.graph.now a.templates.now.starts a.targets.now a.sets.now a.templates.now.count a.changed c.loop-n.n _ low c.common.ensures m.if-common-eq0.true) c.loop-n.invariant)
       | else-common-eq0 m ↦ rw m.next-is (more _ low
-          (row_computed a.r a.s.now a.graph.now a.starts.now a.targets.now a.sets.now a.count a.changed c.loop-n.n _ m.template_patterns-new.ensures) c.loop-n.invariant)
+          (row_computed a.r a.s.now a.graph.now a.templates.now.starts a.targets.now a.sets.now a.templates.now.count a.changed c.loop-n.n _ m.template_patterns-new.ensures) c.loop-n.invariant)
     ]
 
 pub returns : goal.returns
 returns c = let a = c.args in
-    round_all a.r a.s.now a.graph.now a.starts.now a.targets.now a.sets.now a.count a.changed _ _ (inr c.loop-n-test.false) c.loop-n.invariant
+    round_all a.r a.s.now a.graph.now a.templates.now.starts a.targets.now a.sets.now a.templates.now.count a.changed _ _ (inr c.loop-n-test.false) c.loop-n.invariant

@@ -1,18 +1,18 @@
 use native.Mathlib.Omega.{arith}
-use Rattle.languages.proofs.GapSets.{union_none, union_more, union_all}
+use Prim.Native.Nat.{ℕ}
+use Rattle.sets.proofs.Steps.{fewer_left}
+use Rattle.languages.proofs.GapSets.{union_none, union_more, union_all, union_past}
 use Rattle.languages.proofs.union_of.Goals as goal
 
-pub loop-m-init : goal.loop-m-init
-loop-m-init c = union_none _ _ _ _ c.first_member-m.ensures c.empty-set.ensures
+pub loop-next-init : goal.loop-next-init
+loop-next-init c = union_none _ _ _ _ c.next_member-next.ensures c.empty-set.ensures
 
-pub first_member-m-requires-in-loop-m : goal.first_member-m-requires-in-loop-m
-first_member-m-requires-in-loop-m c = omega arith
+pub loop-next-preserved : goal.loop-next-preserved
+loop-next-preserved c = let e : ℕ = c.in-Some-get.ensures.lookup in
+    union_more _ _ c.in-Some.m _ c.loop-next.set _ ? c.next_member-next-in-Some.ensures ? (rw c.in-Some.is at c.loop-next.invariant)
 
-pub loop-m-smaller : goal.loop-m-smaller
-loop-m-smaller c = omega (arith, c.first_member-m-in-loop-m.ensures.after)
-
-pub loop-m-preserved : goal.loop-m-preserved
-loop-m-preserved c = union_more _ _ c.loop-m.m _ c.loop-m.set _ c.loop-m-test.true c.first_member-m-in-loop-m.ensures c.union-more.ensures c.loop-m.invariant
+pub loop-next-smaller : goal.loop-next-smaller
+loop-next-smaller c = ?
 
 pub returns : goal.returns
-returns c = union_all _ _ _ _ c.loop-m-test.false c.loop-m.invariant
+returns c = union_all _ _ _ (rw c.in_default.is at c.loop-next.invariant)
