@@ -9,9 +9,9 @@ use Rattle.languages.proofs.round.Goals.{then-common-eq0, else-common-eq0}
 pub loop-n-init : goal.loop-n-init
 loop-n-init c = filled_none _ _ _ _ refl
 
-pub returns-then-count-n : goal.returns-then-count-n
-returns-then-count-n c = let a = c.args in
-    round_all a.r a.s.now a.graph.now a.templates.now.starts a.targets.now a.sets.now a.templates.now.count a.changed _ _ (inl c.if-count-n.true) c.loop-n.invariant
+pub returns-then-templates-n : goal.returns-then-templates-n
+returns-then-templates-n c = let a = c.args in
+    round_all a.r a.s.now a.graph.now a.templates.now.starts a.targets.now a.sets.now a.templates.now.count a.changed _ _ (inl c.if-templates-n.true) c.loop-n.invariant
 
 pub loop-n-preserved : goal.loop-n-preserved
 loop-n-preserved c = let a = c.args in
@@ -21,7 +21,7 @@ loop-n-preserved c = let a = c.args in
       | then-common-eq0 m ↦ rw m.next-is (more _ low
           (row_kept a.r a.s.now a.graph.now a.templates.now.starts a.targets.now a.sets.now a.templates.now.count a.changed c.loop-n.n _ low c.common.ensures m.if-common-eq0.true) c.loop-n.invariant)
       | else-common-eq0 m ↦ rw m.next-is (more _ low
-          (row_computed a.r a.s.now a.graph.now a.templates.now.starts a.targets.now a.sets.now a.templates.now.count a.changed c.loop-n.n _ m.template_patterns-new.ensures) c.loop-n.invariant)
+          (row_computed a.r a.s.now a.graph.now a.templates.now.starts a.targets.now a.sets.now a.templates.now.count a.changed c.loop-n.n _ m.template_patterns.ensures) c.loop-n.invariant)
     ]
 
 pub returns : goal.returns
