@@ -1,52 +1,29 @@
 -- A set stepped through member by member.
 use Prim.Native.Nat.{ℕ, zero, suc, ◌+◌, ◌-◌, ◌*◌, ◌≤◌, ◌<◌}
-use mathlib.Core.Path.{◌≡◌, sym, ap, subst, ◌∙◌}
+use mathlib.Core.Path.{◌≡◌, refl, sym, ap, subst, ◌∙◌}
 use mathlib.Core.List.{List, [], ◌∷◌}
 use mathlib.Core.Bool.{Bool, true, false, cond}
 use native.Mathlib.Nat.{mul-le-mul, add-mul}
 use native.Mathlib.Omega.{arith}
 use lib.ListN.{length, length-append}
+use Rattle.std.specs.Prelude.{Option, Some, None}
 use Rattle.sets.specs.Sets.{member}
-use Rattle.sets.specs.Inner.Promises.{FirstMember, count_below}
+use Rattle.sets.specs.Inner.Promises.{NextMember, MemberFrom, count_below}
 use Rattle.sets.proofs.Counts.{count_most}
 use Rattle.summaries.specs.ProposalOf.{each}
 use Rattle.memory.specs.Inner.Laid.{Writes}
 use Rattle.proposals.specs.Inner.Bytes.{item_bytes, member_items, members}
-use Rattle.proposals.proofs.Each.{each_skip, each_same, writing_starts, writing_fits, writing_goes}
+use Rattle.proposals.proofs.Each.{each_skip, each_same, writing_fits, writing_goes}
 
-pub no_member_after : (set from : ℕ) → from ≡ 64 → FirstMember set from 64
-no_member_after set from e = record { after = omega arith; within = omega arith; is_held = λ l. absurd (omega arith); skips = λ x l m. absurd (omega arith) }
-
--- Something holds up to a place, from which on the next member is k.
-pub record Stepping (set below : ℕ) (P : ℕ → Type 0) (k : ℕ) : Type 0 where
-  pub from : ℕ
-  pub few : from ≤ below
-  pub so_far : P from
-  pub first : FirstMember set from k
-
--- It holds up to the member, and up to the end, where it goes on past numbers that are no members.
-module _ (set below : ℕ) (P : ℕ → Type 0) (skip : (q : ℕ) → member set q ≡ false → P q → P (q + 1)) where
-  climbs : (from d : ℕ) → ((q : ℕ) → from ≤ q → q < from + d → member set q ≡ false) → P from → P (from + d)
-  climbs from zero none p = subst P (omega arith) p
-  climbs from (suc d) none p =
-      let e : from + d + 1 ≡ from + suc d = omega arith in
-      subst P e (skip (from + d) (none (from + d) (omega arith) (omega arith)) (climbs from d (λ q l m. none q l (omega arith)) p))
-
-  up_to : (k q : ℕ) (s : Stepping set below P k) → s.from ≤ q → q ≤ k → P q
-  up_to k q s l m =
-      let e : s.from + (q - s.from) ≡ q = omega arith in
-      subst P e (climbs s.from (q - s.from) (λ n a b. s.first.skips n a (omega arith)) s.so_far)
-
-  pub at_member : (k : ℕ) → Stepping set below P k → P k
-  at_member k s = up_to k k s s.first.after (omega arith)
-
-  pub at_end : (k : ℕ) → Stepping set below P k → below ≤ k → P below
-  at_end k s l = up_to k below s s.few l
+-- Where nothing is next there is no member.
+pub none_after : (set from : ℕ) (next : Option ℕ) → NextMember set from next → ((n : ℕ) → next ≡ Some n → ⊥) → (k : ℕ) → from ≤ k → member set k ≡ false
+none_after set from None is none k l = is k l
+none_after set from (Some n) is none k l = absurd (none n refl)
 
 -- ---- items of the members, behind a prefix
 
 module _ (before : List ℕ) (set below : ℕ) where
-  abbrev items : ℕ → List ℕ
+  abbrev pub items : ℕ → List ℕ
   items = member_items before (member set)
 
   no_item : (q : ℕ) → member set q ≡ false → items q ≡ []
@@ -57,39 +34,38 @@ module _ (before : List ℕ) (set below : ℕ) where
 
   -- ---- written
 
-  module _ (out : List ℕ) (at : ℕ) where
-    abbrev pub Written : ℕ → List ℕ → ℕ → Type 0
-    Written n half q = Writes out at (each q items) n half
+  module _ (out : List ℕ) (at n : ℕ) (half : List ℕ) where
+    abbrev pub Written : ℕ → Type 0
+    Written q = Writes out at (each q items) n half
 
-    write_skips : (n : ℕ) (half : List ℕ) (q : ℕ) → member set q ≡ false → Written n half q → Written n half (q + 1)
-    write_skips n half q e w = rw (each_skip items q (no_item q e)) w
+    -- Numbers that are no members are passed.
+    passes : (from d : ℕ) → ((q : ℕ) → from ≤ q → q < from + d → member set q ≡ false) → Written from → Written (from + d)
+    passes from zero none w = subst Written (omega arith) w
+    passes from (suc d) none w =
+        let e : from + d + 1 ≡ from + suc d = omega arith in
+        let here : Written (from + d) = passes from d (λ q l m. none q l (omega arith)) w in
+        subst Written e (rw (each_skip items (from + d) (no_item (from + d) (none (from + d) (omega arith) (omega arith)))) here)
 
-    pub write_starts : (k : ℕ) → FirstMember set 0 k → Stepping set below (Written at out) k
-    write_starts k f = record { from = 0; few = omega arith; so_far = writing_starts items out at; first = f }
+    up_to : (from q : ℕ) → from ≤ q → ((k : ℕ) → from ≤ k → k < q → member set k ≡ false) → Written from → Written q
+    up_to from q l none w =
+        let e : from + (q - from) ≡ q = omega arith in
+        subst Written e (passes from (q - from) (λ k a b. none k a (omega arith)) w)
 
-    module _ (n : ℕ) (half : List ℕ) (k : ℕ) (s : Stepping set below (Written n half) k) where
-      module _ (l : k < below) (few : below ≤ 64) where
-        held : member set k ≡ true
-        held = s.first.is_held (omega arith)
+    module _ (from : ℕ) (w : Written from) where
+      module _ (k : ℕ) (next : MemberFrom set from k) where
+        at_member : Written k
+        at_member = up_to from k next.after next.skips w
 
-        written_here : Written n half k
-        written_here = at_member set below (Written n half) (write_skips n half) k s
-
-        pub write_fits : at + length (members before below (member set)) ≤ length out → n + length (item_bytes before k) ≤ length half
+        pub write_fits : k < below → at + length (members before below (member set)) ≤ length out → n + length (item_bytes before k) ≤ length half
         unfolding members
-        write_fits h = subst (λ (bs : List ℕ). n + length bs ≤ length half) (an_item k held) (writing_fits items out at below k n half l h written_here)
+        write_fits l h = subst (λ (bs : List ℕ). n + length bs ≤ length half) (an_item k next.is_held) (writing_fits items out at below k n half l h at_member)
 
-        pub write_goes : (r : ℕ) (after : List ℕ) (k' : ℕ) → Writes half n (item_bytes before k) r after → FirstMember set (k + 1) k' → Stepping set below (Written r after) k'
-        write_goes r after k' w f = record {
-          from = k + 1;
-          few = omega arith;
-          so_far = writing_goes items out at k n half r after written_here (rw (an_item k held) w);
-          first = f;
-        }
+        pub write_goes : (r : ℕ) (after : List ℕ) → Writes half n (item_bytes before k) r after → Writes out at (each (k + 1) items) r after
+        write_goes r after v = writing_goes items out at k n half r after at_member (rw (an_item k next.is_held) v)
 
-      pub write_ends : below ≤ k → Writes out at (members before below (member set)) n half
+      pub write_ends : from ≤ below → ((k : ℕ) → from ≤ k → k < below → member set k ≡ false) → Writes out at (members before below (member set)) n half
       unfolding members
-      write_ends l = at_end set below (Written n half) (write_skips n half) k s l
+      write_ends l none = up_to from below l none w
 
 -- ---- their bytes
 

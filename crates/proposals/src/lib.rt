@@ -3,7 +3,7 @@
 
 ghost use Rattle.std.specs.Prelude.{◌≡◌, List, true, ℕ, ◌+◌, ◌*◌, ◌/◌, ◌≤◌, ◌<◌, length};
 ghost use Rattle.sets.specs.Sets.{member};
-ghost use Rattle.sets.specs.Inner.Promises.{FirstMember, count_below};
+ghost use Rattle.sets.specs.Inner.Promises.{count_below};
 ghost use Rattle.strings.specs.Inner.Promises.{holds_value};
 ghost use Rattle.summaries.specs.Proposal.{string};
 ghost use Rattle.summaries.specs.ProposalOf.{unlisted, proposal_of};
@@ -53,17 +53,6 @@ const ENTRIES: usize = 256;
 // A number for each entry: entry 8 p + v is that of variable v at point p.
 pub type EntryTable = [usize; ENTRIES];
 
-// The first member of a set at a place or after it, or 64 where there is none.
-fn next_member(set: u64, from: u32) -> u32
-    requires { from ≤ 64 }
-    ensures { FirstMember set from result }
-{
-    if from == 64 {
-        return 64;
-    }
-    sets::first_member(set, from)
-}
-
 // How many bytes a prefix is.
 fn prefix_length(prefix: Prefix) -> usize
     ensures { (result ≡ length (prefix_bytes prefix)) × (result ≤ 3) }
@@ -81,9 +70,9 @@ fn put_prefix(out: &mut [u8], at: usize, prefix: Prefix) -> usize
     ensures { Writes out.old at (prefix_bytes prefix) result out.new }
 {
     match prefix {
-        Prefix::Bare(c) => memory::put(out, at, c),
-        Prefix::One(c, a) => memory::put_two(out, at, c, a),
-        Prefix::Two(c, a, b) => memory::put_three(out, at, c, a, b),
+        Prefix::Bare(c) => memory::put(out, at, &[c]),
+        Prefix::One(c, a) => memory::put(out, at, &[c, a]),
+        Prefix::Two(c, a, b) => memory::put(out, at, &[c, a, b]),
     }
 }
 
@@ -93,11 +82,11 @@ fn put_item(out: &mut [u8], at: usize, prefix: Prefix, k: u8) -> usize
     ensures { Writes out.old at (item_bytes (prefix_bytes prefix) k) result out.new }
 {
     let n = put_prefix(out, at, prefix);
-    memory::put(out, n, k)
+    memory::put(out, n, &[k])
 }
 
 // How many members of a set are below a limit.
-fn count_members(set: u64, below: u32) -> usize
+fn count_members(set: u64, below: u8) -> usize
     requires { below ≤ 64 }
     ensures { result ≡ count_below below (member set) }
 {
@@ -108,7 +97,7 @@ fn count_members(set: u64, below: u32) -> usize
 }
 
 // The bytes of the members of a set below a limit, behind a prefix.
-fn members_length(prefix: Prefix, set: u64, below: u32) -> usize
+fn members_length(prefix: Prefix, set: u64, below: u8) -> usize
     requires { below ≤ 64 }
     ensures { result ≡ length (members (prefix_bytes prefix) below (member set)) }
 {
@@ -116,15 +105,18 @@ fn members_length(prefix: Prefix, set: u64, below: u32) -> usize
 }
 
 // They are written, member by member.
-fn put_members(out: &mut [u8], at: usize, prefix: Prefix, set: u64, below: u32) -> usize
+fn put_members(out: &mut [u8], at: usize, prefix: Prefix, set: u64, below: u8) -> usize
     requires { (at + length (members (prefix_bytes prefix) below (member set)) ≤ length out.old) × (below ≤ 64) }
     ensures { Writes out.old at (members (prefix_bytes prefix) below (member set)) result out.new }
 {
     let mut n = at;
-    let mut k = next_member(set, 0);
-    while k < below {
-        n = put_item(out, n, prefix, k as u8);
-        k = next_member(set, k + 1);
+    let mut from = 0;
+    while let Some(k) = sets::next_member(set, from) {
+        if below <= k {
+            return n;
+        }
+        n = put_item(out, n, prefix, k);
+        from = k + 1;
     }
     n
 }
@@ -159,15 +151,15 @@ fn seconds_of(sort: Sort) -> u8
 }
 
 // Below which number their members are.
-fn limit_of(sort: Sort, templates: u8) -> u32
+fn limit_of(sort: Sort, templates: u8) -> u8
     requires { templates < 32 }
     ensures { result ≡ limit templates sort }
 {
-    let count = templates as u32 + 1;
+    let count = templates + 1;
     match sort {
         Sort::Roots => count,
         Sort::Edges => count,
-        Sort::Listed => strings::OUTSIDE as u32,
+        Sort::Listed => strings::OUTSIDE,
         Sort::Any => 8,
         Sort::Origins => count,
         Sort::AttributeOrigins => count,
@@ -205,11 +197,9 @@ fn any_gaps(graph: &Graph, n: u8) -> u64
     ensures { (k : ℕ) → k < 8 → member result k ≡ holds graph.now (string n k unlisted) }
 {
     let mut gaps: u64 = 0;
-    let mut h: u8 = 0;
-    while h < 8 {
+    for h in 0..8 {
         let values = graphs::strings_at(graph, n, h);
         gaps = sets::with_if(gaps, h, values.any);
-        h += 1;
     }
     gaps
 }
@@ -268,10 +258,8 @@ fn row_length(graph: &Graph, templates: u8, sort: Sort, a: u8) -> usize
 {
     let count = seconds_of(sort);
     let mut total: usize = 0;
-    let mut b: u8 = 0;
-    while b < count {
+    for b in 0..count {
         total += place_length(graph, templates, sort, a, b);
-        b += 1;
     }
     total
 }
@@ -283,10 +271,8 @@ fn put_row(out: &mut [u8], at: usize, graph: &Graph, templates: u8, sort: Sort, 
 {
     let count = seconds_of(sort);
     let mut n = at;
-    let mut b: u8 = 0;
-    while b < count {
+    for b in 0..count {
         n = put_place(out, n, graph, templates, sort, a, b);
-        b += 1;
     }
     n
 }
@@ -298,10 +284,8 @@ fn sort_length(graph: &Graph, templates: u8, sort: Sort) -> usize
 {
     let count = firsts_of(sort, templates);
     let mut total: usize = 0;
-    let mut a: u8 = 0;
-    while a < count {
+    for a in 0..count {
         total += row_length(graph, templates, sort, a);
-        a += 1;
     }
     total
 }
@@ -313,10 +297,8 @@ fn put_sort(out: &mut [u8], at: usize, graph: &Graph, templates: u8, sort: Sort)
 {
     let count = firsts_of(sort, templates);
     let mut n = at;
-    let mut a: u8 = 0;
-    while a < count {
+    for a in 0..count {
         n = put_row(out, n, graph, templates, sort, a);
-        a += 1;
     }
     n
 }
@@ -351,11 +333,7 @@ fn put_template(out: &mut [u8], at: usize, graph: &Graph, templates: u8) -> usiz
 fn strings_length(values: Values) -> usize
     ensures { result ≡ length (string_bytes (holds_value values)) }
 {
-    let n = members_length(
-        Prefix::Bare(ONE_STRING),
-        listed(values),
-        strings::OUTSIDE as u32,
-    );
+    let n = members_length(Prefix::Bare(ONE_STRING), listed(values), strings::OUTSIDE);
     if values.any {
         return n + 1;
     }
@@ -372,10 +350,10 @@ fn put_strings(out: &mut [u8], at: usize, values: Values) -> usize
         at,
         Prefix::Bare(ONE_STRING),
         listed(values),
-        strings::OUTSIDE as u32,
+        strings::OUTSIDE,
     );
     if values.any {
-        return memory::put(out, n, ANY_STRING);
+        return memory::put(out, n, &[ANY_STRING]);
     }
     n
 }
@@ -439,10 +417,8 @@ pub fn entry_lengths(work: &[u64], templates: usize, points: usize) -> EntryTabl
 {
     let count = points * VARIABLES;
     let mut lengths: EntryTable = [0; ENTRIES];
-    let mut i: usize = 0;
-    while i < count {
+    for i in 0..count {
         lengths[i] = next_length(work, templates as u8, i, &lengths);
-        i += 1;
     }
     lengths
 }
@@ -487,7 +463,7 @@ fn put_variable(
     }
     let p = i / VARIABLES;
     let v = i % VARIABLES;
-    let n = memory::put_three(out, at, HEAD, p as u8, v as u8);
+    let n = memory::put(out, at, &[HEAD, p as u8, v as u8]);
     put_items(out, n, work, templates, i, size, ends)
 }
 
@@ -506,11 +482,9 @@ fn put_entries(
     let count = points * VARIABLES;
     let mut ends: EntryTable = [0; ENTRIES];
     let mut n = at;
-    let mut i: usize = 0;
-    while i < count {
+    for i in 0..count {
         n = put_variable(out, n, work, templates, i, lengths[i], &ends);
         ends[i] = n;
-        i += 1;
     }
     n
 }
@@ -533,10 +507,8 @@ pub fn proposal_length(lengths: &EntryTable, points: usize) -> usize
 {
     let count = points * VARIABLES;
     let mut total: usize = 0;
-    let mut i: usize = 0;
-    while i < count {
+    for i in 0..count {
         total += with_head(lengths[i]);
-        i += 1;
     }
     total + 1
 }
@@ -553,7 +525,7 @@ pub fn put_proposal(
     ensures { Writes out.old 0 (written_proposal (proposal_of templates points (entries_in points work.now))) result out.new }
 {
     let n = put_entries(out, 0, work, templates as u8, points, lengths);
-    memory::put(out, n, END)
+    memory::put(out, n, &[END])
 }
 
 // Its bytes in a buffer from a place on: the part from there on is lent to the writers.

@@ -6,9 +6,6 @@ use Rattle.proposals.proofs.any_gaps.Goals as goal
 pub loop-h-init : goal.loop-h-init
 loop-h-init c = gathered_none _ _
 
-pub loop-h-smaller : goal.loop-h-smaller
-loop-h-smaller c = omega arith
-
 pub loop-h-preserved : goal.loop-h-preserved
 loop-h-preserved c = gathered_more _ _ _ _ c.loop-h.invariant (search rules) c.strings_at-values.result (omega arith) (c.strings_at-values.ensures c.requires (search rules)) _ c.with_if-gaps.ensures
 

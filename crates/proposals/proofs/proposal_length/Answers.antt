@@ -10,7 +10,7 @@ use Rattle.proposals.proofs.Written.{proposal_written}
 use Rattle.proposals.proofs.proposal_length.Goals as goal
 
 pub loop-i-init : goal.loop-i-init
-loop-i-init c = (omega arith, omega arith, λ templates work counted. counting_starts (headed_at templates work))
+loop-i-init c = (omega arith, λ templates work counted. counting_starts (headed_at templates work))
 
 pub bounds-lengths-i : goal.bounds-lengths-i
 bounds-lengths-i c = omega (arith, c.requires.0)
@@ -20,26 +20,22 @@ with_head-total-requires c = c.requires.1 _ (search rules)
 
 pub overflow_add-total : goal.overflow_add-total
 overflow_add-total c = let pre = c.requires in
-    omega (arith, c.loop-i.invariant.1, c.with_head-total.ensures.0, pre.0, pre.1 c.loop-i.i (search rules))
-
-pub loop-i-smaller : goal.loop-i-smaller
-loop-i-smaller c = omega arith
+    omega (arith, c.loop-i.invariant.0, c.with_head-total.ensures.0, pre.0, pre.1 c.loop-i.i (search rules))
 
 pub loop-i-preserved : goal.loop-i-preserved
 loop-i-preserved c = let pre = c.requires in
     let r = c.with_head-total.ensures in (
-      omega arith,
-      omega (arith, c.loop-i.invariant.1, r.0, pre.1 c.loop-i.i (search rules)),
+      omega (arith, c.loop-i.invariant.0, r.0, pre.1 c.loop-i.i (search rules)),
       λ templates work counted.
-          counting_goes (headed_at templates work) c.loop-i.i _ _ (c.loop-i.invariant.2 templates work counted) (r.1 (c.loop-i.i / 8) (c.loop-i.i % 8) (items_at templates work c.loop-i.i) (counted c.loop-i.i (search rules))),
+          counting_goes (headed_at templates work) c.loop-i.i _ _ (c.loop-i.invariant.1 templates work counted) (r.1 (c.loop-i.i / 8) (c.loop-i.i % 8) (items_at templates work c.loop-i.i) (counted c.loop-i.i (search rules))),
     )
 
 pub overflow_add-result : goal.overflow_add-result
-overflow_add-result c = omega (arith, c.loop-i.invariant.1, c.requires.0)
+overflow_add-result c = omega (arith, c.loop-i.invariant.0, c.requires.0)
 
 pub returns : goal.returns
 unfolding entries_bytes
 returns c = λ templates work counted.
     let args = c.args in
-    let e = counting_ends (headed_at templates work) (args.points * 8) c.loop-i.i _ (omega arith) (omega arith) (c.loop-i.invariant.2 templates work counted) in
+    let e = counting_ends (headed_at templates work) (args.points * 8) c.loop-i.i _ (omega arith) (omega arith) (c.loop-i.invariant.1 templates work counted) in
     omega (arith, e, ap length (proposal_written templates args.points work), length-append (entries_bytes templates work (args.points * 8)) (0x4F ∷ []))

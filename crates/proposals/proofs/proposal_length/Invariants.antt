@@ -1,5 +1,5 @@
 -- The bytes of the entries passed are counted, then the end.
-use Prim.Native.Nat.{ℕ, ◌-◌, ◌*◌, ◌≤◌}
+use Prim.Native.Nat.{ℕ, ◌*◌, ◌≤◌}
 use mathlib.Core.Path.{◌≡◌}
 use mathlib.Core.List.{List}
 use lib.ListN.{length}
@@ -8,8 +8,5 @@ use Rattle.proposals.specs.Inner.Bytes.{headed_at, Counted}
 use Rattle.proposals.proofs.proposal_length.Given as goal
 
 abbrev pub invariant-loop-i : goal.invariant-loop-i
-invariant-loop-i l = (l.i ≤ l.count) × (l.total ≤ l.i * 393219)
+invariant-loop-i l = (l.total ≤ l.i * 393219)
     × ((templates : ℕ) (work : List ℕ) → Counted templates work (l.points * 8) l.lengths → l.total ≡ length (each l.i (headed_at templates work)))
-
-abbrev pub decreases-loop-i : goal.decreases-loop-i
-decreases-loop-i l = l.count - l.i

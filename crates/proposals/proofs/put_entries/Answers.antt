@@ -7,7 +7,7 @@ use Rattle.proposals.specs.Inner.Bytes.{headed_at, entries_bytes}
 use Rattle.proposals.proofs.put_entries.Goals as goal
 
 pub loop-i-init : goal.loop-i-init
-loop-i-init c = let args = c.args in (omega arith, writing_starts (headed_at args.templates args.work.now) _ _, filled_none _)
+loop-i-init c = let args = c.args in (writing_starts (headed_at args.templates args.work.now) _ _, filled_none _)
 
 pub bounds-lengths-i : goal.bounds-lengths-i
 bounds-lengths-i c = omega (arith, c.requires.3)
@@ -16,22 +16,19 @@ pub put_variable-n-requires : goal.put_variable-n-requires
 unfolding entries_bytes
 put_variable-n-requires c = let args = c.args in
     let pre = c.requires in
-    (writing_fits (headed_at args.templates args.work.now) _ _ (args.points * 8) c.loop-i.i c.loop-i.n c.loop-i.out (search rules) pre.0 c.loop-i.invariant.1, omega (arith, pre.1), pre.2, omega (arith, pre.3), pre.4 c.loop-i.i (search rules), c.loop-i.invariant.2.holds)
+    (writing_fits (headed_at args.templates args.work.now) _ _ (args.points * 8) c.loop-i.i c.loop-i.n c.loop-i.out (search rules) pre.0 c.loop-i.invariant.0, omega (arith, pre.1), pre.2, omega (arith, pre.3), pre.4 c.loop-i.i (search rules), c.loop-i.invariant.1.holds)
 
 pub bounds-ends-i : goal.bounds-ends-i
 bounds-ends-i c = omega (arith, c.requires.3)
-
-pub loop-i-smaller : goal.loop-i-smaller
-loop-i-smaller c = omega arith
 
 pub loop-i-preserved : goal.loop-i-preserved
 unfolding entries_bytes
 loop-i-preserved c = let args = c.args in
     let pre = c.requires in
     let w = c.put_variable-n.ensures in
-    let fits = writing_fits (headed_at args.templates args.work.now) _ _ (args.points * 8) c.loop-i.i c.loop-i.n c.loop-i.out (search rules) pre.0 c.loop-i.invariant.1 in
-    (omega arith, writing_goes (headed_at args.templates args.work.now) _ _ c.loop-i.i c.loop-i.n c.loop-i.out _ _ c.loop-i.invariant.1 w, ends_more args.templates args.work.now c.loop-i.out c.loop-i.n _ _ c.loop-i.i c.loop-i.ends (omega (arith, pre.3)) fits w c.loop-i.invariant.2)
+    let fits = writing_fits (headed_at args.templates args.work.now) _ _ (args.points * 8) c.loop-i.i c.loop-i.n c.loop-i.out (search rules) pre.0 c.loop-i.invariant.0 in
+    (writing_goes (headed_at args.templates args.work.now) _ _ c.loop-i.i c.loop-i.n c.loop-i.out _ _ c.loop-i.invariant.0 w, ends_more args.templates args.work.now c.loop-i.out c.loop-i.n _ _ c.loop-i.i c.loop-i.ends (omega (arith, pre.3)) fits w c.loop-i.invariant.1)
 
 pub returns : goal.returns
 unfolding entries_bytes
-returns c = let args = c.args in writing_ends (headed_at args.templates args.work.now) _ _ (args.points * 8) c.loop-i.i _ _ (omega arith) (omega arith) c.loop-i.invariant.1
+returns c = let args = c.args in writing_ends (headed_at args.templates args.work.now) _ _ (args.points * 8) c.loop-i.i _ _ (omega arith) (omega arith) c.loop-i.invariant.0

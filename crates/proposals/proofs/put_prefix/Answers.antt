@@ -10,17 +10,17 @@ use Rattle.proposals.proofs.put_prefix.Goals as goal
 pub put-requires : goal.put-requires
 put-requires c = omega (arith, ap (λ (p : Prefix). length (prefix_bytes p)) c.in-Bare.is)
 
-pub put_two-requires : goal.put_two-requires
-put_two-requires c = omega (arith, ap (λ (p : Prefix). length (prefix_bytes p)) c.in-One.is)
+pub put-requires-in-One : goal.put-requires-in-One
+put-requires-in-One c = omega (arith, ap (λ (p : Prefix). length (prefix_bytes p)) c.in-One.is)
 
-pub put_three-requires : goal.put_three-requires
-put_three-requires c = omega (arith, ap (λ (p : Prefix). length (prefix_bytes p)) c.in-Two.is)
+pub put-requires-in-Two : goal.put-requires-in-Two
+put-requires-in-Two c = omega (arith, ap (λ (p : Prefix). length (prefix_bytes p)) c.in-Two.is)
 
 pub returns-in-Bare : goal.returns-in-Bare
 returns-in-Bare c = writes_same _ _ _ _ _ _ (ap prefix_bytes c.in-Bare.is) c.put.ensures
 
 pub returns-in-One : goal.returns-in-One
-returns-in-One c = writes_same _ _ _ _ _ _ (ap prefix_bytes c.in-One.is) c.put_two.ensures
+returns-in-One c = writes_same _ _ _ _ _ _ (ap prefix_bytes c.in-One.is) c.put-in-One.ensures
 
 pub returns-in-Two : goal.returns-in-Two
-returns-in-Two c = writes_same _ _ _ _ _ _ (ap prefix_bytes c.in-Two.is) c.put_three.ensures
+returns-in-Two c = writes_same _ _ _ _ _ _ (ap prefix_bytes c.in-Two.is) c.put-in-Two.ensures

@@ -2,30 +2,23 @@ use native.Mathlib.Omega.{arith}
 use Rattle.graphs.specs.Inner.Graphs.{holds}
 use Rattle.proposals.specs.Inner.Bytes.{firsts, row_bytes, sort_bytes}
 use Rattle.proposals.proofs.Each.{writing_starts, writing_fits, writing_goes, writing_ends}
-use Rattle.proposals.proofs.Sorts.{firsts_few}
 use Rattle.proposals.proofs.put_sort.Goals as goal
 
 pub loop-a-init : goal.loop-a-init
-loop-a-init c = let args = c.args in (omega arith, writing_starts (row_bytes args.templates (holds args.graph.now) args.sort) _ _)
+loop-a-init c = let args = c.args in writing_starts (row_bytes args.templates (holds args.graph.now) args.sort) _ _
 
 pub put_row-n-requires : goal.put_row-n-requires
 unfolding sort_bytes
 put_row-n-requires c = let args = c.args in
     let pre = c.requires in
     let e = c.firsts_of-count.ensures in
-    (writing_fits (row_bytes args.templates (holds args.graph.now) args.sort) _ _ (firsts args.templates args.sort) c.loop-a.a c.loop-a.n c.loop-a.out (omega (arith, e)) pre.0 c.loop-a.invariant.1, pre.1, omega (arith, e))
-
-pub overflow_add-a : goal.overflow_add-a
-overflow_add-a c = omega (arith, c.firsts_of-count.ensures, firsts_few c.args.templates c.requires.1 c.args.sort)
-
-pub loop-a-smaller : goal.loop-a-smaller
-loop-a-smaller c = omega arith
+    (writing_fits (row_bytes args.templates (holds args.graph.now) args.sort) _ _ (firsts args.templates args.sort) c.loop-a.a c.loop-a.n c.loop-a.out (omega (arith, e)) pre.0 c.loop-a.invariant, pre.1, omega (arith, e))
 
 pub loop-a-preserved : goal.loop-a-preserved
-loop-a-preserved c = let args = c.args in (omega arith, writing_goes (row_bytes args.templates (holds args.graph.now) args.sort) _ _ _ _ _ _ _ c.loop-a.invariant.1 c.put_row-n.ensures)
+loop-a-preserved c = let args = c.args in writing_goes (row_bytes args.templates (holds args.graph.now) args.sort) _ _ _ _ _ _ _ c.loop-a.invariant c.put_row-n.ensures
 
 pub returns : goal.returns
 unfolding sort_bytes
 returns c = let args = c.args in
     let e = c.firsts_of-count.ensures in
-    writing_ends (row_bytes args.templates (holds args.graph.now) args.sort) _ _ (firsts args.templates args.sort) c.loop-a.a _ _ (omega (arith, e)) (omega (arith, e)) c.loop-a.invariant.1
+    writing_ends (row_bytes args.templates (holds args.graph.now) args.sort) _ _ (firsts args.templates args.sort) c.loop-a.a _ _ (omega (arith, e)) (omega (arith, e)) c.loop-a.invariant

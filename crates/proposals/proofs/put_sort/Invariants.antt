@@ -1,5 +1,4 @@
 -- The items of the first operands passed are written.
-use Prim.Native.Nat.{◌-◌, ◌≤◌}
 use Rattle.memory.specs.Inner.Laid.{Writes}
 use Rattle.summaries.specs.ProposalOf.{each}
 use Rattle.graphs.specs.Inner.Graphs.{holds}
@@ -7,7 +6,4 @@ use Rattle.proposals.specs.Inner.Bytes.{row_bytes}
 use Rattle.proposals.proofs.put_sort.Given as goal
 
 abbrev pub invariant-loop-a : goal.invariant-loop-a
-invariant-loop-a l = (l.a ≤ l.count) × Writes l.initial.out l.at (each l.a (row_bytes l.templates (holds l.graph) l.sort)) l.n l.out
-
-abbrev pub decreases-loop-a : goal.decreases-loop-a
-decreases-loop-a l = l.count - l.a
+invariant-loop-a l = Writes l.initial.out l.at (each l.a (row_bytes l.templates (holds l.graph) l.sort)) l.n l.out

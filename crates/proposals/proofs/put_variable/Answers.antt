@@ -14,8 +14,8 @@ returns-then-size-eq0 c = let args = c.args in
     let e = c.requires.4 in
     writes_same _ _ _ _ _ _ (head_none (args.i / 8) (args.i % 8) (items_at args.templates args.work.now args.i) (sym e ∙ c.if-size-eq0.true)) (writes_none _ _)
 
-pub put_three-n-requires : goal.put_three-n-requires
-put_three-n-requires c = let args = c.args in
+pub put-n-requires : goal.put-n-requires
+put-n-requires c = let args = c.args in
     let pre = c.requires in
     omega (arith, pre.0, ap length (head_some (args.i / 8) (args.i % 8) (items_at args.templates args.work.now args.i) (λ z. c.if-size-eq0.false (pre.4 ∙ z))))
 
@@ -24,10 +24,10 @@ put_items-requires c = let args = c.args in
     let pre = c.requires in
     let items = items_at args.templates args.work.now args.i in
     let whole = head_some (args.i / 8) (args.i % 8) items (λ z. c.if-size-eq0.false (pre.4 ∙ z)) in
-    (writes_fits _ _ _ items _ _ c.put_three-n.ensures (rw whole at pre.0), pre.1, pre.2, pre.3, pre.4, stand_kept args.templates args.work.now _ _ _ _ _ c.put_three-n.ensures args.i args.ends.now pre.5)
+    (writes_fits _ _ _ items _ _ c.put-n.ensures (rw whole at pre.0), pre.1, pre.2, pre.3, pre.4, stand_kept args.templates args.work.now _ _ _ _ _ c.put-n.ensures args.i args.ends.now pre.5)
 
 pub returns : goal.returns
 returns c = let args = c.args in
     let pre = c.requires in
     let whole = head_some (args.i / 8) (args.i % 8) (items_at args.templates args.work.now args.i) (λ z. c.if-size-eq0.false (pre.4 ∙ z)) in
-    writes_same _ _ _ _ _ _ whole (writes_then _ _ _ _ _ _ _ _ c.put_three-n.ensures c.put_items.ensures)
+    writes_same _ _ _ _ _ _ whole (writes_then _ _ _ _ _ _ _ _ c.put-n.ensures c.put_items.ensures)

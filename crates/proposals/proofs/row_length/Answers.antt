@@ -2,11 +2,11 @@ use native.Mathlib.Omega.{arith}
 use Rattle.graphs.specs.Inner.Graphs.{holds}
 use Rattle.proposals.specs.Inner.Bytes.{seconds, place_bytes, row_bytes}
 use Rattle.proposals.proofs.Each.{counting_starts, counting_fits, counting_goes, counting_ends}
-use Rattle.proposals.proofs.Sorts.{seconds_few, row_most}
+use Rattle.proposals.proofs.Sorts.{row_most}
 use Rattle.proposals.proofs.row_length.Goals as goal
 
 pub loop-b-init : goal.loop-b-init
-loop-b-init c = (omega arith, counting_starts (place_bytes c.args.templates (holds c.args.graph.now) c.args.sort c.args.a))
+loop-b-init c = counting_starts (place_bytes c.args.templates (holds c.args.graph.now) c.args.sort c.args.a)
 
 pub place_length-total-requires : goal.place_length-total-requires
 place_length-total-requires c = let pre = c.requires in (pre.0, pre.1, omega (arith, c.seconds_of-count.ensures))
@@ -17,19 +17,13 @@ overflow_add-total c = let args = c.args in
     let pre = c.requires in
     let f = place_bytes args.templates (holds args.graph.now) args.sort args.a in
     let n = c.seconds_of-count.ensures in
-    omega (arith, counting_fits f (seconds args.sort) _ _ _ (omega (arith, n)) c.loop-b.invariant.1 c.place_length-total.ensures, row_most args.templates pre.0 (holds args.graph.now) args.sort args.a)
-
-pub overflow_add-b : goal.overflow_add-b
-overflow_add-b c = omega (arith, c.seconds_of-count.ensures, seconds_few c.args.templates c.requires.0 c.args.sort)
-
-pub loop-b-smaller : goal.loop-b-smaller
-loop-b-smaller c = omega arith
+    omega (arith, counting_fits f (seconds args.sort) _ _ _ (omega (arith, n)) c.loop-b.invariant c.place_length-total.ensures, row_most args.templates pre.0 (holds args.graph.now) args.sort args.a)
 
 pub loop-b-preserved : goal.loop-b-preserved
-loop-b-preserved c = let args = c.args in (omega arith, counting_goes (place_bytes args.templates (holds args.graph.now) args.sort args.a) _ _ _ c.loop-b.invariant.1 c.place_length-total.ensures)
+loop-b-preserved c = let args = c.args in counting_goes (place_bytes args.templates (holds args.graph.now) args.sort args.a) _ _ _ c.loop-b.invariant c.place_length-total.ensures
 
 pub returns : goal.returns
 unfolding row_bytes
 returns c = let args = c.args in
     let n = c.seconds_of-count.ensures in
-    counting_ends (place_bytes args.templates (holds args.graph.now) args.sort args.a) (seconds args.sort) c.loop-b.b _ (omega (arith, n)) (omega (arith, n)) c.loop-b.invariant.1
+    counting_ends (place_bytes args.templates (holds args.graph.now) args.sort args.a) (seconds args.sort) c.loop-b.b _ (omega (arith, n)) (omega (arith, n)) c.loop-b.invariant

@@ -1,5 +1,4 @@
 -- The bytes of the second operands passed are counted.
-use Prim.Native.Nat.{◌-◌, ◌≤◌}
 use mathlib.Core.Path.{◌≡◌}
 use lib.ListN.{length}
 use Rattle.summaries.specs.ProposalOf.{each}
@@ -8,7 +7,4 @@ use Rattle.proposals.specs.Inner.Bytes.{place_bytes}
 use Rattle.proposals.proofs.row_length.Given as goal
 
 abbrev pub invariant-loop-b : goal.invariant-loop-b
-invariant-loop-b l = (l.b ≤ l.count) × (l.total ≡ length (each l.b (place_bytes l.templates (holds l.graph) l.sort l.a)))
-
-abbrev pub decreases-loop-b : goal.decreases-loop-b
-decreases-loop-b l = l.count - l.b
+invariant-loop-b l = l.total ≡ length (each l.b (place_bytes l.templates (holds l.graph) l.sort l.a))

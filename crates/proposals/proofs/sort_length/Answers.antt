@@ -2,11 +2,11 @@ use native.Mathlib.Omega.{arith}
 use Rattle.graphs.specs.Inner.Graphs.{holds}
 use Rattle.proposals.specs.Inner.Bytes.{firsts, row_bytes, sort_bytes}
 use Rattle.proposals.proofs.Each.{counting_starts, counting_fits, counting_goes, counting_ends}
-use Rattle.proposals.proofs.Sorts.{firsts_few, sort_most}
+use Rattle.proposals.proofs.Sorts.{sort_most}
 use Rattle.proposals.proofs.sort_length.Goals as goal
 
 pub loop-a-init : goal.loop-a-init
-loop-a-init c = let args = c.args in (omega arith, counting_starts (row_bytes args.templates (holds args.graph.now) args.sort))
+loop-a-init c = let args = c.args in counting_starts (row_bytes args.templates (holds args.graph.now) args.sort)
 
 pub row_length-total-requires : goal.row_length-total-requires
 row_length-total-requires c = (c.requires, omega (arith, c.firsts_of-count.ensures))
@@ -15,19 +15,13 @@ pub overflow_add-total : goal.overflow_add-total
 unfolding sort_bytes
 overflow_add-total c = let args = c.args in
     let n = c.firsts_of-count.ensures in
-    omega (arith, counting_fits (row_bytes args.templates (holds args.graph.now) args.sort) (firsts args.templates args.sort) _ _ _ (omega (arith, n)) c.loop-a.invariant.1 c.row_length-total.ensures, sort_most args.templates c.requires (holds args.graph.now) args.sort)
-
-pub overflow_add-a : goal.overflow_add-a
-overflow_add-a c = omega (arith, c.firsts_of-count.ensures, firsts_few c.args.templates c.requires c.args.sort)
-
-pub loop-a-smaller : goal.loop-a-smaller
-loop-a-smaller c = omega arith
+    omega (arith, counting_fits (row_bytes args.templates (holds args.graph.now) args.sort) (firsts args.templates args.sort) _ _ _ (omega (arith, n)) c.loop-a.invariant c.row_length-total.ensures, sort_most args.templates c.requires (holds args.graph.now) args.sort)
 
 pub loop-a-preserved : goal.loop-a-preserved
-loop-a-preserved c = let args = c.args in (omega arith, counting_goes (row_bytes args.templates (holds args.graph.now) args.sort) _ _ _ c.loop-a.invariant.1 c.row_length-total.ensures)
+loop-a-preserved c = let args = c.args in counting_goes (row_bytes args.templates (holds args.graph.now) args.sort) _ _ _ c.loop-a.invariant c.row_length-total.ensures
 
 pub returns : goal.returns
 unfolding sort_bytes
 returns c = let args = c.args in
     let n = c.firsts_of-count.ensures in
-    counting_ends (row_bytes args.templates (holds args.graph.now) args.sort) (firsts args.templates args.sort) c.loop-a.a _ (omega (arith, n)) (omega (arith, n)) c.loop-a.invariant.1
+    counting_ends (row_bytes args.templates (holds args.graph.now) args.sort) (firsts args.templates args.sort) c.loop-a.a _ (omega (arith, n)) (omega (arith, n)) c.loop-a.invariant

@@ -1,5 +1,4 @@
 -- The bytes of the first operands passed are counted.
-use Prim.Native.Nat.{◌-◌, ◌≤◌}
 use mathlib.Core.Path.{◌≡◌}
 use lib.ListN.{length}
 use Rattle.summaries.specs.ProposalOf.{each}
@@ -8,7 +7,4 @@ use Rattle.proposals.specs.Inner.Bytes.{row_bytes}
 use Rattle.proposals.proofs.sort_length.Given as goal
 
 abbrev pub invariant-loop-a : goal.invariant-loop-a
-invariant-loop-a l = (l.a ≤ l.count) × (l.total ≡ length (each l.a (row_bytes l.templates (holds l.graph) l.sort)))
-
-abbrev pub decreases-loop-a : goal.decreases-loop-a
-decreases-loop-a l = l.count - l.a
+invariant-loop-a l = l.total ≡ length (each l.a (row_bytes l.templates (holds l.graph) l.sort))
