@@ -13,7 +13,7 @@ use Rattle.sets.proofs.Booleans.{neither}
 use Rattle.pages.specs.Items.{Items}
 use Rattle.programs.specs.Program.{Act, copy_template, set_template, copy_string, set_string, any_string, plug, plug_string, show, show_framed, Statement, step, stop, template_variable, act_names_template, named, statement_at}
 use Rattle.programs.specs.Unframed.{unframed, Shows, PointsThere, is_framed}
-use Rattle.programs.proofs.Points.{past_stops}
+use Rattle.programs.proofs.AtPoints.{past_stops}
 use Rattle.programs.proofs.Frames.{each, unframed_there, framed_runs}
 
 -- A number above the template variables that an act names.

@@ -17,7 +17,7 @@ use Rattle.programs.specs.ProgramReading.{points_there}
 use Rattle.programs.specs.Runs.{stay, stay_open, plugged, plugged_string, closed, Choice, State, start, update, act_templates, act_strings, act_pages, after, stepped, run_from, shown}
 use Rattle.programs.specs.Unframed.{unframed, tripled, SameBut, Shows, PointsThere}
 use Rattle.programs.proofs.Replacing.{unchanged}
-use Rattle.programs.proofs.Points.{statement_element, past_stops, names_none, none_names}
+use Rattle.programs.proofs.AtPoints.{statement_element, past_stops, names_none, none_names}
 
 module _ {A : Type 0} (z : ℕ) (new : A) (X : ℕ → A) where
   update_same : update z new X z ≡ new

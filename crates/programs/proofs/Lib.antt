@@ -7,7 +7,7 @@ mod Naming
 mod Reading
 mod Whole
 pub mod Replacing
-pub mod Points
+pub mod AtPoints
 pub mod Frames
 pub mod Frameless
 pub mod Laws

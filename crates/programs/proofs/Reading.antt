@@ -8,28 +8,50 @@ use lib.ListN.{length, get_or, set}
 use lib.Seq.{slice, slice_empty, get_or-set_same}
 use lib.Dec.{eqb, ltb}
 use borrow.Author.Tests.{eq-eqb, ne_eqb, eqb-true, eqb-false, ltb-true}
+use Rattle.std.specs.Prelude.{Result, Ok, Err}
 use Rattle.verdicts.specs.declared.Form.{Form}
 use Rattle.verdicts.specs.declared.Form.TheVariants.{TooMany, Missing}
 use Rattle.sets.specs.Sets.{member}
 use Rattle.commands.specs.declared.Position.{Position}
+use Rattle.commands.specs.declared.ReadError.{ReadError}
 use Rattle.commands.specs.declared.Decoded.{Decoded}
 use Rattle.commands.specs.declared.Decoded.TheVariants.{Moved, Refused}
-use Rattle.commands.specs.declared.Part.TheVariants as Parts
 use Rattle.commands.specs.Commands.{command}
-use Rattle.commands.specs.Reading.{Read, whole, refused, and_then, on_decoded, when}
-use Rattle.commands.proofs.Laws.{MovedOver, moved}
-use Rattle.commands.specs.Inner.Parts.{part_of}
-use Rattle.programs.specs.declared.ProgramRead.{ProgramRead}
+use Rattle.commands.specs.Reading.{Read, whole, refused, unfinished, and_then, on_decoded, when}
+use Rattle.commands.proofs.Laws.{MovedOver, moved, refused_with}
+use Rattle.commands.specs.Inner.Parts.{part_of, AgreesWith}
+use Rattle.programs.specs.declared.Points.{Points}
 use Rattle.programs.specs.declared.Statement as Declared
 use Rattle.programs.specs.Program.{statement_names, named}
 use Rattle.programs.specs.ProgramReading.{Placed, statement_read, templates_there, most_points, statement_context, statements}
-use Rattle.programs.proofs.Agreement.{agrees_map, enough_after, Stay}
+use Rattle.programs.proofs.Agreement.{enough_after, Stay, stay_below}
 use Rattle.programs.proofs.Statements.{next_place}
 use Rattle.programs.proofs.Decoding.{statement_fits}
 use Rattle.programs.specs.Inner.Promises.{as_statement, statement_here, StatementFits, tested_here, tested_statement, number_of, Names, placed_at, placed, Stands, Kept, StatementsRead}
 
 never_ends : {A : Type 0} (f : Form) (n code : ℕ) (next : Position) → Refused f n ≡ Moved code next → A
 never_ends f n code next e = absurd (let z : ◌≡◌ {A = ℕ} 0 1 = cc in omega arith)
+
+-- Where the points are read, the places that were kept before stay.
+abbrev pub PlacesStay : ℕ → List ℕ → Result (Points × Position) ReadError → Type 0
+PlacesStay n places (Ok (points, p)) = Stay n places points.places
+PlacesStay n places (Err e) = Unit {0}
+
+pub places_stay : (n : ℕ) (points : Points) (p : Position) → PlacesStay n points.places (Ok (points, p))
+places_stay n points p = record { same = λ i l. refl }
+
+pub places_stay_below : (n k a : ℕ) (places : List ℕ) (r : Result (Points × Position) ReadError) → n ≤ k → PlacesStay (k + 1) (set places k a) r → PlacesStay n places r
+places_stay_below n k a places (Ok (points, p)) l st = stay_below n k a places points.places l st
+places_stay_below n k a places (Err e) l st = tt
+
+agrees_where_stay : {A B : Type 0} (n : ℕ) (places : List ℕ) (P : A → Points → Type 0) (Q : B → Points → Type 0) (g : A → B) (x : Read A) (r : Result (Points × Position) ReadError)
+    → ((a : A) (points : Points) → Stay n places points.places → P a points → Q (g a) points) → PlacesStay n places r
+    → AgreesWith P x r → AgreesWith Q (and_then x λ a end. whole (g a) end) r
+agrees_where_stay n places P Q g (whole a end) (Ok (points, p)) says st h = (h.0, says a points st h.1)
+agrees_where_stay n places P Q g (whole a end) (Err e) says st h = h
+agrees_where_stay n places P Q g (refused f at) (Ok (points, p)) says st h = h
+agrees_where_stay n places P Q g (refused f at) (Err e) says st h = h
+agrees_where_stay n places P Q g unfinished r says st h = h
 
 -- What it tells that a statement may stand here.
 pub record MayStand (count : ℕ) (s : List ℕ) (before at code : ℕ) (next : Position) : Type 0 where
@@ -94,15 +116,14 @@ module _ (count : ℕ) (s : List ℕ) (before at : ℕ) where
       by_decoded (Refused form n) r q = never_ends form n code next q
 
   -- A refusal here is the answer.
-  pub refused_here : (now : ℕ) (d : Decoded) (form : Form) (n : ℕ) (r : ProgramRead) → d ≡ tested_statement count s before at → d ≡ Refused form n
-      → r.part ≡ part_of d → StatementsRead s count before now at r
-  refused_here now d form n r d_is e p zero h = absurd (omega arith)
-  refused_here now d form n r d_is e p (suc f) h = rw (reads_here f, ← d_is, p, e) (refl, refl)
+  pub refused_here : (now : ℕ) (d : Decoded) (e : ReadError) → d ≡ tested_statement count s before at → part_of d ≡ Err e → StatementsRead s count before now at (Err e)
+  refused_here now d e d_is p zero h = absurd (omega arith)
+  refused_here now d e d_is p (suc f) h = rw (reads_here f, ← d_is, refused_with d e p) (refl, refl)
 
   -- `3F` ends the statements.
   pub ends_here : (now : ℕ) (d : Decoded) (code : ℕ) (next : Position) (places : List ℕ) → d ≡ tested_statement count s before at → d ≡ Moved code next → code ≡ 0x3F
       → length places ≡ most_points → before ≤ most_points
-      → StatementsRead s count before now at (record { part = Parts.Whole next; count = before; places = places; named = now })
+      → StatementsRead s count before now at (Ok (record { count = before; places = places; named = now }, next))
   unfolding named
   ends_here now d code next places d_is d_moves e w m zero h = absurd (omega arith)
   ends_here now d code next places d_is d_moves e w m (suc f) h = rw (reads_here f, ← d_is, d_moves, eq-eqb code 0x3F e) (
@@ -132,7 +153,7 @@ module _ (count : ℕ) (s : List ℕ) (before at code : ℕ) (next : Position) (
   pub is_in_range : (t : Declared.Statement) → as_statement t ≡ statement_here s at → StatementFits (as_statement t)
   is_in_range t e = rw e (statement_fits s at over.ranges)
 
-  module _ (now new now' : ℕ) (places : List ℕ) (r : ProgramRead) (t : Declared.Statement) (t_is : as_statement t ≡ statement_here s at)
+  module _ (now new now' : ℕ) (places : List ℕ) (r : Points) (t : Declared.Statement) (t_is : as_statement t ≡ statement_here s at)
       (names_here : Names (statement_names (as_statement t)) new) (joined : (k : ℕ) → member now' k ≡ (member now k || member new k))
       (w : length places ≡ most_points) (stay : Stay (before + 1) (set places before at) r.places) where
     is_here : get_or r.places before 0 ≡ at
@@ -166,11 +187,12 @@ module _ (count : ℕ) (s : List ℕ) (before at code : ℕ) (next : Position) (
 
   pub goes_on : (now new now' : ℕ) (d : Decoded) (places : List ℕ) → d ≡ tested_statement count s before at → d ≡ Moved code next → (code ≡ 0x3F → ⊥)
       → (t : Declared.Statement) → as_statement t ≡ statement_here s at → Names (statement_names (as_statement t)) new → ((k : ℕ) → member now' k ≡ (member now k || member new k)) → length places ≡ most_points
-      → (r : ProgramRead) → Stay (before + 1) (set places before at) r.places → StatementsRead s count (before + 1) now' next.at r
+      → (r : Result (Points × Position) ReadError) → PlacesStay (before + 1) (set places before at) r → StatementsRead s count (before + 1) now' next.at r
       → StatementsRead s count before now at r
   goes_on now new now' d places d_is d_moves on t t_is n j w r st later zero h = absurd (omega arith)
   goes_on now new now' d places d_is d_moves on t t_is n j w r st later (suc f) h =
       rw (reads_here count s before at f, ← d_is, d_moves, ne_eqb code 0x3F on)
-      (agrees_map (λ ts end. Kept s count (before + 1) now' r ts) (λ ts end. Kept s count before now r ts) (λ ts. record { at = at; statement = statement_read s at code } ∷ ts)
-      (statements f count s (before + 1) next.at) r.part (λ ts end. kept_here now new now' places r t t_is n j w st ts)
+      (agrees_where_stay (before + 1) (set places before at) (λ ts points. Kept s count (before + 1) now' points ts) (λ ts points. Kept s count before now points ts)
+      (λ ts. record { at = at; statement = statement_read s at code } ∷ ts) (statements f count s (before + 1) next.at) r
+      (λ ts points st. kept_here now new now' places points t t_is n j w st ts) st
       (later f (enough_after (statement_context before) s at code next m.read f h)))

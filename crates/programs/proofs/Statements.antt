@@ -6,6 +6,7 @@ use mathlib.Core.Bool.{Bool, true, false, cond, not}
 use mathlib.Core.Option.{Option, some, none}
 use native.Mathlib.Numerals.{add-one}
 use lib.ListN.{length, get_or}
+use Rattle.std.specs.Prelude.{find, if◌then◌else◌}
 use lib.Seq.{slice, slice-cons, slice_empty}
 use lib.Dec.{eqb}
 use borrow.Author.Tests.{ne_eqb, eqb-true, not-true, not-false}
@@ -53,25 +54,12 @@ no_step code o n =
 pub next_place : (places : List ℕ) (count i : ℕ) → i < count → count ≤ length places → slice i count places ≡ get_or places i 0 ∷ slice (i + 1) count places
 next_place places count i here most = rw (add-one i) (slice-cons i count places 0 here most)
 
--- Over the places of the statements, one by one, with `all` for what the whole list has.
-module _ (s : List ℕ) (places : List ℕ) (count i : ℕ) (all : Option ℕ) (so_far : all ≡ strayed count (placed s (slice i count places))) where
-  module _ (here : i < count) (most : count ≤ length places) where
-    first_placed : placed s (slice i count places) ≡ placed_at s (get_or places i 0) ∷ placed s (slice (i + 1) count places)
-    first_placed = ap (placed s) (next_place places count i here most)
-
-    pub strays_here : (t : Declared.Statement) → as_statement t ≡ statement_here s (get_or places i 0) → (b : Bool) → b ≡ points_there count (as_statement t) → not b ≡ true → some (get_or places i 0) ≡ all
-    unfolding strayed
-    strays_here t t_is b b_is h =
-        let f : points_there count (statement_here s (get_or places i 0)) ≡ false = rw (← t_is) (sym b_is ∙ not-true b h) in
-        rw (so_far, first_placed, f)
-
-    pub strays_on : (t : Declared.Statement) → as_statement t ≡ statement_here s (get_or places i 0) → (b : Bool) → b ≡ points_there count (as_statement t) → not b ≡ false
-        → all ≡ strayed count (placed s (slice (i + 1) count places))
-    unfolding strayed
-    strays_on t t_is b b_is h =
-        let f : points_there count (statement_here s (get_or places i 0)) ≡ true = rw (← t_is) (sym b_is ∙ not-false b h) in
-        rw (so_far, first_placed, f)
-
-  pub strays_nowhere : i ≡ count → none ≡ all
-  unfolding strayed
-  strays_nowhere e = rw (so_far, e, slice_empty)
+-- The earliest statement that strays, by the place where it stands.
+pub strayed_is : (s : List ℕ) (count : ℕ) (places : List ℕ) → strayed count (placed s places) ≡ find (λ at. not (points_there count (statement_here s at))) places
+unfolding strayed
+strayed_is s count [] = refl
+strayed_is s count (at ∷ places) = go (points_there count (statement_here s at)) (strayed_is s count places)
+  where
+    go : (b : Bool) {x y : Option ℕ} → x ≡ y → cond b x (some at) ≡ if◌then◌else◌ (not b) (some at) y
+    go true e = e
+    go false e = refl

@@ -2,33 +2,31 @@
 use Prim.Native.Nat.{ℕ, zero, suc, ◌≤◌, ◌<◌}
 use mathlib.Core.Path.{◌≡◌, refl, sym, ap, ◌∙◌}
 use mathlib.Core.List.{List, [], ◌∷◌, map}
-use mathlib.Core.Option.{some, none}
+use mathlib.Core.Option.{Option, some, none}
 use native.Mathlib.Omega.{arith}
 use native.Mathlib.Nat.{sub-zero}
 use lib.ListN.{length, get_or, length-map}
 use lib.Seq.{slice, length-slice, get_or-take}
-use Rattle.verdicts.specs.declared.Form.{Form}
+use Rattle.std.specs.Prelude.{Result, Ok, Err}
 use Rattle.verdicts.specs.declared.Form.TheVariants.{Missing}
 use Rattle.sets.proofs.Laws.{member_zero}
 use Rattle.commands.specs.declared.Position.{Position}
-use Rattle.commands.specs.declared.Part.TheVariants.{Whole, Refused}
+use Rattle.commands.specs.declared.ReadError.{ReadError}
 use Rattle.commands.specs.Commands.{byte}
 use Rattle.commands.specs.Reading.{whole, enough}
 use Rattle.commands.specs.Inner.Parts.{Enough}
-use Rattle.programs.proofs.Agreement.{WholeAs, agrees_whole, agrees_refused, whole_agrees, refused_agrees, enough_enough}
-use Rattle.programs.proofs.Points.{points_there_lem}
-use Rattle.programs.specs.declared.ProgramRead.{ProgramRead}
-use Rattle.programs.specs.declared.Stray.{Stray}
-use Rattle.programs.specs.declared.Stray.TheVariants.{At, Nowhere}
+use Rattle.programs.proofs.Agreement.{WholeAs, agrees_with_whole, agrees_with_refused, whole_agrees_with, refused_agrees_with, enough_enough}
+use Rattle.programs.proofs.AtPoints.{points_there_lem}
+use Rattle.programs.specs.declared.Points.{Points}
 use Rattle.programs.specs.Program.{statement_at}
 use Rattle.programs.specs.ProgramReading.{Placed, statement_read, most_points, statements, strayed, unless_strayed, program}
-use Rattle.programs.specs.Inner.Promises.{number_of, placed_at, placed, stray_of, Kept, StatementsRead, Tabled, ProgramReads}
+use Rattle.programs.specs.Inner.Promises.{number_of, placed_at, placed, Kept, StatementsRead, Tabled, ProgramReads}
 
-pub refused_whole : (s : List ℕ) (count at : ℕ) (r : ProgramRead) (f : Form) (n : ℕ) → StatementsRead s count 0 0 at r → r.part ≡ Refused f n → ProgramReads s count at r
+pub refused_whole : (s : List ℕ) (count at : ℕ) (r : Result (Points × Position) ReadError) (e : ReadError) → StatementsRead s count 0 0 at r → r ≡ Err e → ProgramReads s count at (Err e)
 unfolding program
-refused_whole s count at r f n read e g h =
-    agrees_refused (λ ts end. Kept s count 0 0 r ts) (λ ts end. Tabled s count r ts) (statements g count s 0 at)
-    (λ ts end. unless_strayed (strayed (length ts) ts) (whole (map (λ t. t.statement) ts) end)) r.part f n e (read g h)
+refused_whole s count at r e read refuses g h =
+    agrees_with_refused (λ ts points. Kept s count 0 0 points ts) (λ ts points. Tabled s count points ts) (statements g count s 0 at)
+    (λ ts end. unless_strayed (strayed (length ts) ts) (whole (map (λ t. t.statement) ts) end)) r e refuses (read g h)
 
 statement_at_lem : (s places : List ℕ) (i : ℕ) → i < length places
     → statement_read s (get_or places i 0) (byte s (get_or places i 0)) ≡ statement_at (map (λ t. t.statement) (placed s places)) i
@@ -38,9 +36,9 @@ statement_at_lem s (p ∷ ps) zero h = refl
 statement_at_lem s (p ∷ ps) (suc i) h = statement_at_lem s ps i (omega arith)
 
 -- What is kept where all statements are read.
-module _ (s : List ℕ) (count at : ℕ) (r : ProgramRead) (end : Position) (read : StatementsRead s count 0 0 at r) (is_whole : r.part ≡ Whole end) where
+module _ (s : List ℕ) (count at : ℕ) (read : Result (Points × Position) ReadError) (r : Points) (end : Position) (reads : StatementsRead s count 0 0 at read) (is_whole : read ≡ Ok (r, end)) where
   kept : (f : ℕ) → Enough s at f → WholeAs (λ ts end. Kept s count 0 0 r ts) (statements f count s 0 at) end
-  kept f h = agrees_whole (λ ts end. Kept s count 0 0 r ts) (statements f count s 0 at) r.part end is_whole (read f h)
+  kept f h = agrees_with_whole (λ ts points. Kept s count 0 0 points ts) (statements f count s 0 at) read r end is_whole (reads f h)
 
   pub few : r.count ≤ most_points
   few = (kept (enough s) (enough_enough s at)).holds.most
@@ -53,7 +51,7 @@ module _ (s : List ℕ) (count at : ℕ) (r : ProgramRead) (end : Position) (rea
     counted : length ts ≡ r.count
     counted = (ap length K.are ∙ length-map (slice 0 r.count r.places) (placed_at s)) ∙ as_many
 
-    strays : (stray : Stray) → stray_of stray ≡ strayed r.count (placed s (slice 0 r.count r.places)) → strayed (length ts) ts ≡ stray_of stray
+    strays : (stray : Option ℕ) → stray ≡ strayed r.count (placed s (slice 0 r.count r.places)) → strayed (length ts) ts ≡ stray
     strays stray e = rw (counted, K.are) (sym e)
 
     placed_at_lem : (i : ℕ) → i < r.count → get_or (slice 0 r.count r.places) i 0 ≡ get_or r.places i 0
@@ -74,18 +72,18 @@ module _ (s : List ℕ) (count at : ℕ) (r : ProgramRead) (end : Position) (rea
       names = record { holds = λ v t. K.names.holds v t ∙ rw (member_zero (number_of v)) };
     }
 
-  pub all_whole : (stray : Stray) → stray_of stray ≡ strayed r.count (placed s (slice 0 r.count r.places)) → stray ≡ Nowhere → ProgramReads s count at r
+  pub all_whole : (stray : Option ℕ) → stray ≡ strayed r.count (placed s (slice 0 r.count r.places)) → stray ≡ none → ProgramReads s count at (Ok (r, end))
   unfolding program
   all_whole stray e n f h =
       let k = kept f h in
-      let none_strays : strayed (length k.tree) k.tree ≡ none = strays k.tree k.holds stray e ∙ ap stray_of n in
-      whole_agrees (λ ts end. Tabled s count r ts) (program f count s at) r.part end (map (λ t. t.statement) k.tree) k.end
-      (rw (k.reads, none_strays)) is_whole k.ends (tabled k.tree k.holds (sym (ap stray_of n) ∙ e))
+      let none_strays : strayed (length k.tree) k.tree ≡ none = strays k.tree k.holds stray e ∙ n in
+      whole_agrees_with (λ ts points. Tabled s count points ts) (program f count s at) r end (map (λ t. t.statement) k.tree) k.end
+      (rw (k.reads, none_strays)) k.ends (tabled k.tree k.holds (sym n ∙ e))
 
-  pub strays_whole : (stray : Stray) (p : ℕ) → stray_of stray ≡ strayed r.count (placed s (slice 0 r.count r.places)) → stray ≡ At p
-      → (r' : ProgramRead) → r'.part ≡ Refused Missing p → ProgramReads s count at r'
+  pub strays_whole : (stray : Option ℕ) (p : ℕ) → stray ≡ strayed r.count (placed s (slice 0 r.count r.places)) → stray ≡ some p
+      → ProgramReads s count at (Err (record { form = Missing; at = p }))
   unfolding program
-  strays_whole stray p e n r' e' f h =
+  strays_whole stray p e n f h =
       let k = kept f h in
-      let one_strays : strayed (length k.tree) k.tree ≡ some p = strays k.tree k.holds stray e ∙ ap stray_of n in
-      refused_agrees (λ ts end. Tabled s count r' ts) (program f count s at) r'.part Missing p (rw (k.reads, one_strays)) e'
+      let one_strays : strayed (length k.tree) k.tree ≡ some p = strays k.tree k.holds stray e ∙ n in
+      refused_agrees_with (λ ts points. Tabled s count points ts) (program f count s at) (record { form = Missing; at = p }) (rw (k.reads, one_strays))

@@ -217,12 +217,8 @@ fn strayed(s: &[u8], points: &Points) -> Option<usize>
     requires { points.now.count ≤ 32 }
     ensures { result ≡ strayed points.now.count (placed s.now (slice 0 points.now.count points.now.places)) }
 {
-    for place in &points.places[..points.count] {
-        if !points_there(statement_at(s, Position::new(*place)), points.count) {
-            return Some(*place);
-        }
-    }
-    None
+    let places = &points.places[..points.count];
+    places.iter().copied().find(|place| !points_there(statement_at(s, Position::new(*place)), points.count))
 }
 
 // The program from here on, up to `3F`, of a job with this many templates; next points are tested when all statements are read.

@@ -2,18 +2,18 @@ use mathlib.Core.Path.{refl}
 use native.Mathlib.Omega.{arith}
 use lib.ListN.{length-set}
 use borrow.Author.Rules.{rules}
-use Rattle.programs.proofs.Agreement.{fewer_left, stay_below}
-use Rattle.programs.proofs.Reading.{MayStand, may_stand, is_in_range, refused_here, ends_here, goes_on}
+use Rattle.programs.proofs.Agreement.{fewer_left}
+use Rattle.programs.proofs.Reading.{places_stay, places_stay_below, MayStand, may_stand, is_in_range, refused_here, ends_here, goes_on}
 use Rattle.programs.proofs.read_statements.Goals as goal
 
 pub loop-code-init : goal.loop-code-init
 loop-code-init c = (search rules, refl, λ r k h. h)
 
 pub returns-in_default : goal.returns-in_default
-returns-in_default c = c.loop-code.invariant.2 _ (record { same = λ i l. refl }) (search refused_here)
+returns-in_default c = c.loop-code.invariant.2 _ tt (search refused_here)
 
 pub returns-then-code-eq63 : goal.returns-then-code-eq63
-returns-then-code-eq63 c = c.loop-code.invariant.2 _ (record { same = λ i l. refl }) (search ends_here)
+returns-then-code-eq63 c = c.loop-code.invariant.2 _ (places_stay _ _ _) (search ends_here)
 
 pub offset_bounds-places-count : goal.offset_bounds-places-count
 offset_bounds-places-count c =
@@ -40,7 +40,7 @@ loop-code-preserved c =
     let st : MayStand c.args.templates c.args.s.now c.loop-code.count c.loop-code.at.at c.in-Moved.code c.in-Moved.next = may_stand _ _ _ _ _ _ _ c.statement_here-d.ensures c.in-Moved.is c.if-code-eq63.false in (
       let l = st.few in omega arith,
       simp length-set c.loop-code.invariant.1,
-      λ r k h. c.loop-code.invariant.2 r (stay_below _ _ _ c.loop-code.places _ (omega arith) k)
+      λ r k h. c.loop-code.invariant.2 r (places_stay_below _ _ _ c.loop-code.places _ (omega arith) k)
           (goes_on _ _ _ _ _ _ st _ _ _ _ c.loop-code.places c.statement_here-d.ensures c.in-Moved.is c.if-code-eq63.false
           c.statement_at.result c.statement_at.ensures c.named_by.ensures c.union-named.ensures c.loop-code.invariant.1 r k h),
     )
