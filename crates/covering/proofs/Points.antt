@@ -1,5 +1,5 @@
 -- The steps of a point: none at `38`, else one to each of two next points.
-use Prim.Native.Nat.{ℕ, ◌≤◌, ◌<◌}
+use Prim.Native.Nat.{ℕ, ◌<◌}
 use mathlib.Core.Path.{◌≡◌, refl, sym, ◌∙◌}
 use mathlib.Core.List.{List}
 use mathlib.Core.Bool.{Bool, true, false, cond, ◌&&◌, false≢true}
@@ -7,11 +7,14 @@ use native.Mathlib.Omega.{arith}
 use lib.ListN.{get_or}
 use lib.Dec.{ltb}
 use borrow.Author.Tests.{ltb-true}
-use Rattle.std.specs.Prelude.{Ok}
+use Rattle.std.specs.Prelude.{Result, Ok, Err}
+use Rattle.verdicts.specs.declared.Cover.{Cover}
+use Rattle.verdicts.specs.declared.Cover.TheVariants.{Step}
 use Rattle.commands.specs.declared.Position.{Position}
 use Rattle.programs.specs.declared.Act as Acts
 use Rattle.programs.specs.declared.Statement as Statements
-use Rattle.programs.specs.declared.Statement.TheVariants.{Step, Stop}
+use Rattle.programs.specs.declared.Statement.TheVariants.{Stop}
+use Rattle.programs.specs.declared.Statement.TheVariants as Variants
 use Rattle.programs.specs.Program.{step, stop, statement_at}
 use Rattle.programs.specs.Inner.Promises.{as_act, as_statement, statement_here}
 use Rattle.programs.proofs.Decoding.{statement_fits}
@@ -24,7 +27,7 @@ use Rattle.jobs.specs.Inner.ScriptTables.{NamesAre, StatementStands}
 use Rattle.sets.proofs.Booleans.{and_left, and_right}
 use Rattle.pages.specs.Inner.Gaps.{GapsTable}
 use Rattle.covering.specs.Inner.Tables.{Tables, PointAt, StepAt}
-use Rattle.covering.specs.Inner.Promises.{Lowest, PointUncovered, PointCovers}
+use Rattle.covering.specs.Inner.Promises.{RefusesLowest, PointCovers}
 
 module _ (j : Job) (s : List ℕ) (count : ℕ) (starts : List ℕ) (points : ℕ) (places : List ℕ) (names : ℕ) (heads : List ℕ)
     (T : Tables j s count starts points places names heads) (gaps : List ℕ) (G : GapsTable gaps j.script.templates)
@@ -43,7 +46,7 @@ module _ (j : Job) (s : List ℕ) (count : ℕ) (starts : List ℕ) (points : �
       rw is tt
 
   -- A statement with an act and two next points.
-  module _ (a : Acts.Act) (k k' : ℕ) (e : t ≡ Step a k k') where
+  module _ (a : Acts.Act) (k k' : ℕ) (e : t ≡ Variants.Step a k k') where
     is : statement_at j.script.program p ≡ step (as_act a) k k'
     is = sym stands.is ∙ (sym t_is ∙ rw e)
 
@@ -90,40 +93,38 @@ module _ (j : Job) (s : List ℕ) (count : ℕ) (starts : List ℕ) (points : �
     next_is : (b : Bool) → next b ≡ next_of (statement_at j.script.program p) b
     next_is b = rw is
 
-    module _ (v : ℕ) (lowest : StepAt j s gaps heads p k (as_act a) → NamesAre j.script names → Lowest (Compared k) v) where
-      L : Lowest (Compared k) v
-      L = lowest (step_at false) T.of_script.names_are
+    -- The step to the next point of a side is compared.
+    abbrev pub Refused : Bool → Result (Unit {0}) Cover → Type 0
+    Refused b r = StepAt j s gaps heads p (next b) (as_act a) → NamesAre j.script names → RefusesLowest (Step p (next b)) (Compared (next b)) r
 
-      pub first_fails : v < 8 → PointUncovered j.script (entries j.proposal) p p k v
-      first_fails l = record {
-        point = refl;
-        second = false;
-        next_is = next_is false;
-        variable = l;
-        fails = λ h. L.fails l (held false v h);
-        sides = λ q. absurd (false≢true q);
-        variables = λ u h. holds false u (L.below u h);
-      }
+    pub all_hold : (b : Bool) → Refused b (Ok tt) → (v : ℕ) → v < 8 → StepHolds j.script (entries j.proposal) p b v
+    all_hold b told v l = holds b v ((told (step_at b) T.of_script.names_are).below v l)
 
-      module _ (m : 8 ≤ v) where
-        first_holds : (u : ℕ) → u < 8 → StepHolds j.script (entries j.proposal) p false u
-        first_holds u h = holds false u (L.below u (omega arith))
-
-        pub same_sides : k' ≡ k → PointCovers j.script (entries j.proposal) p (Ok tt)
-        same_sides q false u h = first_holds u h
-        same_sides q true u h = holds true u (rw q (L.below u (omega arith)))
-
-        pub second_fails : (w : ℕ) → (StepAt j s gaps heads p k' (as_act a) → NamesAre j.script names → Lowest (Compared k') w) → w < 8 → PointUncovered j.script (entries j.proposal) p p k' w
-        second_fails w lowest' l = record {
+    fails : (b : Bool) → (b ≡ true → (v : ℕ) → v < 8 → StepHolds j.script (entries j.proposal) p false v) → (c : Cover) → Refused b (Err c) → PointCovers j.script (entries j.proposal) p (Err c)
+    fails b sides c told =
+        let (v, (is, (low, L))) = told (step_at b) T.of_script.names_are in
+        rw is (record {
           point = refl;
-          second = true;
-          next_is = next_is true;
-          variable = l;
-          fails = λ h. (lowest' (step_at true) T.of_script.names_are).fails l (held true w h);
-          sides = λ q. first_holds;
-          variables = λ u h. holds true u ((lowest' (step_at true) T.of_script.names_are).below u h);
-        }
+          second = b;
+          next_is = next_is b;
+          variable = low;
+          fails = λ h. L.fails low (held b v h);
+          sides = sides;
+          variables = λ u h. holds b u (L.below u h);
+        })
 
-        pub both_hold : (w : ℕ) → (StepAt j s gaps heads p k' (as_act a) → NamesAre j.script names → Lowest (Compared k') w) → 8 ≤ w → PointCovers j.script (entries j.proposal) p (Ok tt)
-        both_hold w lowest' n' false u h = first_holds u h
-        both_hold w lowest' n' true u h = holds true u ((lowest' (step_at true) T.of_script.names_are).below u (omega arith))
+    pub first_fails : (c : Cover) → Refused false (Err c) → PointCovers j.script (entries j.proposal) p (Err c)
+    first_fails = fails false (λ q. absurd (false≢true q))
+
+    module _ (first_holds : Refused false (Ok tt)) where
+      pub same_sides : k' ≡ k → PointCovers j.script (entries j.proposal) p (Ok tt)
+      same_sides q false u l = all_hold false first_holds u l
+      same_sides q true u l = rw is (rw q ((first_holds (step_at false) T.of_script.names_are).below u l))
+
+      both : Refused true (Ok tt) → PointCovers j.script (entries j.proposal) p (Ok tt)
+      both told false v l = all_hold false first_holds v l
+      both told true v l = all_hold true told v l
+
+      pub second_told : (r : Result (Unit {0}) Cover) → Refused true r → PointCovers j.script (entries j.proposal) p r
+      second_told (Ok u) told = both told
+      second_told (Err c) told = fails true (λ q. all_hold false first_holds) c told

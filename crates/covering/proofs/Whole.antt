@@ -28,8 +28,15 @@ use Rattle.strings.specs.Inner.Promises.{holds_value, ValuesWithin}
 use Rattle.entries.specs.Inner.Passing.{Decides}
 use Rattle.entries.proofs.Tests.{decides, values_decide}
 use Rattle.covering.specs.Inner.Tables.{EntriesAt}
-use Rattle.covering.specs.Inner.Promises.{Lowest, StartUncovered, Covers, PointCovers, StepsCover}
+use Rattle.covering.specs.Inner.Promises.{Lowest, RefusesLowest, StartUncovered, Covers, PointCovers, StepsCover}
 use Rattle.covering.proofs.Steps.{template_listed, string_listed}
+
+-- Where the lowest is found, and where none is.
+pub fails_there : (refused : ℕ → Cover) (P : ℕ → Type 0) (v : ℕ) → v < 8 → ((u : ℕ) → u < v → P u) → (P v → ⊥) → RefusesLowest refused P (Err (refused v))
+fails_there refused P v low below fails = (v, (refl, (low, record { most = omega arith; below = below; fails = λ _. fails })))
+
+pub all_there : (P : ℕ → Type 0) → ((u : ℕ) → u < 8 → P u) → Lowest P 8
+all_there P holds = record { most = omega arith; below = holds; fails = λ l. absurd (omega arith) }
 
 -- The empty template 0 lies within an entry that has root 0.
 empty_decides : (R : Summary) (r : Bool) → R (root 0) ≡ r → Decides r (Within (fragment 0 Items.none) R)
@@ -94,8 +101,11 @@ module _ (π : Script) (E : ℕ → Environment) where
       go false i = rw (past_stops π.program q (let h = ltb-false q points i in omega arith)) tt
 
   -- The start before the steps.
-  pub start_fails : (v : ℕ) → Lowest (StartHolds π E) v → v < 8 → StartErr π E v
+  pub start_fails : (v : ℕ) → Lowest (StartHolds π E) v → v < 8 → StartUncovered π E v
   start_fails v L f = record { variable = f; fails = L.fails f; before = L.below }
+
+  pub start_refused : (c : Cover) → RefusesLowest Start (StartHolds π E) (Err c) → Covers π E (Err c)
+  start_refused c (v, (is, (low, L))) = rw is (start_fails v L low)
 
   pub start_then : (v : ℕ) → Lowest (StartHolds π E) v → 8 ≤ v → (r : Result (Unit {0}) Cover) → StepsCover π E r → Covers π E r
   start_then v L f (Ok u) h = record { start = λ u l. L.below u (omega arith); steps = h }

@@ -14,7 +14,7 @@ ghost use Rattle.pages.specs.Inner.Gaps.{GapsTable};
 ghost use Rattle.graphs.specs.Inner.Graphs.{Keeps, nothing};
 ghost use Rattle.entries.specs.Inner.Passing.{Decides};
 ghost use Rattle.covering.specs.Inner.Tables.{EntriesAt, Tables, StepAt};
-ghost use Rattle.covering.specs.Inner.Promises.{FindsLowest, Covers, PointCovers, StepsCover};
+ghost use Rattle.covering.specs.Inner.Promises.{RefusesLowest, Covers, PointCovers, StepsCover};
 
 use commands::Position;
 use graphs::Graph;
@@ -140,32 +140,29 @@ fn named_holds(
     variable_holds(s, gaps, heads, step, v, graph)
 }
 
-// The lowest variable that is not covered in the step of a point to a next point, where one is not.
-fn lowest_uncovered(
+// The step of a point to a next point, refused at the lowest variable that is not covered in it.
+fn step_uncovered(
     s: &[u8],
     gaps: &[u64; 32],
     heads: &[usize; 256],
     names: u64,
-    act: Act,
-    p: usize,
-    next: usize,
+    step: Step,
     graph: &mut Graph,
-) -> Option<usize>
+) -> Result<(), Cover>
     requires { Keeps graph.old nothing }
-    ensures lowest { (j : Job) → StepAt j s.now gaps.now heads.now p next (as_act act) → NamesAre j.script names → FindsLowest (λ v. StepCovered j.script.templates j.script.program (entries j.proposal) p (as_act act) next (variable_of v)) result }
+    ensures lowest { (j : Job) → StepAt j s.now gaps.now heads.now step.point step.next (as_act step.act) → NamesAre j.script names → RefusesLowest (Cover.Step step.point step.next) (λ v. StepCovered j.script.templates j.script.program (entries j.proposal) step.point (as_act step.act) step.next (variable_of v)) result }
     ensures empty { Keeps graph.new nothing }
 {
-    let step = Step {
-        act,
-        point: p,
-        next,
-    };
     for v in 0..8 {
         if !named_holds(s, gaps, heads, names, step, v, graph) {
-            return Some(v);
+            return Err(Cover::Step {
+                point: step.point,
+                next: step.next,
+                variable: v,
+            });
         }
     }
-    None
+    Ok(())
 }
 
 // The first step of a point that is not covered: the first next point before the second, the lowest variable.
@@ -186,24 +183,21 @@ fn point_uncovered(
     let Statement::Step { act, first, second } = statement else {
         return Ok(());
     };
-    if let Some(v) = lowest_uncovered(s, gaps, heads, names, act, p, first, graph) {
-        return Err(Cover::Step {
-            point: p,
-            next: first,
-            variable: v,
-        });
-    }
+    let near = Step {
+        act,
+        point: p,
+        next: first,
+    };
+    let far = Step {
+        act,
+        point: p,
+        next: second,
+    };
+    step_uncovered(s, gaps, heads, names, near, graph)?;
     if second == first {
         return Ok(());
     }
-    if let Some(w) = lowest_uncovered(s, gaps, heads, names, act, p, second, graph) {
-        return Err(Cover::Step {
-            point: p,
-            next: second,
-            variable: w,
-        });
-    }
-    Ok(())
+    step_uncovered(s, gaps, heads, names, far, graph)
 }
 
 // The first step that is not covered: the lowest point, whether a run reaches it or not.
@@ -247,16 +241,16 @@ fn named_start_holds(s: &[u8], heads: &[usize; 256], names: u64, v: usize) -> bo
     start_holds(s, heads, v)
 }
 
-// The lowest variable at which the start is not covered, where it is not at one.
-fn start_uncovered(s: &[u8], heads: &[usize; 256], names: u64) -> Option<usize>
-    ensures { (j : Job) → EntriesAt s.now heads.now j.proposal 0 → NamesAre j.script names → FindsLowest (StartHolds j.script (entries j.proposal)) result }
+// The start, refused at the lowest variable at which it is not covered.
+fn start_uncovered(s: &[u8], heads: &[usize; 256], names: u64) -> Result<(), Cover>
+    ensures { (j : Job) → EntriesAt s.now heads.now j.proposal 0 → NamesAre j.script names → RefusesLowest Cover.Start (StartHolds j.script (entries j.proposal)) result }
 {
     for v in 0..8 {
         if !named_start_holds(s, heads, names, v) {
-            return Some(v);
+            return Err(Cover::Start(v));
         }
     }
-    None
+    Ok(())
 }
 
 // Whether the proposal of a job that was read covers its program, and what it does not cover first: the start (9), then the steps
@@ -269,9 +263,7 @@ pub fn first_uncovered(
 ) -> Result<(), Cover>
     ensures { (j : Job) (count : ℕ) (starts : List ℕ) → Tables j s.now count starts points.now.count points.now.places points.now.named heads.now → GapsTable gaps.now j.script.templates → Covers j.script (entries j.proposal) result }
 {
-    if let Some(v) = start_uncovered(s, heads, points.named) {
-        return Err(Cover::Start(v));
-    }
+    start_uncovered(s, heads, points.named)?;
     let mut graph = graphs::none();
     steps_uncovered(s, gaps, heads, points, &mut graph)
 }

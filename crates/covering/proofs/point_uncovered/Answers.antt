@@ -1,5 +1,6 @@
 -- Both sides are compared, the first before the second.
-use Rattle.covering.proofs.Points.{stops, first_fails, same_sides, second_fails, both_hold}
+use Rattle.std.proofs.lemmas.Result.{err_from_is_err_and}
+use Rattle.covering.proofs.Points.{stops, first_fails, same_sides, second_told}
 use Rattle.covering.proofs.point_uncovered.Goals as goal
 
 pub returns-in_default : goal.returns-in_default
@@ -10,34 +11,27 @@ returns-in_default c = let args = c.args in
       empty = c.requires;
     }
 
-pub returns-then-v-lt8 : goal.returns-then-v-lt8
-returns-then-v-lt8 c = let args = c.args in
+pub returns-in_err-step_uncovered : goal.returns-in_err-step_uncovered
+returns-in_err-step_uncovered c = let args = c.args in
+    let p = err_from_is_err_and c.from_residual.result c.from_residual.ensures.1 in
     record {
-      covers = λ j count starts points places T G f place_is.
-          first_fails j args.s.now count starts points places args.names args.heads.now T args.gaps.now G args.p args.place f place_is c.new.result c.new.ensures c.statement_at-statement.result c.statement_at-statement.ensures _ _ _ c.in-Step.is c.lowest_uncovered-v.result (c.lowest_uncovered-v.ensures.lowest j) c.if-v-lt8.true;
-      empty = c.lowest_uncovered-v.ensures.empty;
+      covers = λ j count starts points places T G f place_is. rw (p.1, p.2)
+          (first_fails j args.s.now count starts points places args.names args.heads.now T args.gaps.now G args.p args.place f place_is c.new.result c.new.ensures c.statement_at-statement.result c.statement_at-statement.ensures _ _ _ c.in-Step.is _ (c.in_err-step_uncovered.ensures.lowest j));
+      empty = c.in_err-step_uncovered.ensures.empty;
     }
 
 pub returns-then-second-first : goal.returns-then-second-first
 returns-then-second-first c = let args = c.args in
     record {
       covers = λ j count starts points places T G f place_is.
-          same_sides j args.s.now count starts points places args.names args.heads.now T args.gaps.now G args.p args.place f place_is c.new.result c.new.ensures c.statement_at-statement.result c.statement_at-statement.ensures _ _ _ c.in-Step.is c.lowest_uncovered-v.result (c.lowest_uncovered-v.ensures.lowest j) c.if-v-lt8.false c.if-second-first.true;
-      empty = c.lowest_uncovered-v.ensures.empty;
-    }
-
-pub returns-then-w-lt8 : goal.returns-then-w-lt8
-returns-then-w-lt8 c = let args = c.args in
-    record {
-      covers = λ j count starts points places T G f place_is.
-          second_fails j args.s.now count starts points places args.names args.heads.now T args.gaps.now G args.p args.place f place_is c.new.result c.new.ensures c.statement_at-statement.result c.statement_at-statement.ensures _ _ _ c.in-Step.is c.lowest_uncovered-v.result (c.lowest_uncovered-v.ensures.lowest j) c.if-v-lt8.false c.lowest_uncovered-w.result (c.lowest_uncovered-w.ensures.lowest j) c.if-w-lt8.true;
-      empty = c.lowest_uncovered-w.ensures.empty;
+          same_sides j args.s.now count starts points places args.names args.heads.now T args.gaps.now G args.p args.place f place_is c.new.result c.new.ensures c.statement_at-statement.result c.statement_at-statement.ensures _ _ _ c.in-Step.is (c.in_ok-step_uncovered.ensures.lowest j) c.if-second-first.true;
+      empty = c.in_ok-step_uncovered.ensures.empty;
     }
 
 pub returns : goal.returns
 returns c = let args = c.args in
     record {
       covers = λ j count starts points places T G f place_is.
-          both_hold j args.s.now count starts points places args.names args.heads.now T args.gaps.now G args.p args.place f place_is c.new.result c.new.ensures c.statement_at-statement.result c.statement_at-statement.ensures _ _ _ c.in-Step.is c.lowest_uncovered-v.result (c.lowest_uncovered-v.ensures.lowest j) c.if-v-lt8.false c.lowest_uncovered-w.result (c.lowest_uncovered-w.ensures.lowest j) c.if-w-lt8.false;
-      empty = c.lowest_uncovered-w.ensures.empty;
+          second_told j args.s.now count starts points places args.names args.heads.now T args.gaps.now G args.p args.place f place_is c.new.result c.new.ensures c.statement_at-statement.result c.statement_at-statement.ensures _ _ _ c.in-Step.is (c.in_ok-step_uncovered.ensures.lowest j) c.step_uncovered-2.result (c.step_uncovered-2.ensures.lowest j);
+      empty = c.step_uncovered-2.ensures.empty;
     }

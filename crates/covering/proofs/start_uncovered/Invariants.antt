@@ -1,5 +1,5 @@
 -- The variables passed are covered.
-use Prim.Native.Nat.{ℕ, ◌-◌, ◌≤◌, ◌<◌}
+use Prim.Native.Nat.{ℕ, ◌<◌}
 use Rattle.summaries.specs.Summaries.{entries}
 use Rattle.jobs.specs.Job.{Job}
 use Rattle.jobs.specs.JobVerdict.{StartHolds}
@@ -8,7 +8,4 @@ use Rattle.covering.specs.Inner.Tables.{EntriesAt}
 use Rattle.covering.proofs.start_uncovered.Given as goal
 
 abbrev pub invariant-loop-v : goal.invariant-loop-v
-invariant-loop-v l = (l.v ≤ 8) × ((j : Job) → EntriesAt l.s l.heads j.proposal 0 → NamesAre j.script l.names → (u : ℕ) → u < l.v → StartHolds j.script (entries j.proposal) u)
-
-abbrev pub decreases-loop-v : goal.decreases-loop-v
-decreases-loop-v l = 8 - l.v
+invariant-loop-v l = (j : Job) → EntriesAt l.s l.heads j.proposal 0 → NamesAre j.script l.names → (u : ℕ) → u < l.v → StartHolds j.script (entries j.proposal) u

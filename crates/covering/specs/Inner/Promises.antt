@@ -1,5 +1,5 @@
 -- What the check of a proposal's covering promises (document 01, "Verdicts": 9, then 10).
-use Rattle.std.specs.Prelude.{ℕ, ◌≤◌, ◌<◌, ◌≡◌, Bool, true, false, Option, Some, None, Result, Ok, Err}
+use Rattle.std.specs.Prelude.{ℕ, ◌≤◌, ◌<◌, ◌≡◌, Bool, true, false, Result, Ok, Err}
 use Rattle.verdicts.specs.declared.Cover.{Cover}
 use Rattle.verdicts.specs.declared.Cover.TheVariants.{Start, Step}
 use Rattle.programs.specs.Program.{statement_at}
@@ -13,10 +13,10 @@ pub record Lowest (P : ℕ → Type 0) (r : ℕ) : Type 0 where
   pub below : (v : ℕ) → v < r → P v
   pub fails : r < 8 → P r → ⊥
 
--- The lowest is found, or none.
-abbrev pub FindsLowest : (ℕ → Type 0) → Option ℕ → Type 0
-FindsLowest P (Some v) = Lowest P v × (v < 8)
-FindsLowest P None = Lowest P 8
+-- By the answer: a proposition holds of all of them; or the lowest of which it fails is refused.
+abbrev pub RefusesLowest : (ℕ → Cover) → (ℕ → Type 0) → Result (Unit {0}) Cover → Type 0
+RefusesLowest refused P (Ok u) = Lowest P 8
+RefusesLowest refused P (Err c) = (v : ℕ) × ((c ≡ refused v) × ((v < 8) × Lowest P v))
 
 module _ (π : Script) (E : ℕ → Environment) where
   -- 9: the lowest variable at which the start is not covered.
