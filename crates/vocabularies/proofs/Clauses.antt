@@ -154,49 +154,48 @@ module _ (s : List ℕ) (start : ℕ) (place : Position) (on : ClausesContinue s
     here : byte s place.at ≡ 0x04
     here = o.1
 
-    module _ (r : Result Position ReadError) (read : FormulaReads s 0 first.at r) where
-      -- What is read behind the `04`.
-      reads : (f : ℕ) → Enough s place.at (suc f) → Agrees (formula f s 0 (place.at + 1)) r
-      reads f h = rw o.2 at (read f (omega (arith, o.0, o.2)))
+    -- What is read behind the `04`.
+    reads : (r : Result Position ReadError) → FormulaReads s 0 first.at r → (f : ℕ) → Enough s place.at (suc f) → Agrees (formula f s 0 (place.at + 1)) r
+    reads r read f h = rw o.2 at (read f (omega (arith, o.0, o.2)))
 
-      pub clauses_refused : (i : ReadError) → r ≡ Err i → ClausesRead s start (Err i)
-      clauses_refused i q = on.continues (Err i) λ f h. agrees f h
-        where
-          agrees : (f : ℕ) → Enough s place.at f → Agrees (clauses f s place.at) (Err i)
-          agrees zero h = absurd (omega arith)
-          agrees (suc f) h =
-              rw (step f s place.at here, agrees_refused (λ ψ end. Unit {0}) (formula f s 0 (place.at + 1)) i (rw q at (reads f h))) (refl, refl)
+    pub clauses_refused : (i : ReadError) → FormulaReads s 0 first.at (Err i) → ClausesRead s start (Err i)
+    clauses_refused i read = on.continues (Err i) λ f h. agrees f h
+      where
+        agrees : (f : ℕ) → Enough s place.at f → Agrees (clauses f s place.at) (Err i)
+        agrees zero h = absurd (omega arith)
+        agrees (suc f) h =
+            rw (step f s place.at here, agrees_refused (λ ψ end. Unit {0}) (formula f s 0 (place.at + 1)) i (reads (Err i) read f h)) (refl, refl)
 
-      module _ (next : Position) (q : r ≡ Ok next) where
-        pub clause_falls : length s - next.at < length s - place.at
-        clause_falls = let n = formula_moved s 0 first.at r read next q in omega (arith, o.0, o.2)
+    module _ (next : Position) (read : FormulaReads s 0 first.at (Ok next)) where
+      pub clause_falls : length s - next.at < length s - place.at
+      clause_falls = let n = formula_moved s 0 first.at next read in omega (arith, o.0, o.2)
 
-        pub clause_stands : first.at ≤ next.at
-        clause_stands = let n = formula_moved s 0 first.at r read next q in omega arith
+      pub clause_stands : first.at ≤ next.at
+      clause_stands = let n = formula_moved s 0 first.at next read in omega arith
 
-        module _ (t : Bool) (facts : ManyFacts s first.at next.at t) where
-          -- The formula at a fuel that is enough, and whether it has too many facts.
-          formed : (f : ℕ) → Enough s place.at (suc f) → (ψ : Formula) × (formula f s 0 (place.at + 1) ≡ whole ψ next.at) × (t ≡ ltb most_facts (length (facts_of ψ)))
-          formed f h =
-              let a = agrees_whole (λ ψ end. Unit {0}) (formula f s 0 (place.at + 1)) next (rw q at (reads f h)) in
-              (a.0, a.1, facts f 0 a.0 (ap (formula f s 0) o.2 ∙ a.1))
+      module _ (t : Bool) (facts : ManyFacts s first.at next.at t) where
+        -- The formula at a fuel that is enough, and whether it has too many facts.
+        formed : (f : ℕ) → Enough s place.at (suc f) → (ψ : Formula) × (formula f s 0 (place.at + 1) ≡ whole ψ next.at) × (t ≡ ltb most_facts (length (facts_of ψ)))
+        formed f h =
+            let a = agrees_whole (λ ψ end. Unit {0}) (formula f s 0 (place.at + 1)) next (reads (Ok next) read f h) in
+            (a.0, a.1, facts f 0 a.0 (ap (formula f s 0) o.2 ∙ a.1))
 
-          pub clauses_many : t ≡ true → ClausesRead s start (Err (record { form = TooManyFacts; at = place.at }))
-          clauses_many l = on.continues (Err (record { form = TooManyFacts; at = place.at })) λ f h. agrees f h
-            where
-              agrees : (f : ℕ) → Enough s place.at f → Agrees (clauses f s place.at) (Err (record { form = TooManyFacts; at = place.at }))
-              agrees zero h = absurd (omega arith)
-              agrees (suc f) h =
-                  let a = formed f h in
-                  rw (step f s place.at here, a.1, many f s place.at a.0 next.at (ltb-true _ _ (sym a.2 ∙ l))) (refl, refl)
+        pub clauses_many : t ≡ true → ClausesRead s start (Err (record { form = TooManyFacts; at = place.at }))
+        clauses_many l = on.continues (Err (record { form = TooManyFacts; at = place.at })) λ f h. agrees f h
+          where
+            agrees : (f : ℕ) → Enough s place.at f → Agrees (clauses f s place.at) (Err (record { form = TooManyFacts; at = place.at }))
+            agrees zero h = absurd (omega arith)
+            agrees (suc f) h =
+                let a = formed f h in
+                rw (step f s place.at here, a.1, many f s place.at a.0 next.at (ltb-true _ _ (sym a.2 ∙ l))) (refl, refl)
 
-          pub clauses_more : t ≡ false → ClausesContinue s start next.at
-          clauses_more l = record { continues = λ p h. on.continues p λ f n. agrees p h f n }
-            where
-              agrees : (p : Result Position ReadError) → ClausesRead s next.at p → (f : ℕ) → Enough s place.at f → Agrees (clauses f s place.at) p
-              agrees p h zero n = absurd (omega arith)
-              agrees p h (suc f) n =
-                  let a = formed f n in
-                  let z = formula_ends f s 0 (place.at + 1) a.0 next.at a.1 in
-                  rw (step f s place.at here, a.1, few f s place.at a.0 next.at (ltb-false _ _ (sym a.2 ∙ l)))
-                  (last_agrees (clauses f s next.at) (◌∷◌ a.0) p (h f (omega (arith, o.0))))
+        pub clauses_more : t ≡ false → ClausesContinue s start next.at
+        clauses_more l = record { continues = λ p h. on.continues p λ f n. agrees p h f n }
+          where
+            agrees : (p : Result Position ReadError) → ClausesRead s next.at p → (f : ℕ) → Enough s place.at f → Agrees (clauses f s place.at) p
+            agrees p h zero n = absurd (omega arith)
+            agrees p h (suc f) n =
+                let a = formed f n in
+                let z = formula_ends f s 0 (place.at + 1) a.0 next.at a.1 in
+                rw (step f s place.at here, a.1, few f s place.at a.0 next.at (ltb-false _ _ (sym a.2 ∙ l)))
+                (last_agrees (clauses f s next.at) (◌∷◌ a.0) p (h f (omega (arith, o.0))))

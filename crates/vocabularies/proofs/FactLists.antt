@@ -4,73 +4,54 @@ use mathlib.Core.Path.{◌≡◌, refl, sym, ap, ◌∙◌}
 use mathlib.Core.List.{List, [], ◌∷◌, ◌++◌}
 use mathlib.Core.Bool.{Bool, true, false, or-true}
 use native.Mathlib.Omega.{arith}
-use lib.ListN.{length, get_or, set, length-append, length-set, get_or-append}
+use lib.ListN.{length, get_or, take, set, length-append, length-set, get_or-append}
 use lib.Seq.{get_or-append_seam, get_or-set_same, get_or-set_other}
 use lib.Dec.{eqb}
 use borrow.Author.Count.{below_more}
 use borrow.Author.Tests.{eq-eqb, ne_eqb, eqb-true, eqb-false}
-use Rattle.strings.specs.declared.StringSet.{StringSet}
-use Rattle.strings.specs.Inner.Promises.{set_number}
+use Rattle.std.specs.List.{list_any}
+use Rattle.std.proofs.lemmas.Cmp.{nat_eq_equiv}
 use Rattle.vocabularies.specs.declared.Fact as Kept
 use Rattle.vocabularies.specs.declared.Fact.TheVariants.{Carried, Present, Ordered, Valued}
 use Rattle.vocabularies.specs.declared.Facts.{Facts}
+use Rattle.vocabularies.specs.contracts.FactPartialEq.TheImpl as Comparing
 use Rattle.vocabularies.specs.Facts.{Fact, carried, present, ordered, valued, same_fact, is_among, add}
 use Rattle.vocabularies.specs.Inner.Promises.{meaning_of, kept_at, Stored, Represents, TellsAmong, Adds}
 
--- Facts of one kind are compared by their operands.
-module _ (x : Kept.Fact) where
-  pub told_carried : (a of : ℕ) → x ≡ Carried of → eqb a of ≡ same_fact (carried a) (meaning_of x)
-  told_carried a of e = rw e
+-- Facts compare as the definition has it.
+pub compared : (y x : Kept.Fact) → Comparing.ghosts.eq y x ≡ same_fact (meaning_of x) (meaning_of y)
+compared (Carried a) (Carried b) = nat_eq_equiv.symm a b
+compared (Carried a) (Present b) = refl
+compared (Carried a) (Ordered b b') = refl
+compared (Carried a) (Valued b b') = refl
+compared (Present a) (Carried b) = refl
+compared (Present a) (Present b) = nat_eq_equiv.symm a b
+compared (Present a) (Ordered b b') = refl
+compared (Present a) (Valued b b') = refl
+compared (Ordered a a') (Carried b) = refl
+compared (Ordered a a') (Present b) = refl
+compared (Ordered a a') (Ordered b b') = rw (nat_eq_equiv.symm a b, nat_eq_equiv.symm a' b') refl
+compared (Ordered a a') (Valued b b') = refl
+compared (Valued a a') (Carried b) = refl
+compared (Valued a a') (Present b) = refl
+compared (Valued a a') (Ordered b b') = refl
+compared (Valued a a') (Valued b b') = rw (nat_eq_equiv.symm a b, nat_eq_equiv.symm a'.word b'.word) refl
 
-  pub told_present : (c of : ℕ) → x ≡ Present of → eqb c of ≡ same_fact (present c) (meaning_of x)
-  told_present c of e = rw e
-
-  module _ (c d first second : ℕ) (e : x ≡ Ordered first second) where
-    pub told_ordered : c ≡ first → eqb d second ≡ same_fact (ordered c d) (meaning_of x)
-    told_ordered q = rw (e, eq-eqb c first q)
-
-    pub other_pair : (c ≡ first → ⊥) → eqb c first ≡ same_fact (ordered c d) (meaning_of x)
-    other_pair n = rw (e, ne_eqb c first n)
-
-  module _ (a of : ℕ) (set among : StringSet) (e : x ≡ Valued of among) where
-    pub told_valued : (r : Bool) → a ≡ of → r ≡ eqb (set_number set) (set_number among) → r ≡ same_fact (valued a (set_number set)) (meaning_of x)
-    told_valued r q told = rw (e, eq-eqb a of q) told
-
-    pub other_attribute : (a ≡ of → ⊥) → eqb a of ≡ same_fact (valued a (set_number set)) (meaning_of x)
-    other_attribute n = rw (e, ne_eqb a of n)
-
-  pub told_same : (x' : Kept.Fact) (y : Fact) (r : Bool) → x ≡ x' → r ≡ same_fact (meaning_of x') y → r ≡ same_fact (meaning_of x) y
-  told_same x' y r e told = rw e told
-
--- A fact is among a list where it is the same as one of its entries.
-pub among_at : (x : Fact) (xs : List Fact) (i : ℕ) → i < length xs → same_fact x (get_or xs i (present 0)) ≡ true → is_among x xs ≡ true
+-- A fact is among the first of those kept where it is among those of the definition that they stand for.
+among_first : (x : Kept.Fact) (n : ℕ) (ys : List Kept.Fact) (xs : List Fact) → n ≡ length xs → n ≤ length ys
+    → ((i : ℕ) → i < n → meaning_of (get_or ys i (Carried 0)) ≡ get_or xs i (present 0)) → list_any (λ y. Comparing.ghosts.eq y x) (take n ys) ≡ is_among (meaning_of x) xs
 unfolding is_among
-among_at x [] i h e = absurd (omega arith)
-among_at x (y ∷ ys) zero h e = rw e
-among_at x (y ∷ ys) (suc i) h e = rw (among_at x ys i (omega arith) e) (or-true (same_fact x y))
+among_first x zero ys [] e l h = refl
+among_first x zero ys (z ∷ xs) e l h = absurd (omega arith)
+among_first x (suc n) [] xs e l h = absurd (omega arith)
+among_first x (suc n) (y ∷ ys) [] e l h = absurd (omega arith)
+among_first x (suc n) (y ∷ ys) (z ∷ xs) e l h =
+    let first : meaning_of y ≡ z = h zero (omega arith) in
+    rw (compared y x, first, among_first x n ys xs (omega arith) (omega arith) (λ i m. h (suc i) (omega arith)))
 
-pub not_among : (x : Fact) (xs : List Fact) → ((i : ℕ) → i < length xs → same_fact x (get_or xs i (present 0)) ≡ false) → is_among x xs ≡ false
-unfolding is_among
-not_among x [] h = refl
-not_among x (y ∷ ys) h = rw (h zero (omega arith)) (not_among x ys (λ i l. h (suc i) (omega arith)))
-
--- A search through the facts that are kept: none below a place is the one that is looked for.
-module _ (t : Facts) (x : Kept.Fact) where
-  abbrev pub NoneBelow : ℕ → Type 0
-  NoneBelow i = (xs : List Fact) → Represents t xs → (k : ℕ) → k < i → k < length xs → same_fact (meaning_of x) (get_or xs k (present 0)) ≡ false
-
-  module _ (i : ℕ) (y : Kept.Fact) (r : Bool) (few : t.count ≤ 8) (here : i < t.count) (there : y ≡ kept_at t i) (told : r ≡ same_fact (meaning_of x) (meaning_of y)) where
-    told_of : (xs : List Fact) → Represents t xs → r ≡ same_fact (meaning_of x) (get_or xs i (present 0))
-    told_of xs h = told ∙ ap (λ (z : Kept.Fact). same_fact (meaning_of x) (meaning_of z)) there ∙ ap (same_fact (meaning_of x)) (h.stores i (omega arith) (omega (arith, h.counts)))
-
-    pub found : r ≡ true → TellsAmong t x true
-    found e xs h = sym (among_at (meaning_of x) xs i (omega (arith, h.counts)) (sym (told_of xs h) ∙ e))
-
-    pub none_here : NoneBelow i → r ≡ false → NoneBelow (i + 1)
-    none_here none e xs h = below_more (λ k. k < length xs → same_fact (meaning_of x) (get_or xs k (present 0)) ≡ false) i (λ k l. none xs h k l) (λ l. sym (told_of xs h) ∙ e)
-
-  pub none_found : (i : ℕ) → t.count ≤ 8 → t.count ≤ i → NoneBelow i → TellsAmong t x false
-  none_found i few l none xs h = sym (not_among (meaning_of x) xs (λ k m. none xs h k (omega (arith, h.counts)) m))
+pub told_among : (t : Facts) (x : Kept.Fact) (r : Bool) → t.count ≤ 8 → r ≡ list_any (λ y. Comparing.ghosts.eq y x) (take t.count t.kept) → TellsAmong t x r
+told_among t x r few e xs h =
+    e ∙ among_first x t.count t.kept xs (omega (arith, h.counts)) (omega (arith, h.room)) (λ i l. h.stores i (omega arith) (omega (arith, h.counts)))
 
 -- A fact that is there leaves the list as it is; another one is put at its end.
 module _ (x : Fact) (xs : List Fact) where

@@ -260,21 +260,22 @@ module _ (s : List ℕ) (depth at : ℕ) where
     formula_deep_one k deep (suc f) h = rw (stepped f (unary neg) (one_shape s at code k), le-ltb depth formula_nesting deep) (refl, refl)
 
     module _ (shallow : depth < formula_nesting) where
-      module _ (l : 0x10 ≤ code) (k : code < 0x12) (first : Result Position ReadError) (x : FormulaReads s (depth + 1) next.at first) where
-        pub formula_first : (i : ReadError) → first ≡ Err i → FormulaReads s depth at (Err i)
+      module _ (l : 0x10 ≤ code) (k : code < 0x12) where
+        pub formula_first : (i : ReadError) → FormulaReads s (depth + 1) next.at (Err i) → FormulaReads s depth at (Err i)
         unfolding shaped
-        formula_first i q zero h = absurd (omega arith)
-        formula_first i q (suc f) h =
+        formula_first i x zero h = absurd (omega arith)
+        formula_first i x (suc f) h =
             let w = two_shape s at code l k in
-            let y = agrees_refused (λ ψ end. Unit {0}) (formula f s (depth + 1) next.at) i (rw q at (x f (omega (arith, m)))) in
+            let y = agrees_refused (λ ψ end. Unit {0}) (formula f s (depth + 1) next.at) i (x f (omega (arith, m))) in
             rw (stepped f (binary w.0) w.1, lt-ltb depth formula_nesting shallow, y) (refl, refl)
 
-        pub formula_two : (middle : Position) (r : Result Position ReadError) → first ≡ Ok middle → FormulaReads s (depth + 1) middle.at r → FormulaReads s depth at r
+        pub formula_two : (middle : Position) → FormulaReads s (depth + 1) next.at (Ok middle) → (r : Result Position ReadError) → FormulaReads s (depth + 1) middle.at r
+            → FormulaReads s depth at r
         unfolding shaped
-        formula_two middle r q y zero h = absurd (omega arith)
-        formula_two middle r q y (suc f) h =
+        formula_two middle x r y zero h = absurd (omega arith)
+        formula_two middle x r y (suc f) h =
             let w = two_shape s at code l k in
-            let a = agrees_whole (λ ψ end. Unit {0}) (formula f s (depth + 1) next.at) middle (rw q at (x f (omega (arith, m)))) in
+            let a = agrees_whole (λ ψ end. Unit {0}) (formula f s (depth + 1) next.at) middle (x f (omega (arith, m))) in
             let z = formula_ends f s (depth + 1) next.at a.0 middle.at a.1 in
             rw (stepped f (binary w.0) w.1, lt-ltb depth formula_nesting shallow, a.1)
             (last_agrees (formula f s (depth + 1) middle.at) (w.0 a.0) r (y f (omega (arith, m))))
@@ -298,24 +299,24 @@ module _ (s : List ℕ) (depth at : ℕ) where
     formula_high l n = formula_leaf (λ a b. n (omega arith))
 
 -- What code that read a formula has where one can be read there.
-module _ (s : List ℕ) (depth at : ℕ) (r : Result Position ReadError) (x : FormulaReads s depth at r) where
-  pub formula_whole : (f : ℕ) (ψ : Formula) (end : ℕ) → formula f s depth at ≡ whole ψ end → r ≡ Ok (record { at = end })
-  formula_whole f ψ end e = by_part r refl (rw (formula_raised f (plenty s at) s depth at ψ end e) at (x (f + plenty s at) (omega (arith, is_plenty s at))))
+module _ (s : List ℕ) (depth at : ℕ) where
+  pub formula_whole : (r : Result Position ReadError) → FormulaReads s depth at r → (f : ℕ) (ψ : Formula) (end : ℕ) → formula f s depth at ≡ whole ψ end → r ≡ Ok (record { at = end })
+  formula_whole r x f ψ end e = by_part r refl (rw (formula_raised f (plenty s at) s depth at ψ end e) at (x (f + plenty s at) (omega (arith, is_plenty s at))))
     where
       by_part : (p : Result Position ReadError) → r ≡ p → Agrees (whole ψ end) p → r ≡ Ok (record { at = end })
       by_part (Ok p) q a = q ∙ ap (λ (n : ℕ). Ok (record { at = n })) a.0
       by_part (Err i) q a = absurd a
 
   -- Code that read a formula whole stands behind its start, and within the bytes.
-  pub formula_moved : (p : Position) → r ≡ Ok p → (at < p.at) × (p.at ≤ length s)
-  formula_moved p q =
-      let a = agrees_whole (λ ψ end. Unit {0}) (formula (plenty s at) s depth at) p (rw q at (x (plenty s at) (is_plenty s at))) in
+  pub formula_moved : (p : Position) → FormulaReads s depth at (Ok p) → (at < p.at) × (p.at ≤ length s)
+  formula_moved p x =
+      let a = agrees_whole (λ ψ end. Unit {0}) (formula (plenty s at) s depth at) p (x (plenty s at) (is_plenty s at)) in
       formula_ends (plenty s at) s depth at a.0 p.at a.1
 
 -- The bytes that are left fall over a command and a formula.
 pub formula_falls : (s : List ℕ) (t at code : ℕ) (d : Decoded) (next : Position) → length s - at ≡ t → d ≡ command Formulas s at → d ≡ Decodeds.Moved code next
-    → (depth : ℕ) (first : Result Position ReadError) (middle : Position) → FormulaReads s depth next.at first → first ≡ Ok middle → length s - middle.at < t
-formula_falls s t at code d next l c e depth first middle x q =
+    → (depth : ℕ) (middle : Position) → FormulaReads s depth next.at (Ok middle) → length s - middle.at < t
+formula_falls s t at code d next l c e depth middle x =
     let m = moved Formulas s at code next (sym c ∙ e) in
-    let n = formula_moved s depth next.at first x middle q in
+    let n = formula_moved s depth next.at middle x in
     omega arith

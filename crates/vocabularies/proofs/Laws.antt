@@ -3,7 +3,7 @@ pub use Rattle.vocabularies.proofs.Parts.{agrees_whole, agrees_refused, agrees_w
 pub use Rattle.vocabularies.proofs.Parts.{plenty, is_plenty, Finished, last_finishes, and_then_finishes, when_finishes, command_turns, command_falls}
 pub use Rattle.vocabularies.proofs.Formulas.{formula_ends, formula_finishes, formula_whole, formula_moved}
 pub use Rattle.vocabularies.proofs.Walks.{told, onward, two_walk, one_walk, leaf_walk, no_walk}
-pub use Rattle.vocabularies.proofs.FactLists.{count_is, kept}
+pub use Rattle.vocabularies.proofs.FactLists.{compared, count_is, kept}
 pub use Rattle.vocabularies.proofs.Clauses.{Clausal, no_more, one_more, clauses_formed, clauses_ends, clauses_fuel, clauses_finishes}
 pub use Rattle.vocabularies.proofs.Rules.{rule_found, rule_element, rule_fuel, rule_finishes}
 pub use Rattle.vocabularies.proofs.Vocabularies.{rules_ends, rules_finishes, vocabulary_ends, vocabulary_finishes}

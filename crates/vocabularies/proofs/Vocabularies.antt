@@ -187,7 +187,7 @@ module _ (s : List ℕ) (place : Position) (t : Tables) (on : RulesContinue s pl
           agrees zero h = absurd (omega arith)
           agrees (suc f) h = rw (step_twice f s on.given place.at code next (sym c ∙ q) k (is_declared true z)) (refl, refl)
 
-      module _ (k : code ≡ 0x05 → ⊥) (z : known ≡ false) (x : Result (Tabled.Rule × Position) ReadError) (read : RuleReads s next.at x) where
+      module _ (k : code ≡ 0x05 → ⊥) (z : known ≡ false) where
         m : MovedOver Rules s place.at code next
         m = moved Rules s place.at code next (sym c ∙ q)
 
@@ -197,19 +197,19 @@ module _ (s : List ℕ) (place : Position) (t : Tables) (on : RulesContinue s pl
         abbrev Described : Rule → Tabled.Rule → Type 0
         Described r w = RuleTables s r w.attributes w.contents w.clauses.at
 
-        pub rules_broken : (i : ReadError) → x ≡ Err i → VocabularyReads s (Err i)
-        rules_broken i y = on.continues (Err i) λ f h. agrees f h
+        pub rules_broken : (i : ReadError) → RuleReads s next.at (Err i) → VocabularyReads s (Err i)
+        rules_broken i read = on.continues (Err i) λ f h. agrees f h
           where
             agrees : (f : ℕ) → Enough s place.at f → AgreesWith (Describes s) (rules f s on.given place.at) (Err i)
             agrees zero h = absurd (omega arith)
             agrees (suc f) h =
                 let l : Enough s next.at f = omega (arith, m) in
-                rw (stepped f, agrees_with_refused Described (rule_body f s e next.at) i (rw y at (read e f l))) (refl, refl)
+                rw (stepped f, agrees_with_refused Described (rule_body f s e next.at) i (read e f l)) (refl, refl)
 
-        module _ (w : Tabled.Rule) (end : Position) (y : x ≡ Ok (w, end)) where
+        module _ (w : Tabled.Rule) (end : Position) (read : RuleReads s next.at (Ok (w, end))) where
           -- The rule, at a fuel that is enough.
           the_rule : (r : Rule) × (rule_body (plenty s next.at) s e next.at ≡ whole r end.at) × RuleTables s r w.attributes w.contents w.clauses.at
-          the_rule = agrees_with_whole Described (rule_body (plenty s next.at) s e next.at) w end (rw y at (read e (plenty s next.at) (is_plenty s next.at)))
+          the_rule = agrees_with_whole Described (rule_body (plenty s next.at) s e next.at) w end (read e (plenty s next.at) (is_plenty s next.at))
 
           pub rules_more : (t' : Tables) → AddsRule t e w t' → RulesContinue s end.at t'
           rules_more t' adds =

@@ -255,11 +255,7 @@ fn read_clauses(s: &[u8], here: Position) -> Result<Position, ReadError>
     ensures { ClausesRead s.now here.at result }
 {
     let mut place = here;
-    loop {
-        let mark = place.past(s, 0x04);
-        let Some(start) = mark else {
-            return Ok(place);
-        };
+    while let Some(start) = place.past(s, 0x04) {
         let next = read_formula(s, start, 0)?;
         if has_many_facts(s, start, next) {
             return Err(ReadError {
@@ -269,6 +265,7 @@ fn read_clauses(s: &[u8], here: Position) -> Result<Position, ReadError>
         }
         place = next;
     }
+    Ok(place)
 }
 
 // What follows `01 e`.

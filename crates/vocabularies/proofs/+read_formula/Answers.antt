@@ -1,4 +1,5 @@
 use native.Mathlib.Omega.{arith}
+use Rattle.std.proofs.Common.{rules}
 use Prim.Native.Nat.{◌≤◌}
 use Rattle.vocabularies.specs.VocabularyReading.{formula_nesting}
 use Rattle.vocabularies.proofs.Parts.{command_falls}
@@ -31,19 +32,19 @@ pub read_formula-requires-in-16 : goal.read_formula-requires-in-16
 read_formula-requires-in-16 t c = (search command_falls, tt)
 
 pub returns-in_err-middle-in-16 : goal.returns-in_err-middle-in-16
-returns-in_err-middle-in-16 t c = search formula_first
+returns-in_err-middle-in-16 t c = search (rules, formula_first, c.in_err-middle-in-16.ensures)
 
 pub overflow_add-depth-in-16-2 : goal.overflow_add-depth-in-16-2
 overflow_add-depth-in-16-2 t c = omega arith
 
 pub read_formula-requires-in-16-2 : goal.read_formula-requires-in-16-2
-read_formula-requires-in-16-2 t c = (search formula_falls, tt)
+read_formula-requires-in-16-2 t c = (search (formula_falls, c.in_ok-middle-in-16.ensures), tt)
 
 pub returns-else-depth-ge-FORMULA_NESTING : goal.returns-else-depth-ge-FORMULA_NESTING
 returns-else-depth-ge-FORMULA_NESTING t c = search formula_one
 
 pub returns-in_ok-middle-in-16 : goal.returns-in_ok-middle-in-16
-returns-in_ok-middle-in-16 t c = search formula_two
+returns-in_ok-middle-in-16 t c = search (formula_two, c.in_ok-middle-in-16.ensures)
 
 pub returns-in_default-code : goal.returns-in_default-code
 returns-in_default-code t c = search formula_low

@@ -33,14 +33,14 @@ loop-code-preserved c = let low : c.operand-e.result < 64 = search element_fits 
         contents_long = simp length-set c.loop-code.invariant.0.contents_long;
         clauses_long = simp length-set c.loop-code.invariant.0.clauses_long;
       },
-      search (rules_more, adds),
+      search (rules_more, adds, c.in_ok-rule.ensures),
     )
 
 pub returns-then-has : goal.returns-then-has
 returns-then-has c = search rules_twice
 
 pub returns-in_err-rule : goal.returns-in_err-rule
-returns-in_err-rule c = search rules_broken
+returns-in_err-rule c = search (rules, rules_broken _ _ _ c.loop-code.invariant.1 _ c.command-d.ensures _ _ c.in-Moved.is _ c.operand-e.ensures _ c.has-in-loop-code.ensures c.if-code-eq5.false c.if-has.false _ c.in_err-rule.ensures)
 
 pub with-requires : goal.with-requires
 with-requires c = search element_fits
@@ -55,4 +55,4 @@ pub bounds-tables-i-in-loop-code-2 : goal.bounds-tables-i-in-loop-code-2
 bounds-tables-i-in-loop-code-2 c = search (element_fits, rules)
 
 pub loop-code-smaller : goal.loop-code-smaller
-loop-code-smaller c = search rules_fall
+loop-code-smaller c = search (rules_fall, c.in_ok-rule.ensures)
