@@ -6,25 +6,23 @@ use mathlib.Core.Path.{◌≡◌, refl, ap, ◌∙◌}
 use mathlib.Core.List.{List, [], ◌∷◌, ◌++◌}
 use lib.ListN.{length, get_or, take, drop, replicate, length-append, length-drop, length-replicate, get_or-append}
 use lib.Seq.{length-take-le}
+use Rattle.std.specs.Prelude.{Ok, Err}
 use Rattle.summaries.proofs.Laws as Summaries
-use Rattle.verdicts.specs.declared.Form.{Form}
 use Rattle.verdicts.specs.declared.Refusal.TheVariants as Refusals
-use Rattle.verdicts.specs.declared.Writing.{Writing}
-use Rattle.verdicts.specs.declared.Writing.TheVariants.{Written, Refused}
+use Rattle.verdicts.specs.Printed.{Writing}
+use Rattle.verdicts.specs.Printed.{unreadable as unreadable_at}
 use Rattle.verdicts.specs.TheVerdict.{TheVerdict}
 use Rattle.verdicts.proofs.Told.{form_refuses}
-use Rattle.commands.specs.declared.Position.{Position}
-use Rattle.commands.specs.declared.Part.TheVariants.{Whole}
-use Rattle.commands.specs.declared.Part.TheVariants as Parts
+use Rattle.commands.specs.declared.ReadError.{ReadError}
 use Rattle.summaries.specs.Summaries.{Environment}
 use Rattle.summaries.specs.ProposalOf.{proposal_of}
 use Rattle.summaries.specs.WrittenProposal.{written_proposal}
-use Rattle.programs.proofs.Laws.{WholeAs, agrees_whole, agrees_refuses}
 use Rattle.jobs.specs.declared.ScriptRead.{ScriptRead}
 use Rattle.jobs.specs.Job.{Script, script}
 use Rattle.jobs.specs.LeastEntries.{Least, proposal_bytes}
 use Rattle.jobs.specs.Inference.{script_slice, work_words, outcome, zeros, stored_at, Infers, unreadable, work_too_short, does_not_fit, proposal_written, Completes}
 use Rattle.jobs.specs.Inner.Promises.{ScriptKept, SliceReads}
+use Rattle.jobs.proofs.Alone.{WholeAlone, alone_holds, alone_refuses}
 use Rattle.jobs.proofs.Tables.{alone_whole, script_tables}
 use Rattle.round_trip.specs.InRange.{Bytes}
 use Rattle.least_entries.proofs.Accepted.{accepted_if_any}
@@ -44,11 +42,11 @@ first_cleared work cleared n l e =
     )
 
 -- The two ways of writing out.
-pub no_room_out : (bytes buffer : List ℕ) (place n : ℕ) → n ≡ length bytes → length buffer < place + n → (r : Writing) → r ≡ Refused (Refusals.NoRoom n) → WritesOut bytes buffer place r buffer
-no_room_out bytes buffer place n e l r is = record { short = λ h. (rw (← e) is, refl); fits = λ h. absurd (omega arith) }
+pub no_room_out : (bytes buffer : List ℕ) (place n : ℕ) → n ≡ length bytes → length buffer < place + n → WritesOut bytes buffer place (Err (Refusals.NoRoom n)) buffer
+no_room_out bytes buffer place n e l = record { short = λ h. (rw e refl, refl); fits = λ h. absurd (omega arith) }
 
 pub written_out : (bytes buffer : List ℕ) (place n : ℕ) → n ≡ length bytes → place + n ≤ length buffer → (m : ℕ) (after : List ℕ) → (m ≡ length bytes) × (after ≡ stored_at place bytes buffer)
-    → WritesOut bytes buffer place (Written m) after
+    → WritesOut bytes buffer place (Ok m) after
 written_out bytes buffer place n e l m after w = record { short = λ h. absurd (omega arith); fits = λ h. (rw w.0 refl, w.1) }
 
 -- The bytes of a slice.
@@ -65,51 +63,49 @@ module _ (s work buffer : List ℕ) (place : ℕ) where
   abbrev pub Answers : Writing → List ℕ → List ℕ → Type 0
   Answers r work' buffer' = TheVerdict (Infers s work buffer place) (outcome r work' buffer') × Completes s place (outcome r work' buffer')
 
-  module _ (read : ScriptRead) (h : SliceReads s read) where
-    pub unreadable_answers : (f : Form) (at : ℕ) → read.part ≡ Parts.Refused f at → (r : Writing) → r ≡ Refused (Refusals.Form f (record { at = at; slice = 0 })) → Answers r work buffer
-    unreadable_answers f at e r is =
-        rw is (the_outcome (unreadable (agrees_refuses (λ π end. ScriptKept s π read) (script_slice s) read.part f at e h)), λ n. absurd (form_refuses f n))
+  pub unreadable_answers : (e : ReadError) → SliceReads s (Err e) → Answers (Err (unreadable_at e.form e.at 0)) work buffer
+  unreadable_answers e h = (the_outcome (unreadable (alone_refuses (ScriptKept s) (script_slice s) e h)), λ n. absurd (form_refuses e.form n))
 
-    module _ (p : Position) (e : read.part ≡ Whole p) where
-      abbrev pub read_whole : WholeAs (λ π end. ScriptKept s π read) (script_slice s) p
-      read_whole = agrees_whole (λ π end. ScriptKept s π read) (script_slice s) read.part p e h
+  module _ (read : ScriptRead) (h : SliceReads s (Ok read)) where
+    abbrev pub read_whole : WholeAlone (ScriptKept s) (script_slice s) read
+    read_whole = alone_holds (ScriptKept s) (script_slice s) read h
 
-      pub tables_are : TablesAre read_whole.tree s read
-      unfolding script_slice
-      tables_are = script_tables s read_whole.tree read_whole.end read (alone_whole s (script s) read_whole.reads) read_whole.holds
+    pub tables_are : TablesAre read_whole.tree s read
+    unfolding script_slice
+    tables_are = script_tables s read_whole.tree read_whole.end read (alone_whole s (script s) read_whole.reads) read_whole.holds
 
-      pub short_answers : length work < work_words → (r : Writing) → r ≡ Refused (Refusals.NoRoom work_words) → Answers r work buffer
-      short_answers l r is = rw is (the_outcome (work_too_short read_whole.reads l), λ n. absurd (omega arith))
+    pub short_answers : length work < work_words → Answers (Err (Refusals.NoRoom work_words)) work buffer
+    short_answers l = (the_outcome (work_too_short read_whole.reads l), λ n. absurd (omega arith))
 
-      module _ (bytes : Bytes s) (enough : work_words ≤ length work) (solved : List ℕ) (least : (π : Script) → TablesAre π s read → Least π (entries_in read.program.count solved)) where
-        E : ℕ → Environment
-        E = entries_in read.program.count solved
+    module _ (bytes : Bytes s) (enough : work_words ≤ length work) (solved : List ℕ) (least : (π : Script) → TablesAre π s read → Least π (entries_in read.points.count solved)) where
+      E : ℕ → Environment
+      E = entries_in read.points.count solved
 
-        same : proposal_in read.templates.count read.program.count solved ≡ proposal_bytes read_whole.tree E
-        unfolding proposal_bytes E
-        same = counted (entries_in read.program.count solved) tables_are.count_is tables_are.points_are
+      same : proposal_in read.templates.count read.points.count solved ≡ proposal_bytes read_whole.tree E
+      unfolding proposal_bytes E
+      same = counted (entries_in read.points.count solved) tables_are.count_is tables_are.points_are
 
-        is_least : Least read_whole.tree E
-        unfolding E
-        is_least = least read_whole.tree tables_are
+      is_least : Least read_whole.tree E
+      unfolding E
+      is_least = least read_whole.tree tables_are
 
-        pub written_answers : (r : Writing) (buffer' work' : List ℕ) → WritesOut (proposal_in read.templates.count read.program.count solved) buffer place r buffer'
-            → work' ≡ zeros solved → length solved ≡ length work → Answers r work' buffer'
-        written_answers r buffer' work' W cleared room = go (dec_le (place + length (proposal_bytes read_whole.tree E)) (length buffer))
-          where
-            z : work' ≡ zeros work
-            z = cleared ∙ ap (λ (k : ℕ). replicate k 0) room
+      pub written_answers : (r : Writing) (buffer' work' : List ℕ) → WritesOut (proposal_in read.templates.count read.points.count solved) buffer place r buffer'
+          → work' ≡ zeros solved → length solved ≡ length work → Answers r work' buffer'
+      written_answers r buffer' work' W cleared room = go (dec_le (place + length (proposal_bytes read_whole.tree E)) (length buffer))
+        where
+          z : work' ≡ zeros work
+          z = cleared ∙ ap (λ (k : ℕ). replicate k 0) room
 
-            out : WritesOut (proposal_bytes read_whole.tree E) buffer place r buffer'
-            out = rw same at W
+          out : WritesOut (proposal_bytes read_whole.tree E) buffer place r buffer'
+          out = rw same at W
 
-            go : Dec (place + length (proposal_bytes read_whole.tree E) ≤ length buffer) → Answers r work' buffer'
-            go (yes fits) =
-                let w = out.fits fits in
-                rw (w.0, w.1, z) (
-                  the_outcome (proposal_written read_whole.reads enough is_least fits),
-                  λ n. rw (stored_there place (proposal_bytes read_whole.tree E) buffer (omega arith)) (accepted_if_any s read_whole.tree read_whole.end E bytes read_whole.reads is_least),
-                )
-            go (no more) =
-                let w = out.short (omega arith) in
-                rw (w.0, w.1, z) (the_outcome (does_not_fit read_whole.reads enough is_least (omega arith)), λ n. absurd (omega arith))
+          go : Dec (place + length (proposal_bytes read_whole.tree E) ≤ length buffer) → Answers r work' buffer'
+          go (yes fits) =
+              let w = out.fits fits in
+              rw (w.0, w.1, z) (
+                the_outcome (proposal_written read_whole.reads enough is_least fits),
+                λ n. rw (stored_there place (proposal_bytes read_whole.tree E) buffer (omega arith)) (accepted_if_any s read_whole.tree read_whole.end E bytes read_whole.reads is_least),
+              )
+          go (no more) =
+              let w = out.short (omega arith) in
+              rw (w.0, w.1, z) (the_outcome (does_not_fit read_whole.reads enough is_least (omega arith)), λ n. absurd (omega arith))

@@ -9,38 +9,20 @@ ghost use Rattle.jobs.specs.Inference.{work_words, outcome, Infers, Completes};
 ghost use Rattle.states.specs.Inner.States.{entries_in};
 ghost use Rattle.inference.specs.Inner.Promises.{TablesAre, proposal_in, WritesOut};
 
-use commands::Part;
 use jobs::ScriptRead;
-use verdicts::{Form, Place, Refusal, Writing};
+use verdicts::{Refusal, Writing};
 
 // The least length of the work area, in numbers.
 pub const WORK_WORDS: usize = 131072;
 
-fn unreadable(form: Form, at: usize) -> Writing
-    ensures { result ≡ Writing.Refused (Refusal.Form form (record { at = at; slice = 0 })) }
-{
-    Writing::Refused(Refusal::Form(form, Place { at, slice: 0 }))
-}
-
-// 13, with the numbers or bytes that are needed.
-fn no_room(needed: usize) -> Writing
-    ensures { result ≡ Writing.Refused (Refusal.NoRoom needed) }
-{
-    Writing::Refused(Refusal::NoRoom(needed))
-}
-
 // The least entries of a script that was read are worked out in the work area.
-fn work_out(job: &[u8], read: ScriptRead, work: &mut [u64])
-    requires { (work_words ≤ length work.old) × (read.program.count ≤ 32) }
-    ensures { (π : Script) → TablesAre π job.now read → Least π (entries_in read.program.count work.new) }
+fn work_out(job: &[u8], read: &ScriptRead, work: &mut [u64])
+    requires { (work_words ≤ length work.old) × (read.now.points.count ≤ 32) }
+    ensures { (π : Script) → TablesAre π job.now read.now → Least π (entries_in read.now.points.count work.new) }
 {
-    let points = read.program.count;
-    let places = read.program.places;
-    let count = read.templates.count;
-    let starts = read.templates.starts;
-    let gaps = pages::gaps_of(job, &starts, count);
-    memory::clear(&mut work[..points * states::POINT_WORDS]);
-    solver::solve(job, &gaps, points, &places, read.program.named, work);
+    let gaps = pages::gaps_of(job, &read.templates);
+    memory::clear(&mut work[..read.points.count * states::POINT_WORDS]);
+    solver::solve(job, &gaps, &read.points, work);
 }
 
 // The proposal of the entries in the work area is written into the buffer from a place on, if it fits there. Its length is known first.
@@ -57,12 +39,12 @@ fn write_out(
     let lengths = proposals::entry_lengths(work, templates, points);
     let needed = proposals::proposal_length(&lengths, points);
     if buffer.len() < place {
-        return no_room(needed);
+        return Err(Refusal::NoRoom(needed));
     }
     if buffer.len() - place < needed {
-        return no_room(needed);
+        return Err(Refusal::NoRoom(needed));
     }
-    Writing::Written(proposals::put_from(buffer, place, work, templates, points, &lengths))
+    Ok(proposals::put_from(buffer, place, work, templates, points, &lengths))
 }
 
 // Works out, in a work area, the smallest proposal that covers the program of a job up to `3F`, and writes it into the buffer from a place on.
@@ -72,24 +54,12 @@ pub fn infer(job: &[u8], work: &mut [u64], buffer: &mut [u8], place: usize) -> W
     ensures untouched { job.now ≡ job.now }
     ensures accepted_if_any { Completes job.now place (outcome result work.new buffer.new) }
 {
-    let read = jobs::read_script_slice(job);
-    let part = read.part;
-    match part {
-        Part::Refused(form, at) => unreadable(form, at),
-        Part::Whole(_) => {
-            if work.len() < WORK_WORDS {
-                return no_room(WORK_WORDS);
-            }
-            work_out(job, read, work);
-            let answer = write_out(
-                work,
-                read.templates.count,
-                read.program.count,
-                buffer,
-                place,
-            );
-            memory::clear(work);
-            answer
-        }
+    let read = jobs::read_script_slice(job).map_err(|e| verdicts::unreadable(e.form, e.at, 0))?;
+    if work.len() < WORK_WORDS {
+        return Err(Refusal::NoRoom(WORK_WORDS));
     }
+    work_out(job, &read, work);
+    let answer = write_out(work, read.templates.count, read.points.count, buffer, place);
+    memory::clear(work);
+    answer
 }

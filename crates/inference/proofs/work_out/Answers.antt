@@ -12,7 +12,7 @@ pub slice_bounds-clear-end-2 : goal.slice_bounds-clear-end-2
 slice_bounds-clear-end-2 c = sym (length-take-le _ _ (search rules))
 
 pub solve-requires : goal.solve-requires
-solve-requires c = let z = first_cleared c.args.work.now c.clear.new.words (c.args.read.program.count * 2184) (omega (arith, c.requires)) c.clear.ensures in
+solve-requires c = let z = first_cleared c.args.work.now c.clear.new.words (c.args.read.now.points.count * 2184) (omega (arith, c.requires)) c.clear.ensures in
     (omega (arith, z.0, c.requires), z.1)
 
 pub returns : goal.returns

@@ -12,10 +12,10 @@ proposal_length-needed-requires c = let args = c.args in
     (pre.2, few_bytes args.templates (omega (arith, pre.1)) args.work.now (args.points * 8) c.entry_lengths-lengths.result c.entry_lengths-lengths.ensures)
 
 pub returns-then-buffer-place : goal.returns-then-buffer-place
-returns-then-buffer-place c = no_room_out _ _ _ _ (c.proposal_length-needed.ensures c.args.templates c.args.work.now c.entry_lengths-lengths.ensures) (search rules) _ c.no_room.ensures
+returns-then-buffer-place c = no_room_out _ _ _ _ (c.proposal_length-needed.ensures c.args.templates c.args.work.now c.entry_lengths-lengths.ensures) (search rules)
 
 pub returns-then-buffer-place-2 : goal.returns-then-buffer-place-2
-returns-then-buffer-place-2 c = no_room_out _ _ _ _ (c.proposal_length-needed.ensures c.args.templates c.args.work.now c.entry_lengths-lengths.ensures) (search rules) _ c.no_room-then-buffer-place-2.ensures
+returns-then-buffer-place-2 c = no_room_out _ _ _ _ (c.proposal_length-needed.ensures c.args.templates c.args.work.now c.entry_lengths-lengths.ensures) (search rules)
 
 pub put_from-requires : goal.put_from-requires
 put_from-requires c = let pre = c.requires in
