@@ -15,7 +15,7 @@ use Rattle.commands.specs.declared.Context.TheVariants.{TemplateHoldings, String
 use Rattle.pages.specs.Items.{gap_in, attribute_gap_in}
 use Rattle.pages.specs.Items as Items
 use Rattle.programs.specs.Program.{template_variable, string_variable}
-use Rattle.programs.proofs.Points.{past_stops}
+use Rattle.programs.proofs.AtPoints.{past_stops}
 use Rattle.summaries.specs.Proposal.{root, edge, string, gap_from, attribute_gap_from, Head, Holding}
 use Rattle.summaries.specs.ProposalReading.{variable_of}
 use Rattle.summaries.specs.Summaries.{Summary, Environment, Within, fragment, says_claim, says_string, held, under, entries}

@@ -27,7 +27,7 @@ use Rattle.transfers.specs.declared.Made.TheVariants.{Value, Template, Plugged, 
 use Rattle.transfers.specs.Inner.Ways.{made_by, summary_made, MadeFits, MadeThere}
 use Rattle.transfers.proofs.Transfers.{made_is, made_fits, made_there}
 use Rattle.sets.proofs.Booleans.{or_cases, and_both, and_left, and_right}
-use Rattle.programs.proofs.Points.{past_stops}
+use Rattle.programs.proofs.AtPoints.{past_stops}
 use Rattle.solver.specs.Inner.Work.{inside, everything}
 
 abbrev Inside : Summary → Type 0

@@ -25,7 +25,7 @@ use Rattle.sets.proofs.Booleans.{or_left}
 use Rattle.states.specs.Inner.States.{point_words, entries_in}
 use Rattle.states.proofs.Entries.{nothing_held, no_string_held}
 use Rattle.least_entries.specs.Inner.Order.{Below}
-use Rattle.programs.proofs.Points.{past_stops}
+use Rattle.programs.proofs.AtPoints.{past_stops}
 use Rattle.solver.specs.Inner.Flows.{Starts, made_from, Settling}
 use Rattle.solver.specs.Inner.Work.{ZeroPoints, RisesOr, waits_in, Working, NoneWaits, Visited, all_variables, FirstWaiting, Started}
 use Rattle.solver.proofs.Variables.{among_none, among_all, number_there}

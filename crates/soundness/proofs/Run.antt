@@ -13,7 +13,7 @@ use Rattle.pages.specs.Items.{Items, none}
 use Rattle.pages.specs.RightPages.{Right, ◌∈◌}
 use Rattle.programs.specs.Program.{Act, copy_template, set_template, copy_string, set_string, any_string, plug, plug_string, show, show_framed, Statement, step, stop, Variable, template_variable, string_variable, act_names, named, statement_at}
 use Rattle.programs.specs.Runs.{Choice, State, start, act_templates, act_strings, act_pages, after, stepped, run_from, shown, closed}
-use Rattle.programs.proofs.Points.{names_of}
+use Rattle.programs.proofs.AtPoints.{names_of}
 use Rattle.summaries.specs.ProposalReading.{variable_of}
 use Rattle.summaries.specs.Summaries.{Summary, Strings, Environment, transfer_template, transfer_string, transfer, fragment}
 use Rattle.summaries.specs.Covering.{WithinAt, StepCovered, start_environment}
