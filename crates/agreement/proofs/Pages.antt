@@ -8,6 +8,7 @@ use mathlib.Core.Bool.{true, false, false≢true}
 use mathlib.Core.Option.{Option}
 use mathlib.Core.Logic.{inl, inr}
 use borrow.Author.Tests.{eq-eqb}
+use Rattle.std.specs.Prelude.{Some, None}
 use Rattle.sets.proofs.Booleans.{or_neither}
 use Rattle.verdicts.specs.declared.Breach.{Breach}
 use Rattle.vocabularies.specs.Vocabulary.{Vocabulary, rule_of, declared}
@@ -15,15 +16,17 @@ use Rattle.vocabularies.proofs.Laws.{rule_found}
 use Rattle.pages.specs.Items.{Attribute, Item, text, blank, gap, element, Items, more, gap_in, gap_in_item}
 use Rattle.pages.specs.Items as Items
 use Rattle.pages.specs.RightPages.{ElementWrong, FirstBreach, Accepts, AcceptsItem, SomeElement, SomeElementOf, WrongAt}
-use Rattle.judging.specs.declared.FirstWrong.{FirstWrong}
-use Rattle.judging.specs.declared.FirstWrong.TheVariants.{Nowhere, At}
-use Rattle.judging.specs.Inner.Judgement.{or_else, of_element, first_wrong, first_wrong_item}
+use Rattle.judging.specs.Inner.Judgement.{FirstWrong, or_else, of_element, first_wrong, first_wrong_item}
 use Rattle.agreement.proofs.Breaches.{first_told, first_below, first_of, BreachFound, no_breach, breaks}
 use Rattle.agreement.proofs.Elements.{element_found, right_unless, wrong_not_right}
 use Rattle.agreement.proofs.Gaps.{NoGap}
 use Rattle.agreement.proofs.Marks.{Rises, RisesIn, Stands, StandsIn, within, within_item}
 use Rattle.agreement.proofs.SomeElements.{Saying, some_into, item_some_into, some_then, one_element}
 use Rattle.agreement.proofs.Ruled.{Ruled, RuledItem}
+
+-- A wrong element, by its mark.
+abbrev pub At : ℕ → Breach → FirstWrong
+At mark b = Some (record { at = mark; breach = b })
 
 module _ (D : Vocabulary) where
   -- An element of an item is wrong, as `WrongAt` says it of items.
@@ -36,11 +39,11 @@ module _ (D : Vocabulary) where
 
   -- What was found: no wrong element; or one, and what is told of it.
   pub data Found (φ : Items) : FirstWrong → Type 0 where
-    no_wrong : ((mark : ℕ) (b : Breach) → WrongAt D mark φ b → ⊥) → Found φ Nowhere
+    no_wrong : ((mark : ℕ) (b : Breach) → WrongAt D mark φ b → ⊥) → Found φ None
     wrong : {mark : ℕ} {b : Breach} → SomeElement (Telling mark b) φ → Found φ (At mark b)
 
   data FoundIn (i : Item) : FirstWrong → Type 0 where
-    no_wrong_in : ((mark : ℕ) (b : Breach) → WrongItem mark i b → ⊥) → FoundIn i Nowhere
+    no_wrong_in : ((mark : ℕ) (b : Breach) → WrongItem mark i b → ⊥) → FoundIn i None
     wrong_in : {mark : ℕ} {b : Breach} → SomeElementOf (Telling mark b) i → FoundIn i (At mark b)
 
 module _ (D : Vocabulary) where
@@ -189,17 +192,17 @@ module _ (D : Vocabulary) where
   pub first_wrong_lem : (φ : Items) (low high : ℕ) → Rises low φ high → (mark : ℕ) (b : Breach) → first_wrong D φ ≡ At mark b → FirstBreach (WrongAt D mark φ) b
   first_wrong_lem φ low high r mark b e = told_at D φ low high r mark b (some_found (rw e at (found D φ)))
 
-  none_found : {φ : Items} → Found D φ Nowhere → (mark : ℕ) (b : Breach) → WrongAt D mark φ b → ⊥
+  none_found : {φ : Items} → Found D φ None → (mark : ℕ) (b : Breach) → WrongAt D mark φ b → ⊥
   none_found (no_wrong k) = k
 
-  pub nothing_wrong : (φ : Items) → first_wrong D φ ≡ Nowhere → (mark : ℕ) (b : Breach) → WrongAt D mark φ b → ⊥
+  pub nothing_wrong : (φ : Items) → first_wrong D φ ≡ None → (mark : ℕ) (b : Breach) → WrongAt D mark φ b → ⊥
   nothing_wrong φ e = none_found (rw e at (found D φ))
 
-  accepted_nowhere : (φ : Items) {w : FirstWrong} → Found D φ w → Accepts D φ → w ≡ Nowhere
+  accepted_nowhere : (φ : Items) {w : FirstWrong} → Found D φ w → Accepts D φ → w ≡ None
   unfolding WrongAt
   accepted_nowhere φ (no_wrong k) a = refl
   accepted_nowhere φ (wrong {mark = mark} {b = b} s) a = absurd (accepts_right D φ mark b a
       (some_into (Telling D mark b) (λ e m δ χ. (m ≡ mark) × ElementWrong D e δ χ b) (λ e m δ χ h. (h.0, first_told h.1)) φ s))
 
-  pub accepts_nowhere : (φ : Items) → Accepts D φ → first_wrong D φ ≡ Nowhere
+  pub accepts_nowhere : (φ : Items) → Accepts D φ → first_wrong D φ ≡ None
   accepts_nowhere φ = accepted_nowhere φ (found D φ)

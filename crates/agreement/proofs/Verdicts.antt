@@ -21,16 +21,15 @@ use Rattle.pages.specs.Items.{Items}
 use Rattle.pages.specs.ItemReading.{page_slice}
 use Rattle.pages.specs.RightPages.{RootAlone, Right, WrongAt, FirstBreach}
 use Rattle.pages.specs.PageVerdict.{Readable, PageVerdict, unreadable_vocabulary, unreadable_page, not_root, wrong_element, accepted}
-use Rattle.judging.specs.declared.FirstWrong.{FirstWrong}
-use Rattle.judging.specs.declared.FirstWrong.TheVariants.{Nowhere, At}
-use Rattle.judging.specs.Inner.Judgement.{first_wrong, is_alone, wrong_verdict, judged, judged_under, page_verdict}
+use Rattle.std.specs.Prelude.{Some, None}
+use Rattle.judging.specs.Inner.Judgement.{FirstWrong, first_wrong, is_alone, wrong_verdict, judged, judged_under, page_verdict}
 use Rattle.agreement.proofs.Deciding.{Decided, holds, fails, true_iff, false_iff}
 use Rattle.agreement.proofs.Ends.{vocabulary_slice_ends, page_slice_ends}
 use Rattle.agreement.proofs.Marks.{page_marks_rise}
 use Rattle.agreement.proofs.Gaps.{page_closed}
 use Rattle.agreement.proofs.Ruled.{page_ruled}
 use Rattle.agreement.proofs.Breaches.{first_told, first_unique}
-use Rattle.agreement.proofs.Pages.{accepted_unless, nothing_wrong, accepts_nowhere, first_wrong_lem, lowest}
+use Rattle.agreement.proofs.Pages.{At, accepted_unless, nothing_wrong, accepts_nowhere, first_wrong_lem, lowest}
 use Rattle.agreement.proofs.Roots.{decided_alone}
 
 module _ {v p : List ℕ} where
@@ -39,16 +38,16 @@ module _ {v p : List ℕ} where
   alone_verdict {D} {page} R a = go (first_wrong D page) refl
     where
       go : (w : FirstWrong) → first_wrong D page ≡ w → PageVerdict v p (numbers_of (wrong_verdict w))
-      go Nowhere e =
+      go None e =
           let closed = page_closed D p page R.page_end R.page_reads in
           accepted R (record {
             alone = a;
             accepted = accepted_unless D page closed.gaps (page_ruled D p page R.page_end R.page_reads) (nothing_wrong D page e);
             gapless = closed;
           })
-      go (At m b) e =
+      go (Some w) e =
           let rise = page_marks_rise D p page R.page_end R.page_reads in
-          wrong_element R a (first_wrong_lem D page 0 R.page_end rise m b e) (lowest D page 0 R.page_end rise m b e)
+          wrong_element R a (first_wrong_lem D page 0 R.page_end rise w.at w.breach e) (lowest D page 0 R.page_end rise w.at w.breach e)
 
   read_verdict : {D : Vocabulary} {page : Items} {b : Bool} → Readable v p D page → Decided (RootAlone D page) b
       → PageVerdict v p (numbers_of (cond b (wrong_verdict (first_wrong D page)) (Refused (Refusals.Page (NotRoot 0 0)))))
@@ -88,8 +87,10 @@ module _ {v p : List ℕ} where
   found_at {D} {page} {at} {b} R f l = go (first_wrong D page) refl
     where
       go : (w : FirstWrong) → first_wrong D page ≡ w → w ≡ At at b
-      go Nowhere e = absurd (nothing_wrong D page e at b (first_told f))
-      go (At m c) e =
+      go None e = absurd (nothing_wrong D page e at b (first_told f))
+      go (Some w) e =
+          let m = w.at in
+          let c = w.breach in
           let rise = page_marks_rise D p page R.page_end R.page_reads in
           let told = first_wrong_lem D page 0 R.page_end rise m c e in
           let below = lowest D page 0 R.page_end rise m c e at b (first_told f) in

@@ -23,6 +23,17 @@ use Rattle.summaries.specs.declared.StringClaim.{StringClaim}
 use Rattle.summaries.specs.declared.StringClaim.TheVariants.{One, Any}
 use Rattle.summaries.specs.Inner.Listed.{HoldingFits, ItemAt, over, Listed, meaning_of, claim_of, claim_here, string_of, string_here, on_from, Moves}
 
+-- The parts of a pair that is there.
+some_is : {A : Type 0} (x y : A) → Some x ≡ Some y → x ≡ y
+some_is x y e = cc
+
+module _ {A B : Type 0} {a a' : A} {b b' : B} (e : ◌≡◌ {A = Option (A × B)} (Some (a, b)) (Some (a', b'))) where
+  pub first_is : a ≡ a'
+  first_is = ap (λ (x : A × B). x.0) (some_is (a, b) (a', b') e)
+
+  pub second_is : b ≡ b'
+  second_is = ap (λ (x : A × B). x.1) (some_is (a, b) (a', b') e)
+
 -- What the code finds at an offset.
 module _ (s : List ℕ) (at : ℕ) where
   pub claim_past : length s ≤ at → None ≡ claim_here s at
@@ -153,13 +164,13 @@ module _ (s : List ℕ) (at : ℕ) where
       → First TemplateHoldings (meaning_of c) next ys
   unfolding Listed
   claims_first [] l r is c next e =
-      let q : Some (c, next) ≡ None = sym e ∙ (is ∙ no_claim (byte s at) o (on_from at) l) in
+      let q : ◌≡◌ {A = Option (Declared.Claim × Position)} (Some (c, next)) None = sym e ∙ (is ∙ no_claim (byte s at) o (on_from at) l) in
       absurd (let z : ◌≡◌ {A = ℕ} 0 1 = cc in omega arith)
   claims_first (y ∷ ys) l r is c next e =
       let t = told (byte s at) o at l.0.permitted in
-      let q : Some (c, next) ≡ Some (t.item, t.next) = sym e ∙ (is ∙ t.is) in
-      let same : c ≡ t.item = cc in
-      let same_next : next ≡ t.next = cc in
+      let q : ◌≡◌ {A = Option (Declared.Claim × Position)} (Some (c, next)) (Some (t.item, t.next)) = sym e ∙ (is ∙ t.is) in
+      let same : c ≡ t.item = first_is q in
+      let same_next : next ≡ t.next = second_is q in
       let means : meaning_of t.item ≡ y = t.means (rw (← l.0.is) l.0.fits) ∙ sym l.0.is in
       record { rest = ys; is_more = rw (same, means); stand = rw (same_next, t.after) l.1 }
 
@@ -168,7 +179,7 @@ module _ (s : List ℕ) (at : ℕ) where
   claims_end [] l r is e = refl
   claims_end (y ∷ ys) l r is e =
       let t = told (byte s at) o at l.0.permitted in
-      let q : None ≡ Some (t.item, t.next) = sym e ∙ (is ∙ t.is) in
+      let q : ◌≡◌ {A = Option (Declared.Claim × Position)} None (Some (t.item, t.next)) = sym e ∙ (is ∙ t.is) in
       absurd (let z : ◌≡◌ {A = ℕ} 0 1 = cc in omega arith)
 
   -- The same under the head of a string variable.
@@ -208,31 +219,32 @@ module _ (s : List ℕ) (at : ℕ) where
 
     pub strings_one : (t : ℕ) (next : Position) → r ≡ Some (One t, next) → First StringHoldings (one_string t) next ys
     unfolding operand_bytes operands_of
-    strings_one t next e = strings_as (one_string t) next told_one (λ n. let q : Some (One t, next) ≡ None = sym e ∙ (is ∙ none_is n) in let z : ◌≡◌ {A = ℕ} 0 1 = cc in omega arith)
+    strings_one t next e = strings_as (one_string t) next told_one (λ n. let q : ◌≡◌ {A = Option (StringClaim × Position)} (Some (One t, next)) None = sym e ∙ (is ∙ none_is n) in let z : ◌≡◌ {A = ℕ} 0 1 = cc in omega arith)
       where
         told_one : (z : Holding) → ItemAt StringHoldings s at z → (z ≡ one_string t) × (next.at ≡ over s at)
         told_one z i = elim (either_of i.permitted) [
           | inl b ↦
-              let q : Some (One t, next) ≡ Some (One (o 1 % 64), on_from at 2) = sym e ∙ (is ∙ one_is b) in
+              let q : ◌≡◌ {A = Option (StringClaim × Position)} (Some (One t, next)) (Some (One (o 1 % 64), on_from at 2)) = sym e ∙ (is ∙ one_is b) in
+              let y_is : One t ≡ One (o 1 % 64) = first_is q in
               let t_is : t ≡ o 1 % 64 = cc in
-              let next_is : next ≡ on_from at 2 = cc in
+              let next_is : next ≡ on_from at 2 = second_is q in
               let z_is : z ≡ one_string (o 1) = i.is ∙ rw b in
               let f : o 1 < 64 = rw z_is at i.fits in
               let m : o 1 % 64 ≡ o 1 = omega arith in
               (rw (z_is, t_is, m), rw (next_is, b) (omega arith))
-          | inr b ↦ let q : Some (One t, next) ≡ Some (Any, on_from at 1) = sym e ∙ (is ∙ any_is b) in absurd (let z : ◌≡◌ {A = ℕ} 0 1 = cc in omega arith)
+          | inr b ↦ let q : ◌≡◌ {A = Option (StringClaim × Position)} (Some (One t, next)) (Some (Any, on_from at 1)) = sym e ∙ (is ∙ any_is b) in absurd (let y_is : One t ≡ Any = first_is q in let z : ◌≡◌ {A = ℕ} 0 1 = cc in omega arith)
         ]
 
     pub strings_any : (next : Position) → r ≡ Some (Any, next) → First StringHoldings any_string next ys
     unfolding operand_bytes operands_of
-    strings_any next e = strings_as any_string next told_any (λ n. let q : Some (Any, next) ≡ None = sym e ∙ (is ∙ none_is n) in let z : ◌≡◌ {A = ℕ} 0 1 = cc in omega arith)
+    strings_any next e = strings_as any_string next told_any (λ n. let q : ◌≡◌ {A = Option (StringClaim × Position)} (Some (Any, next)) None = sym e ∙ (is ∙ none_is n) in let z : ◌≡◌ {A = ℕ} 0 1 = cc in omega arith)
       where
         told_any : (z : Holding) → ItemAt StringHoldings s at z → (z ≡ any_string) × (next.at ≡ over s at)
         told_any z i = elim (either_of i.permitted) [
-          | inl b ↦ let q : Some (Any, next) ≡ Some (One (o 1 % 64), on_from at 2) = sym e ∙ (is ∙ one_is b) in absurd (let z : ◌≡◌ {A = ℕ} 0 1 = cc in omega arith)
+          | inl b ↦ let q : ◌≡◌ {A = Option (StringClaim × Position)} (Some (Any, next)) (Some (One (o 1 % 64), on_from at 2)) = sym e ∙ (is ∙ one_is b) in absurd (let y_is : Any ≡ One (o 1 % 64) = first_is q in let z : ◌≡◌ {A = ℕ} 0 1 = cc in omega arith)
           | inr b ↦
-              let q : Some (Any, next) ≡ Some (Any, on_from at 1) = sym e ∙ (is ∙ any_is b) in
-              let next_is : next ≡ on_from at 1 = cc in
+              let q : ◌≡◌ {A = Option (StringClaim × Position)} (Some (Any, next)) (Some (Any, on_from at 1)) = sym e ∙ (is ∙ any_is b) in
+              let next_is : next ≡ on_from at 1 = second_is q in
               (i.is ∙ rw b, rw (next_is, b) (omega arith))
         ]
 
@@ -243,6 +255,6 @@ module _ (s : List ℕ) (at : ℕ) where
         go : (zs : List Holding) → Listed StringHoldings s at zs → zs ≡ []
         go [] m = refl
         go (z ∷ zs) m = elim (either_of m.0.permitted) [
-          | inl b ↦ let q : None ≡ Some (One (o 1 % 64), on_from at 2) = sym e ∙ (is ∙ one_is b) in absurd (let z : ◌≡◌ {A = ℕ} 0 1 = cc in omega arith)
-          | inr b ↦ let q : None ≡ Some (Any, on_from at 1) = sym e ∙ (is ∙ any_is b) in absurd (let z : ◌≡◌ {A = ℕ} 0 1 = cc in omega arith)
+          | inl b ↦ let q : ◌≡◌ {A = Option (StringClaim × Position)} None (Some (One (o 1 % 64), on_from at 2)) = sym e ∙ (is ∙ one_is b) in absurd (let z : ◌≡◌ {A = ℕ} 0 1 = cc in omega arith)
+          | inr b ↦ let q : ◌≡◌ {A = Option (StringClaim × Position)} None (Some (Any, on_from at 1)) = sym e ∙ (is ∙ any_is b) in absurd (let z : ◌≡◌ {A = ℕ} 0 1 = cc in omega arith)
         ]

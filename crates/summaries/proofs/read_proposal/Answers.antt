@@ -27,13 +27,13 @@ offset_bounds-heads-number c =
     let lo : c.head_number-number.result < 256 = number_low _ _ _ _ _ _ _ st c.if-code-eq79.false c.requires.0 c.head_number-number.ensures in
     omega arith
 
-pub returns-in_default-items : goal.returns-in_default-items
-returns-in_default-items c =
+pub returns-in_err-at : goal.returns-in_err-at
+returns-in_err-at c =
     let st : HeadStands c.args.points c.args.s.now c.loop-code.least c.loop-code.at.at c.in-Moved.code c.in-Moved.next = head_stands _ _ _ _ _ _ _ c.head_here-d.ensures c.in-Moved.is c.if-code-eq79.false in
     let ri : c.loop-code.least ≤ c.head_number-number.result = rw c.head_number-number.ensures st.rises in
     c.loop-code.invariant.2 _ _
     (stay_below _ _ _ c.loop-code.heads _ ri (record { same = λ i l. refl }))
-    (items_refuse _ _ _ _ _ _ _ _ c.head_here-d.ensures c.in-Moved.is c.if-code-eq79.false st _ c.operand.ensures _ c.context_of.ensures _ c.read_holdings-items.ensures _ _ _ c.in_default-items.is)
+    (items_refuse _ _ _ _ _ _ _ _ c.head_here-d.ensures c.in-Moved.is c.if-code-eq79.false st _ c.operand.ensures _ c.context_of.ensures _ c.read_holdings.ensures _ _ c.in_err-at.was)
 
 pub overflow_add-least : goal.overflow_add-least
 overflow_add-least c =
@@ -44,7 +44,7 @@ overflow_add-least c =
 pub loop-code-smaller : goal.loop-code-smaller
 loop-code-smaller c =
     let st : HeadStands c.args.points c.args.s.now c.loop-code.least c.loop-code.at.at c.in-Moved.code c.in-Moved.next = head_stands _ _ _ _ _ _ _ c.head_here-d.ensures c.in-Moved.is c.if-code-eq79.false in
-    fewer_after _ _ _ _ _ _ _ _ c.head_here-d.ensures c.in-Moved.is c.if-code-eq79.false st _ c.operand.ensures _ c.context_of.ensures _ c.read_holdings-items.ensures _ c.in-Whole.is
+    fewer_after _ _ _ _ _ _ _ _ c.head_here-d.ensures c.in-Moved.is c.if-code-eq79.false st _ c.operand.ensures _ c.context_of.ensures _ c.read_holdings.ensures _ c.in_ok-at.was
 
 pub loop-code-preserved : goal.loop-code-preserved
 loop-code-preserved c =
@@ -54,6 +54,6 @@ loop-code-preserved c =
       simp length-set c.loop-code.invariant.0,
       unwritten_after _ _ _ _ ri c.loop-code.invariant.1,
       λ kept r k h. c.loop-code.invariant.2 kept r (stay_below _ _ _ c.loop-code.heads _ ri k)
-          (heads_go_on _ _ _ _ _ _ _ _ c.head_here-d.ensures c.in-Moved.is c.if-code-eq79.false st _ c.operand.ensures _ c.context_of.ensures _ c.read_holdings-items.ensures _ c.in-Whole.is
+          (heads_go_on _ _ _ _ _ _ _ _ c.head_here-d.ensures c.in-Moved.is c.if-code-eq79.false st _ c.operand.ensures _ c.context_of.ensures _ c.read_holdings.ensures _ c.in_ok-at.was
           _ c.head_number-number.ensures c.loop-code.heads c.loop-code.invariant.0 lo c.loop-code.invariant.1 kept k r h),
     )
