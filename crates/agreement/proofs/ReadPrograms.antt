@@ -10,7 +10,7 @@ use Rattle.commands.specs.Reading.{whole}
 use Rattle.programs.specs.Program.{Statement, statement_at}
 use Rattle.programs.specs.ProgramReading.{Placed, statement_read, templates_there, points_there, most_points, statement_context, statements, strayed, unless_strayed, program}
 use Rattle.programs.specs.Unframed.{PointsThere}
-use Rattle.programs.proofs.Points.{points_there_lem}
+use Rattle.programs.proofs.AtPoints.{points_there_lem}
 use Rattle.agreement.proofs.Readings.{Gives, gives, refuses, runs_out, gives_when, gives_then, gives_command}
 
 abbrev pub TemplatesThere : ℕ → List Statement → Type 0

@@ -19,7 +19,7 @@ use Rattle.graphs.specs.Inner.Graphs.{Keeps, SameGraph, nothing}
 use Rattle.jobs.specs.Job.{Script, Job}
 use Rattle.jobs.specs.Inner.ScriptTables.{StatementStands}
 use Rattle.programs.specs.Program.{statement_at}
-use Rattle.programs.proofs.Points.{past_stops}
+use Rattle.programs.proofs.AtPoints.{past_stops}
 use Rattle.jobs.specs.JobVerdict.{ShowHolds, AllCovered, ScriptVerdict, not_root, wrong_element, accepted}
 use Rattle.patterns.proofs.JobShows.{nothing_shown}
 use Rattle.shows.specs.declared.TemplateTables.{TemplateTables}

@@ -1,5 +1,6 @@
 use Prim.Native.Nat.{◌≤◌, ◌<◌}
-use mathlib.Core.Path.{refl}
+use mathlib.Core.Path.{◌≡◌, refl}
+use Rattle.std.proofs.Common.{Err, rules}
 use native.Mathlib.Omega.{arith}
 use lib.ListN.{length-set}
 use Rattle.programs.proofs.Laws.{stay_below}
@@ -31,9 +32,10 @@ pub returns-in_err-at : goal.returns-in_err-at
 returns-in_err-at c =
     let st : HeadStands c.args.points c.args.s.now c.loop-code.least c.loop-code.at.at c.in-Moved.code c.in-Moved.next = head_stands _ _ _ _ _ _ _ c.head_here-d.ensures c.in-Moved.is c.if-code-eq79.false in
     let ri : c.loop-code.least ≤ c.head_number-number.result = rw c.head_number-number.ensures st.rises in
-    c.loop-code.invariant.2 _ _
+    let up : c.from_residual.result ≡ Err c.in_err-at.field-0.0 = search rules in
+    rw up (c.loop-code.invariant.2 _ _
     (stay_below _ _ _ c.loop-code.heads _ ri (record { same = λ i l. refl }))
-    (items_refuse _ _ _ _ _ _ _ _ c.head_here-d.ensures c.in-Moved.is c.if-code-eq79.false st _ c.operand.ensures _ c.context_of.ensures _ c.read_holdings.ensures _ _ c.in_err-at.was)
+    (items_refuse _ _ _ _ _ _ _ _ c.head_here-d.ensures c.in-Moved.is c.if-code-eq79.false st _ c.operand.ensures _ c.context_of.ensures _ c.read_holdings.ensures _ _ c.in_err-at.was))
 
 pub overflow_add-least : goal.overflow_add-least
 overflow_add-least c =
