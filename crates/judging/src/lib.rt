@@ -481,11 +481,16 @@ pub fn judge_item(
     };
     let rule = rule_of(attributes, contents, clauses, e);
     let outcome = outcome_of(v, rule, shape, &strings, &order, shapes);
-    let at = here.at;
-    let wrong = outcome.map(|breach| WrongElement { at, breach });
+    let wrong = match outcome {
+        Some(breach) => Some(WrongElement {
+            at: here.at,
+            breach,
+        }),
+        None => list.wrong,
+    };
     Judged {
         next: list.next,
-        wrong: wrong.or(list.wrong),
+        wrong,
     }
 }
 

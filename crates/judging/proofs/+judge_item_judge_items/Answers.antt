@@ -1,8 +1,12 @@
+use mathlib.Core.Path.{◌≡◌, refl}
 use native.Mathlib.Omega.{arith}
 use borrow.Author.Rules.{rules}
 use Rattle.pages.proofs.Steps.{text_moves, blank_moves, gap_moves, element_moves, end_moves}
+use Rattle.judging.specs.Inner.Judgement.{of_element}
+use Rattle.judging.specs.Inner.Promises.{broken_by}
 use Rattle.judging.proofs.WordLaws.{no_content_lem}
 use Rattle.judging.proofs.ItemLaws.{leaf_judged, element_judged, all_left, list_ends, text_more, going_blank, gap_more, element_more}
+use Rattle.judging.proofs.+judge_item_judge_items.Goals.{judge_item-in-Some, judge_item-in-None}
 use Rattle.judging.proofs.+judge_item_judge_items.Goals as goal
 
 pub judge_item-returns-in_default : goal.judge_item-returns-in_default
@@ -26,7 +30,12 @@ pub judge_item-returns : goal.judge_item-returns
 judge_item-returns t c = let s = c.args in record {
   remembered = c.outcome_of-outcome.ensures.remembered;
   forward = rw (← c.item_here-item.ensures.is, c.in-Element.is) (omega (arith, c.read_attributes-named.ensures.forward, c.judge_items-list.ensures.forward));
-  judged = λ D T. (element_judged D _ _ c.item_here-item.result c.item_here-item.ensures.is _ s.attributes.now s.contents.now s.clauses.now T _ _ c.in-Element.is c.read_attributes-named.result _ c.read_attributes-named.ensures.named c.judge_items-list.result _
+  judged = λ D T.
+      let is_wrong : c.match-outcome.wrong ≡ of_element (broken_by c.outcome_of-outcome.result) c.args.here.at c.judge_items-list.result.wrong = elim c.match-outcome.branch [
+        | judge_item-in-Some w ↦ rw (w.wrong-is, w.in-Some.is) refl
+        | judge_item-in-None w ↦ rw (w.wrong-is, w.in-None.is) refl
+      ] in
+      rw is_wrong (element_judged D _ _ c.item_here-item.result c.item_here-item.ensures.is _ s.attributes.now s.contents.now s.clauses.now T _ _ c.in-Element.is c.read_attributes-named.result _ c.read_attributes-named.ensures.named c.judge_items-list.result _
       (c.judge_items-list.ensures.judged D T) c.outcome_of-outcome.result (rw c.rule_of-rule.ensures at c.outcome_of-outcome.ensures.outcome));
 }
 
