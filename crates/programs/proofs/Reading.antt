@@ -37,9 +37,6 @@ abbrev pub PlacesStay : ℕ → List ℕ → Result (Points × Position) ReadErr
 PlacesStay n places (Ok (points, p)) = Stay n places points.places
 PlacesStay n places (Err e) = Unit {0}
 
-pub places_stay : (n : ℕ) (points : Points) (p : Position) → PlacesStay n points.places (Ok (points, p))
-places_stay n points p = record { same = λ i l. refl }
-
 pub places_stay_below : (n k a : ℕ) (places : List ℕ) (r : Result (Points × Position) ReadError) → n ≤ k → PlacesStay (k + 1) (set places k a) r → PlacesStay n places r
 places_stay_below n k a places (Ok (points, p)) l st = stay_below n k a places points.places l st
 places_stay_below n k a places (Err e) l st = tt

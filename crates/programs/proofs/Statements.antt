@@ -1,18 +1,18 @@
 -- What a command's first byte tells of its statement.
 use Prim.Native.Nat.{ℕ, ◌+◌, ◌≤◌, ◌<◌}
-use mathlib.Core.Path.{◌≡◌, refl, sym, ap, ◌∙◌}
-use mathlib.Core.List.{List, ◌∷◌}
+use mathlib.Core.Path.{◌≡◌, refl, sym, ap}
+use mathlib.Core.List.{List, [], ◌∷◌}
 use mathlib.Core.Bool.{Bool, true, false, cond, not}
 use mathlib.Core.Option.{Option, some, none}
 use native.Mathlib.Numerals.{add-one}
 use lib.ListN.{length, get_or}
-use Rattle.std.specs.Prelude.{find, if◌then◌else◌}
-use lib.Seq.{slice, slice-cons, slice_empty}
+use Rattle.std.specs.Prelude as Found
+use Rattle.std.proofs.lemmas.Option.{none-some, same_Some}
+use lib.Seq.{slice, slice-cons}
 use lib.Dec.{eqb}
-use borrow.Author.Tests.{ne_eqb, eqb-true, not-true, not-false}
-use Rattle.programs.specs.declared.Statement as Declared
+use borrow.Author.Tests.{ne_eqb, eqb-true}
 use Rattle.programs.specs.Program.{copy_template, set_template, copy_string, set_string, any_string, plug, plug_string, show, show_framed, Statement, step, stop}
-use Rattle.programs.specs.Inner.Promises.{as_statement, statement_here, placed_at, placed}
+use Rattle.programs.specs.Inner.Promises.{statement_here, placed}
 use Rattle.programs.specs.ProgramReading.{statement_of, points_there, strayed}
 
 picked : {A : Type 0} (P : A → Type 0) (b : Bool) (x y : A) → (b ≡ true → P x) → (b ≡ false → P y) → P (cond b x y)
@@ -55,11 +55,15 @@ pub next_place : (places : List ℕ) (count i : ℕ) → i < count → count ≤
 next_place places count i here most = rw (add-one i) (slice-cons i count places 0 here most)
 
 -- The earliest statement that strays, by the place where it stands.
-pub strayed_is : (s : List ℕ) (count : ℕ) (places : List ℕ) → strayed count (placed s places) ≡ find (λ at. not (points_there count (statement_here s at))) places
+strayed_at : (b : Bool) (rest : Found.Option ℕ) (rest' : Option ℕ) (at : ℕ) → ((p : ℕ) → rest ≡ Found.Some p → rest' ≡ some p) → (rest ≡ Found.None → rest' ≡ none)
+    → (((p : ℕ) → Found.if◌then◌else◌ (not b) (Found.Some at) rest ≡ Found.Some p → cond b rest' (some at) ≡ some p)
+    × (Found.if◌then◌else◌ (not b) (Found.Some at) rest ≡ Found.None → cond b rest' (some at) ≡ none))
+strayed_at true rest rest' at found lacks = (found, lacks)
+strayed_at false rest rest' at found lacks = (λ p e. ap some (same_Some _ _ e), λ e. absurd (none-some _ (sym e)))
+
+pub strayed_is : (s : List ℕ) (count : ℕ) (places : List ℕ)
+    → ((p : ℕ) → Found.find (λ at. not (points_there count (statement_here s at))) places ≡ Found.Some p → strayed count (placed s places) ≡ some p)
+    × (Found.find (λ at. not (points_there count (statement_here s at))) places ≡ Found.None → strayed count (placed s places) ≡ none)
 unfolding strayed
-strayed_is s count [] = refl
-strayed_is s count (at ∷ places) = go (points_there count (statement_here s at)) (strayed_is s count places)
-  where
-    go : (b : Bool) {x y : Option ℕ} → x ≡ y → cond b x (some at) ≡ if◌then◌else◌ (not b) (some at) y
-    go true e = e
-    go false e = refl
+strayed_is s count [] = (λ p e. absurd (none-some _ e), λ e. refl)
+strayed_is s count (at ∷ places) = let rest = strayed_is s count places in strayed_at (points_there count (statement_here s at)) _ _ at rest.0 rest.1

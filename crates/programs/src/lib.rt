@@ -1,12 +1,12 @@
 // Page programs: one statement a point, and how they are read.
 #![tactic(auto)]
 
-ghost use Rattle.std.specs.Prelude.{◌≡◌, true, ◌+◌, ◌≤◌, ◌<◌};
+ghost use Rattle.std.specs.Prelude.{find, not, ◌≡◌, true, ◌+◌, ◌≤◌, ◌<◌};
 ghost use Rattle.std.proofs.Math.Seq.{slice};
 ghost use Rattle.commands.specs.Commands.{byte};
 ghost use Rattle.programs.specs.Program.{act_names, statement_names};
-ghost use Rattle.programs.specs.ProgramReading.{statement_context, act_templates_there, templates_there, points_there, strayed};
-ghost use Rattle.programs.specs.Inner.Promises.{as_act, as_statement, statement_here, ActFits, StatementFits, tested_statement, is_template, is_string, Adds, Names, StatementsRead, placed, ProgramReads};
+ghost use Rattle.programs.specs.ProgramReading.{statement_context, act_templates_there, templates_there, points_there};
+ghost use Rattle.programs.specs.Inner.Promises.{as_act, as_statement, statement_here, ActFits, StatementFits, tested_statement, is_template, is_string, Adds, Names, StatementsRead, ProgramReads};
 
 use commands::{Context, Decoded, Position, ReadError};
 use verdicts::Form;
@@ -175,7 +175,11 @@ fn named_by(statement: Statement) -> u64
 }
 
 // The statements up to `3F`.
-fn read_statements(s: &[u8], here: Position, templates: usize) -> Result<(Points, Position), ReadError>
+fn read_statements(
+    s: &[u8],
+    here: Position,
+    templates: usize,
+) -> Result<(Points, Position), ReadError>
     ensures { StatementsRead s.now templates 0 0 here.at result }
 {
     let mut at = here;
@@ -215,14 +219,21 @@ fn points_there(statement: Statement, points: usize) -> bool
 // The offset of the earliest statement with a next point that is not there.
 fn strayed(s: &[u8], points: &Points) -> Option<usize>
     requires { points.now.count ≤ 32 }
-    ensures { result ≡ strayed points.now.count (placed s.now (slice 0 points.now.count points.now.places)) }
+    ensures { result ≡ find (λ at. not (points_there points.now.count (statement_here s.now at))) (slice 0 points.now.count points.now.places) }
 {
     let places = &points.places[..points.count];
-    places.iter().copied().find(|place| !points_there(statement_at(s, Position::new(*place)), points.count))
+    places.iter().copied().find(|place| !points_there(
+        statement_at(s, Position::new(*place)),
+        points.count,
+    ))
 }
 
 // The program from here on, up to `3F`, of a job with this many templates; next points are tested when all statements are read.
-pub fn read_program(s: &[u8], here: Position, templates: usize) -> Result<(Points, Position), ReadError>
+pub fn read_program(
+    s: &[u8],
+    here: Position,
+    templates: usize,
+) -> Result<(Points, Position), ReadError>
     ensures { ProgramReads s.now templates here.at result }
 {
     let (points, next) = read_statements(s, here, templates)?;

@@ -3,7 +3,7 @@ use native.Mathlib.Omega.{arith}
 use lib.ListN.{length-set}
 use borrow.Author.Rules.{rules}
 use Rattle.programs.proofs.Agreement.{fewer_left}
-use Rattle.programs.proofs.Reading.{places_stay, places_stay_below, MayStand, may_stand, is_in_range, refused_here, ends_here, goes_on}
+use Rattle.programs.proofs.Reading.{places_stay_below, MayStand, may_stand, is_in_range, refused_here, ends_here, goes_on}
 use Rattle.programs.proofs.read_statements.Goals as goal
 
 pub loop-code-init : goal.loop-code-init
@@ -13,7 +13,7 @@ pub returns-in_default : goal.returns-in_default
 returns-in_default c = c.loop-code.invariant.2 _ tt (search refused_here)
 
 pub returns-then-code-eq63 : goal.returns-then-code-eq63
-returns-then-code-eq63 c = c.loop-code.invariant.2 _ (places_stay _ _ _) (search ends_here)
+returns-then-code-eq63 c = c.loop-code.invariant.2 _ (record { same = λ i l. refl }) (search ends_here)
 
 pub offset_bounds-places-count : goal.offset_bounds-places-count
 offset_bounds-places-count c =
