@@ -221,11 +221,10 @@ fn strayed(s: &[u8], points: &Points) -> Option<usize>
     requires { points.now.count ≤ 32 }
     ensures { result ≡ find (λ at. not (points_there points.now.count (statement_here s.now at))) (slice 0 points.now.count points.now.places) }
 {
-    let places = &points.places[..points.count];
-    places.iter().copied().find(|place| !points_there(
-        statement_at(s, Position::new(*place)),
-        points.count,
-    ))
+    points.places[..points.count].iter().copied().find(|place| {
+        let statement = statement_at(s, Position::new(*place));
+        !points_there(statement, points.count)
+    })
 }
 
 // The program from here on, up to `3F`, of a job with this many templates; next points are tested when all statements are read.
