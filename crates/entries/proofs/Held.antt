@@ -3,7 +3,7 @@ use Prim.Native.Nat.{ℕ, ◌<◌}
 use mathlib.Core.Path.{◌≡◌, refl, sym, ◌∙◌}
 use mathlib.Core.List.{List}
 use mathlib.Core.Bool.{Bool, true, false}
-use borrow.Author.Tests.{eq-eqb}
+use borrow.Author.Tests.{eq-eqb, ne_eqb}
 use Rattle.sets.specs.Sets.{member}
 use Rattle.sets.specs.Inner.Promises as Sets
 use Rattle.summaries.specs.Proposal.{root, edge, string, gap_from, attribute_gap_from, claim, any_at}
@@ -13,11 +13,36 @@ use Rattle.strings.specs.declared.Values.{Values}
 use Rattle.strings.specs.Inner.Promises.{holds_value, ValuesWithin}
 use Rattle.graphs.specs.Inner.Graphs.{holds}
 use Rattle.entries.specs.declared.Passing.{Passing}
-use Rattle.entries.specs.declared.Passing.TheVariants.{WithoutRoots, Plugging, Filling}
+use Rattle.entries.specs.declared.Passing.TheVariants.{Wholly, WithoutRoots, Plugging, Filling}
 use Rattle.entries.specs.Inner.Passing.{passes_roots, plugs, fills}
 use Rattle.entries.specs.Inner.Entries.{ItemHolds}
 use Rattle.entries.proofs.Tests.{members_decide, values_decide}
 use Rattle.entries.proofs.Passings.{root_passes, root_stays_out, edge_passes, string_passes, any_passes, gap_passes, plugged_passes, attribute_passes, filled_passes}
+
+-- Ways in which the roots pass, no gap is plugged, no attribute gap is filled.
+pub roots_pass : (how : Passing) → (how ≡ WithoutRoots → ⊥) → passes_roots how ≡ true
+roots_pass Wholly n = refl
+roots_pass WithoutRoots n = absurd (n refl)
+roots_pass (Plugging g roots) n = refl
+roots_pass (Filling h strings) n = refl
+
+pub plugs_none : (how : Passing) → ((g roots : ℕ) → how ≡ Plugging g roots → ⊥) → (k : ℕ) → plugs how k ≡ false
+plugs_none Wholly n k = refl
+plugs_none WithoutRoots n k = refl
+plugs_none (Plugging g roots) n k = absurd (n g roots refl)
+plugs_none (Filling h strings) n k = refl
+
+pub plugs_other : (how : Passing) (g roots k : ℕ) → how ≡ Plugging g roots → (k ≡ g → ⊥) → plugs how k ≡ false
+plugs_other how g roots k e n = rw e (ne_eqb k g n)
+
+pub fills_none : (how : Passing) → ((h : ℕ) (strings : Values) → how ≡ Filling h strings → ⊥) → (k : ℕ) → fills how k ≡ false
+fills_none Wholly n k = refl
+fills_none WithoutRoots n k = refl
+fills_none (Plugging g roots) n k = refl
+fills_none (Filling h strings) n k = absurd (n h strings refl)
+
+pub fills_other : (how : Passing) (h : ℕ) (strings : Values) (k : ℕ) → how ≡ Filling h strings → (k ≡ h → ⊥) → fills how k ≡ false
+fills_other how h strings k e n = rw e (ne_eqb k h n)
 
 module _ (graph : List ℕ) (how : Passing) where
   pub as_item : (item known : Claim) → item ≡ known → (r : Bool) → ItemHolds graph how (meaning_of known) r → ItemHolds graph how (meaning_of item) r

@@ -151,17 +151,17 @@ module _ (how : Passing) where
       adds_edges (attribute_gap_from h k) p = absurd (false≢true p)
 
       pub gap_passes : plugs how g ≡ false → (b : Bool) → R (gap_from g n) ≡ b → Decides b (Passes (claim (gap_from g n)))
-      gap_passes other b is = stays_passes (gap_from g n) (rw (ne_plugs how g other)) (λ d. refuted _ λ p. other (adds_edges d p).0) b is
+      gap_passes other b is = stays_passes (gap_from g n) (rw other) (λ d. refuted _ λ p. false≢true (sym other ∙ (adds_edges d p).0)) b is
 
       module _ (e : plugs how g ≡ true) (targets : ℕ) (is : (m : ℕ) → R (edge n g m) ≡ member targets m) where
         to_edges : Passes (claim (gap_from g n)) → (m : ℕ) → plugged how m ≡ true → member targets m ≡ true
-        to_edges w m p = sym (is m) ∙ w (edge n g m) (or_right (says_claim (claim (gap_from g n)) (edge n g m)) _ (and_both _ _ (eq-plugs how g e) (and_both _ _ (says_itself (gap_from g n)) p)))
+        to_edges w m p = sym (is m) ∙ w (edge n g m) (or_right (says_claim (claim (gap_from g n)) (edge n g m)) _ (and_both _ _ e (and_both _ _ (says_itself (gap_from g n)) p)))
 
         from_edges : ((m : ℕ) → plugged how m ≡ true → member targets m ≡ true) → Passes (claim (gap_from g n))
         from_edges w d p = elim (or_cases (stays how d && says_claim (claim (gap_from g n)) d) (added how (says_claim (claim (gap_from g n))) d) p) [
           | inl h ↦ let q : gap_from g n ≡ d = says_alone (gap_from g n) d (and_right (stays how d) _ h) in
               let z : not (plugs how g) ≡ true = ap (stays how) q ∙ and_left (stays how d) _ h in
-              absurd (false≢true (rw (eq-plugs how g e) at z))
+              absurd (false≢true (rw e at z))
           | inr h ↦ let a = adds_edges d h in rw (← a.2) (is a.1 ∙ w a.1 a.3)
         ]
 
@@ -185,17 +185,17 @@ module _ (how : Passing) where
       adds_strings (attribute_gap_from k l) p = absurd (false≢true p)
 
       pub attribute_passes : fills how h ≡ false → (b : Bool) → R (attribute_gap_from h n) ≡ b → Decides b (Passes (claim (attribute_gap_from h n)))
-      attribute_passes other b is = stays_passes (attribute_gap_from h n) (rw (ne_fills how h other)) (λ d. refuted _ λ p. other (adds_strings d p).0) b is
+      attribute_passes other b is = stays_passes (attribute_gap_from h n) (rw other) (λ d. refuted _ λ p. false≢true (sym other ∙ (adds_strings d p).0)) b is
 
       module _ (e : fills how h ≡ true) (there : Values) (is : (t : ℕ) → R (string n h t) ≡ holds_value there t) where
         to_strings : Passes (claim (attribute_gap_from h n)) → Within (filled how) (holds_value there)
-        to_strings w t p = sym (is t) ∙ w (string n h t) (or_right (says_claim (claim (attribute_gap_from h n)) (string n h t)) _ (and_both _ _ (eq-fills how h e) (and_both _ _ (says_itself (attribute_gap_from h n)) p)))
+        to_strings w t p = sym (is t) ∙ w (string n h t) (or_right (says_claim (claim (attribute_gap_from h n)) (string n h t)) _ (and_both _ _ e (and_both _ _ (says_itself (attribute_gap_from h n)) p)))
 
         from_strings : Within (filled how) (holds_value there) → Passes (claim (attribute_gap_from h n))
         from_strings w d p = elim (or_cases (stays how d && says_claim (claim (attribute_gap_from h n)) d) (added how (says_claim (claim (attribute_gap_from h n))) d) p) [
           | inl k ↦ let q : attribute_gap_from h n ≡ d = says_alone (attribute_gap_from h n) d (and_right (stays how d) _ k) in
               let z : not (fills how h) ≡ true = ap (stays how) q ∙ and_left (stays how d) _ k in
-              absurd (false≢true (rw (eq-fills how h e) at z))
+              absurd (false≢true (rw e at z))
           | inr k ↦ let a = adds_strings d k in rw (← a.2) (is a.1 ∙ w a.1 a.3)
         ]
 

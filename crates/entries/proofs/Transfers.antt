@@ -75,8 +75,8 @@ module _ (g roots : ℕ) (S T : Summary) (is : (n : ℕ) → T (root n) ≡ memb
     both_within : Within (passed (Plugging g roots) S) R → Within (passed WithoutRoots T) R → Within (plug_summary g S T) R
     both_within v w c p = elim (or_cases (passed (Plugging g roots) S c) (passed WithoutRoots T c) (sym (plug_same c) ∙ p)) [ inl q ↦ v c q | inr q ↦ w c q ]
 
-    pub plug_fails : (b : Bool) → b ≡ false → Decides b (Within (passed (Plugging g roots) S) R) → Within (plug_summary g S T) R → ⊥
-    plug_fails b e d w = decided_false b d e (plugged_within w)
+    pub plug_fails : (b : Bool) → b ≡ false → Decides b (Within (passed (Plugging g roots) S) R) → Decides b (Within (plug_summary g S T) R)
+    plug_fails b e d = rw e λ w. decided_false b d e (plugged_within w)
 
     pub plug_decides : (a b : Bool) → a ≡ true → Decides a (Within (passed (Plugging g roots) S) R) → Decides b (Within (passed WithoutRoots T) R) → Decides b (Within (plug_summary g S T) R)
     plug_decides a b e c d = decides_map b (both_within (decided_true a c e)) plugged_in_within d

@@ -296,7 +296,7 @@ pub fn strings_entry_within(s: &[u8], from: Position, there: Position) -> bool
 
 // The origins of the gap that is plugged become edges to the roots that are plugged in. No gap is 8 or higher.
 fn pass_gap(graph: &mut Graph, gap: u8, roots: u64)
-    ensures { (S : Summary) → Keeps graph.old S → Keeps graph.new (passed (Plugging gap roots) S) }
+    ensures { (S : Summary) → Keeps graph.old S → Keeps graph.new (passed (Passing.Plugging gap roots) S) }
 {
     if GAPS <= gap {
         return;
@@ -308,7 +308,7 @@ fn pass_gap(graph: &mut Graph, gap: u8, roots: u64)
 
 // The origins of the attribute gap that is filled take its strings.
 fn pass_attribute(graph: &mut Graph, gap: u8, strings: Values)
-    ensures { (S : Summary) → Keeps graph.old S → Keeps graph.new (passed (Filling gap strings) S) }
+    ensures { (S : Summary) → Keeps graph.old S → Keeps graph.new (passed (Passing.Filling gap strings) S) }
 {
     if GAPS <= gap {
         return;

@@ -1,5 +1,5 @@
 -- The template is a root, and an origin of each gap passed.
-use Prim.Native.Nat.{◌-◌, ◌<◌}
+use Prim.Native.Nat.{◌<◌}
 use Rattle.summaries.specs.Proposal.{root, claim}
 use Rattle.summaries.specs.Summaries.{Summary}
 use Rattle.graphs.specs.Inner.Graphs.{Keeps, adding}
@@ -8,6 +8,3 @@ use Rattle.entries.proofs.add_template.Given as goal
 
 abbrev pub invariant-loop-k : goal.invariant-loop-k
 invariant-loop-k l = l.t < 32 → (R : Summary) → Keeps l.initial.graph (adding (claim (root l.t)) R) → LoadedTo l.t l.gaps R l.k l.graph
-
-abbrev pub decreases-loop-k : goal.decreases-loop-k
-decreases-loop-k l = 16 - l.k

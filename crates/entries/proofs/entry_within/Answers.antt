@@ -1,7 +1,7 @@
 -- All of the entry passes.
 use Rattle.summaries.specs.Summaries.{says_claim, held}
 use Rattle.entries.proofs.Loading.{kept_entry, emptied}
-use Rattle.entries.proofs.Transfers.{listed_low, copy_decides}
+use Rattle.entries.proofs.Transfers.{copy_decides}
 use Rattle.entries.proofs.entry_within.Goals as goal
 
 pub returns : goal.returns
@@ -11,7 +11,7 @@ returns c =
     let loads = c.load.ensures in
     record {
       decides = λ xs ys l m.
-          copy_decides c.wholly.result c.wholly.ensures (held says_claim xs) (held says_claim ys) (listed_low args.s.now args.from.at xs l) c.items_hold-holds.result
+          copy_decides (held says_claim xs) (held says_claim ys) c.items_hold-holds.result
           (c.items_hold-holds.ensures xs (held says_claim ys) l (kept_entry args.s.now args.there.at _ _ empty loads ys m));
       empty = emptied args.s.now args.there.at _ _ empty loads _ c.unload.ensures;
     }

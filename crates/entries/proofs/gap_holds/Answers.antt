@@ -1,9 +1,18 @@
 -- By whether it is the gap that is plugged.
-use Rattle.entries.proofs.Held.{gap_held, plugged_held}
+use mathlib.Core.Path.{◌≡◌}
+use mathlib.Core.Bool.{false}
+use Rattle.entries.specs.Inner.Passing.{plugs}
+use Rattle.entries.proofs.Held.{gap_held, plugged_held, plugs_none, plugs_other}
+use Rattle.entries.proofs.gap_holds.Goals.{in_default-via-in-Plugging+else-g-gap, in_default-via-in_default}
 use Rattle.entries.proofs.gap_holds.Goals as goal
 
-pub returns-then-g-how : goal.returns-then-g-how
-returns-then-g-how c = plugged_held c.args.graph.now c.args.how _ _ _ c.edges.ensures c.if-g-how.true c.is_within.result c.is_within.ensures
+pub returns-in-Plugging : goal.returns-in-Plugging
+returns-in-Plugging c = plugged_held c.args.graph.now c.args.how _ _ _ c.edges.ensures _ _ c.in-Plugging.is c.if-g-gap.true c.is_within.result c.is_within.ensures
 
-pub returns : goal.returns
-returns c = gap_held c.args.graph.now c.args.how _ _ _ c.is_member.result c.if-g-how.false c.origins.ensures c.is_member.ensures
+pub returns-in_default : goal.returns-in_default
+returns-in_default c =
+    let other : plugs c.args.how c.args.g ≡ false = elim c.in_default.branch [
+      | in_default-via-in-Plugging+else-g-gap w ↦ plugs_other _ _ _ _ w.in-Plugging.is w.if-g-gap.false
+      | in_default-via-in_default w ↦ plugs_none _ w.in_default.not-Plugging _
+    ] in
+    gap_held c.args.graph.now c.args.how _ _ _ c.is_member.result other c.origins.ensures c.is_member.ensures

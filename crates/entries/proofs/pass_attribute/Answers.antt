@@ -2,10 +2,10 @@
 use Rattle.entries.proofs.PassingOn.{no_attribute, attribute_filled}
 use Rattle.entries.proofs.pass_attribute.Goals as goal
 
-pub returns-then-h-ge-NO_GAP : goal.returns-then-h-ge-NO_GAP
-returns-then-h-ge-NO_GAP c = λ S k. no_attribute S _ _ _ c.if-h-ge-NO_GAP.true k
+pub returns-then-gap-ge-GAPS : goal.returns-then-gap-ge-GAPS
+returns-then-gap-ge-GAPS c = λ S k. no_attribute S _ _ _ c.if-gap-ge-GAPS.true k
 
 pub returns : goal.returns
 returns c = λ S k.
-    let l = c.if-h-ge-NO_GAP.false in
+    let l = c.if-gap-ge-GAPS.false in
     attribute_filled S _ _ _ _ _ l k (c.attribute_origins-open.ensures l) (c.drop_attribute_origins.ensures l _ (c.add_strings.ensures l S k))

@@ -2,10 +2,10 @@
 use Rattle.entries.proofs.PassingOn.{no_gap, gap_plugged}
 use Rattle.entries.proofs.pass_gap.Goals as goal
 
-pub returns-then-g-ge-NO_GAP : goal.returns-then-g-ge-NO_GAP
-returns-then-g-ge-NO_GAP c = λ S k. no_gap S _ _ _ c.if-g-ge-NO_GAP.true k
+pub returns-then-gap-ge-GAPS : goal.returns-then-gap-ge-GAPS
+returns-then-gap-ge-GAPS c = λ S k. no_gap S _ _ _ c.if-gap-ge-GAPS.true k
 
 pub returns : goal.returns
 returns c = λ S k.
-    let l = c.if-g-ge-NO_GAP.false in
+    let l = c.if-gap-ge-GAPS.false in
     gap_plugged S _ _ _ _ _ l k (c.origins-open.ensures l) (c.drop_origins.ensures l _ (c.add_edges.ensures l S k))

@@ -4,5 +4,5 @@ use Rattle.entries.proofs.plug.Goals as goal
 
 pub returns : goal.returns
 returns c = λ S T first second.
-    let roots = c.roots in
-    plugged_joined _ roots.result _ _ c.plugging-plugged.ensures c.without_roots.ensures S T _ _ _ _ _ second roots.ensures (c.pass.ensures _ first) (c.pass-2.ensures _ second) c.join.ensures
+    let roots = c.roots-roots in
+    plugged_joined _ roots.result S T _ _ _ _ _ second roots.ensures (c.pass.ensures _ first) (c.pass-2.ensures _ second) c.join.ensures

@@ -14,13 +14,13 @@ loop-item-init c = gather_begins says_claim root TemplateHoldings _ _ (member 0)
 
 pub returns : goal.returns
 returns c = let s = c.args.s.now in
-    gather_ends says_claim root TemplateHoldings s _ _ (member c.loop-item.found) c.loop-item.invariant (λ ys m. claims_end s _ ys m _ c.claim_here-item.ensures.is c.in-None.is)
+    gather_ends says_claim root TemplateHoldings s _ _ (member c.loop-item.found) c.loop-item.invariant (λ ys m. claims_end s _ ys m _ c.claim_here.ensures.is c.in_default.is)
 
 pub loop-item-smaller : goal.loop-item-smaller
-loop-item-smaller c = let m = claim_moves c.args.s.now _ _ c.claim_here-item.ensures.fits _ _ c.in-Some.is in
+loop-item-smaller c = let m = claim_moves c.args.s.now _ _ c.claim_here.ensures.fits _ _ c.in-Some.is in
     omega arith
 
 pub loop-item-preserved : goal.loop-item-preserved
 loop-item-preserved c = let s = c.args.s.now in
     let e = c.in-Some.is in
-    gather_goes says_claim root TemplateHoldings s _ _ (member c.loop-item.found) c.loop-item.invariant _ _ (λ ys m. claims_first s _ ys m _ c.claim_here-item.ensures.is _ _ e) (member c.with_root-found.result) (c.with_root-found.ensures (claim_moves s _ _ c.claim_here-item.ensures.fits _ _ e).fits)
+    gather_goes says_claim root TemplateHoldings s _ _ (member c.loop-item.found) c.loop-item.invariant _ _ (λ ys m. claims_first s _ ys m _ c.claim_here.ensures.is _ _ e) (member c.with_root-found.result) (c.with_root-found.ensures (claim_moves s _ _ c.claim_here.ensures.fits _ _ e).fits)
