@@ -7,15 +7,16 @@ ghost use Rattle.patterns.specs.Inner.Morphisms.{join_classes, root_morphism};
 ghost use Rattle.pattern_sets.specs.Inner.PatternSets.{holds};
 ghost use Rattle.pattern_sets.specs.Inner.Images.{Joined};
 ghost use Rattle.schemes.specs.Inner.Schemes.{content_of, StandsFor};
-ghost use Rattle.schemes.specs.Inner.Promises.{Places, PlacesPair, AllContents, AllPairs, KeepsFacts, SameBytes, SameScheme, FirstPlace, PatternOfOne, HasMore, BothHaveMore, Multiplies, Follows};
+ghost use Rattle.schemes.specs.Inner.Promises.{Places, PlacesPair, AllContents, AllPairs, KeepsFacts, SameScheme, FirstPlace, PatternOfOne, HasMore, BothHaveMore, Multiplies, Follows};
 
-use vocabularies::{Fact, Facts};
+use vocabularies::{Fact, Facts, MOST_FACTS};
 
 // A scheme: a morphism of words as code keeps it, for the root or for the facts of a clause. `contents` has for each place the content
 // whose presence is the fact there, or `NO_CONTENT`; for the root its first place has the root. Two words, one after the other, break a
 // pair if one of its contents stands in the first and the other one in the second; `befores` and `afters` have the places of these two
-// for each pair.
-#[derive(Clone, Copy)]
+// for each pair. Where there is no content or no place a number stands that none has, as `KeepsFacts` and `joined_sets` have it: so they
+// are not options.
+#[derive(Clone, Copy, PartialEq, Eq)]
 pub struct Scheme {
     pub rooted: bool,
     pub contents: [u8; 8],
@@ -37,24 +38,16 @@ const ALONE: u8 = 1;
 
 pub const OTHER: u8 = 2;
 
-// The place of a fact, or the number of facts where it is not there.
-pub fn place_of(facts: Facts, fact: Fact) -> u8
+// The place of a fact.
+pub fn place_of(facts: Facts, fact: Fact) -> Option<u8>
     ensures { Places facts (meaning_of fact) result }
 {
-    let count = facts.count;
-    let mut i = 0;
-    while i < 8 {
-        if count <= i {
-            return i as u8;
+    for i in 0..facts.count.min(MOST_FACTS) {
+        if facts.kept[i] == fact {
+            return Some(i as u8);
         }
-        let kept = facts.kept[i];
-        let here = kept.fact;
-        if vocabularies::same_fact(fact, here) {
-            return i as u8;
-        }
-        i += 1;
     }
-    NOWHERE
+    None
 }
 
 // The content whose presence a fact is.
@@ -72,22 +65,15 @@ fn content_of(fact: Fact) -> u8
 fn contents_of(facts: Facts) -> [u8; 8]
     ensures { AllContents facts result }
 {
-    let count = facts.count;
     let mut contents = [NO_CONTENT; 8];
-    let mut i = 0;
-    while i < 8 {
-        if count <= i {
-            return contents;
-        }
-        let kept = facts.kept[i];
-        let fact = kept.fact;
-        contents[i] = content_of(fact);
-        i += 1;
+    for i in 0..facts.count.min(MOST_FACTS) {
+        contents[i] = content_of(facts.kept[i]);
     }
     contents
 }
 
-// The place of the content of a pair that stands in the first word where the pair is broken, or of the one in the second word.
+// The place of the content of a pair that stands in the first word where the pair is broken, or of the one in the second word. For a
+// content that is no fact the number of facts stands, at which no pattern has a flag.
 fn pair_place(facts: Facts, fact: Fact, in_first: bool) -> u8
     ensures { PlacesPair in_first facts (meaning_of fact) result }
 {
@@ -95,10 +81,8 @@ fn pair_place(facts: Facts, fact: Fact, in_first: bool) -> u8
         Fact::Carried(_) => NOWHERE,
         Fact::Present(_) => NOWHERE,
         Fact::Ordered(c, d) => {
-            if in_first {
-                return place_of(facts, Fact::Present(d));
-            }
-            place_of(facts, Fact::Present(c))
+            let content = if in_first { d } else { c };
+            place_of(facts, Fact::Present(content)).unwrap_or(facts.count as u8)
         }
         Fact::Valued(_, _) => NOWHERE,
     }
@@ -107,17 +91,9 @@ fn pair_place(facts: Facts, fact: Fact, in_first: bool) -> u8
 fn pair_places(facts: Facts, in_first: bool) -> [u8; 8]
     ensures { AllPairs in_first facts result }
 {
-    let count = facts.count;
     let mut places = [NOWHERE; 8];
-    let mut i = 0;
-    while i < 8 {
-        if count <= i {
-            return places;
-        }
-        let kept = facts.kept[i];
-        let fact = kept.fact;
-        places[i] = pair_place(facts, fact, in_first);
-        i += 1;
+    for i in 0..facts.count.min(MOST_FACTS) {
+        places[i] = pair_place(facts, facts.kept[i], in_first);
     }
     places
 }
@@ -146,56 +122,18 @@ pub fn root_scheme(root: u8) -> Scheme
     }
 }
 
-fn same_bytes(a: [u8; 8], b: [u8; 8]) -> bool
-    ensures { SameBytes a b result }
-{
-    let mut i = 0;
-    while i < 8 {
-        if a[i] != b[i] {
-            return false;
-        }
-        i += 1;
-    }
-    true
-}
-
-// Whether two schemes of facts are the same, so that whatever the one stands for the other does too.
+// Whether two schemes are the same, so that whatever the one stands for the other does too.
 pub fn same(a: Scheme, b: Scheme) -> bool
     ensures { SameScheme a b result }
 {
-    if a.rooted {
-        return false;
-    }
-    if b.rooted {
-        return false;
-    }
-    let contents = a.contents;
-    let other_contents = b.contents;
-    if !same_bytes(contents, other_contents) {
-        return false;
-    }
-    let befores = a.befores;
-    let other_befores = b.befores;
-    if !same_bytes(befores, other_befores) {
-        return false;
-    }
-    let afters = a.afters;
-    let other_afters = b.afters;
-    same_bytes(afters, other_afters)
+    a == b
 }
 
-// The first place of a content, or `NOWHERE`.
-fn place_in(contents: [u8; 8], c: u8) -> u8
+// The first place of a content.
+fn place_in(contents: [u8; 8], c: u8) -> Option<usize>
     ensures { FirstPlace contents c result }
 {
-    let mut i = 0;
-    while i < 8 {
-        if contents[i] == c {
-            return i as u8;
-        }
-        i += 1;
-    }
-    NOWHERE
+    contents.iter().position(|content| *content == c)
 }
 
 // The pattern of a word of one content.
@@ -203,18 +141,14 @@ pub fn single(r: Scheme, c: u8) -> u8
     requires { c < 64 }
     ensures { PatternOfOne r c result }
 {
-    let contents = r.contents;
-    let place = place_in(contents, c);
+    let place = place_in(r.contents, c);
     if r.rooted {
-        if place == 0 {
-            return ALONE;
-        }
-        return OTHER;
+        return if place == Some(0) { ALONE } else { OTHER };
     }
-    if NOWHERE <= place {
-        return EMPTY;
+    match place {
+        Some(i) => 1 << i,
+        None => EMPTY,
     }
-    1u8 << place
 }
 
 // A set, or none.
@@ -231,16 +165,13 @@ fn given(set: [u64; 4], is_given: bool) -> [u64; 4]
 fn has_more(set: [u64; 4]) -> bool
     ensures { HasMore set result }
 {
-    pattern_sets::next(set, 1) < 256
+    pattern_sets::next(set, 1).is_some()
 }
 
 fn both_have_more(a: [u64; 4], b: [u64; 4]) -> bool
     ensures { BothHaveMore a b result }
 {
-    if has_more(a) {
-        return has_more(b);
-    }
-    false
+    has_more(a) && has_more(b)
 }
 
 // The classes of two words, one after the other: that of the one where the other is empty.

@@ -1,5 +1,5 @@
 -- What the code over schemes promises, for each morphism that a scheme stands for.
-use Rattle.std.specs.Prelude.{ℕ, ◌≤◌, ◌<◌, ◌≡◌, List, [], ◌∷◌, Bool, true, false, ◌⊎◌, length, get_or}
+use Rattle.std.specs.Prelude.{ℕ, ◌≤◌, ◌<◌, ◌≡◌, List, [], ◌∷◌, Bool, true, false, ◌⊎◌, length, get_or, Option, Some, None}
 use Rattle.vocabularies.specs.declared.Facts.{Facts}
 use Rattle.vocabularies.specs.Facts.{Fact}
 use Rattle.vocabularies.specs.VocabularyReading.{most_facts}
@@ -14,10 +14,13 @@ use Rattle.schemes.specs.Inner.Schemes.{Distinct, place_of, no_content, content_
 abbrev pub OfFacts : Facts → (List Fact → Type 0) → Type 0
 OfFacts t P = (fs : List Fact) → Represents t fs → length fs ≤ most_facts → P fs
 
--- The place of a fact.
-pub record Places (t : Facts) (x : Fact) (r : ℕ) : Type 0 where
-  pub within : r ≤ most_facts
-  pub place : OfFacts t (λ fs. r ≡ place_of x fs)
+-- By the answer: the place of a fact; or it is not there.
+abbrev pub IsPlace : Fact → List Fact → Option ℕ → Type 0
+IsPlace x fs (Some i) = (i < length fs) × (i ≡ place_of x fs)
+IsPlace x fs None = place_of x fs ≡ length fs
+
+abbrev pub Places : Facts → Fact → Option ℕ → Type 0
+Places t x r = OfFacts t (λ fs. IsPlace x fs r)
 
 abbrev pub AllContents : Facts → List ℕ → Type 0
 AllContents t r = OfFacts t (λ fs. Lists content_of no_content r fs)
@@ -31,19 +34,20 @@ AllPairs in_first t r = OfFacts t (λ fs. Lists (pair_place in_first fs) most_fa
 abbrev pub KeepsFacts : Facts → Scheme → Type 0
 KeepsFacts t r = OfFacts t (λ fs. Distinct fs → StandsForFacts r fs)
 
--- Two lists have the same eight bytes.
-abbrev pub SameBytes : List ℕ → List ℕ → Bool → Type 0
-SameBytes a b r = r ≡ true → (i : ℕ) → i < most_facts → get_or a i 0 ≡ get_or b i 0
-
 -- Whatever the second stands for, the first one does too.
 abbrev pub SameScheme : Scheme → Scheme → Bool → Type 0
 SameScheme a b r = r ≡ true → (M : Morphisms.Morphism) → StandsFor b M → StandsFor a M
 
--- The first place of a content; 8 where there is none.
-pub record FirstPlace (contents : List ℕ) (c r : ℕ) : Type 0 where
-  pub within : r ≤ most_facts
-  pub found : r < most_facts → get_or contents r 0 ≡ c
-  pub first : (i : ℕ) → i < r → get_or contents i 0 ≡ c → ⊥
+-- The first place of a content.
+pub record FirstAt (contents : List ℕ) (c i : ℕ) : Type 0 where
+  pub within : i < most_facts
+  pub found : get_or contents i 0 ≡ c
+  pub first : (j : ℕ) → j < i → get_or contents j 0 ≡ c → ⊥
+
+-- By the answer: that place; or the content has none.
+abbrev pub FirstPlace : List ℕ → ℕ → Option ℕ → Type 0
+FirstPlace contents c (Some i) = FirstAt contents c i
+FirstPlace contents c None = (j : ℕ) → j < most_facts → get_or contents j 0 ≡ c → ⊥
 
 -- Of every morphism that a scheme stands for.
 abbrev pub OfScheme : Scheme → (Morphisms.Morphism → Type 0) → Type 0
