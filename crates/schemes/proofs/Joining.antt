@@ -1,4 +1,5 @@
 -- The operations of a scheme as the code works them out.
+use Rattle.std.specs.Prelude.{None}
 use Prim.Native.Nat.{ℕ, ◌*◌, ◌%◌, ◌^◌, ◌<◌, ◌≤◌}
 use mathlib.Core.Path.{◌≡◌, refl, sym, ap, ◌∙◌}
 use mathlib.Core.List.{List, [], ◌∷◌}
@@ -20,7 +21,7 @@ use Rattle.patterns.proofs.Clauses.{numbered_below}
 use Rattle.patterns.proofs.Bits.{pattern_of_nothing}
 use Rattle.schemes.specs.declared.Scheme.{Scheme}
 use Rattle.schemes.specs.Inner.Schemes.{place_of, content_of, pair_place, before_of, after_of, Lists, StandsForFacts, StandsFor, of_facts, of_root}
-use Rattle.schemes.specs.Inner.Promises.{PatternOfOne, FirstPlace}
+use Rattle.schemes.specs.Inner.Promises.{PatternOfOne, FirstAt, FirstPlace}
 use Rattle.pattern_sets.specs.Inner.Images.{flag_at, joined_by, Apart}
 use Rattle.sets.proofs.Booleans.{or_absent}
 use Rattle.pattern_sets.proofs.Flags.{pattern_below, pattern_bit, pattern_high, pattern_same}
@@ -95,8 +96,8 @@ module _ (r : Scheme) (fs : List Fact) (h : StandsForFacts r fs) where
       (λ i l. at i ∙ ne_eqb i (place_of (present c) fs) (λ e. omega arith))
 
   -- A content stands at its fact's place.
-  content_found : (c place : ℕ) → c < 64 → place < 8 → FirstPlace r.contents c place → (place < length fs) × (place ≡ place_of (present c) fs)
-  content_found c place small b p = go (ltb place (length fs)) refl
+  content_found : (c place : ℕ) → c < 64 → FirstAt r.contents c place → (place < length fs) × (place ≡ place_of (present c) fs)
+  content_found c place small p = go (ltb place (length fs)) refl
     where
       is_content : (f : Fact) → c ≡ content_of f → f ≡ present c
       is_content (carried a) e = absurd (omega arith)
@@ -107,16 +108,17 @@ module _ (r : Scheme) (fs : List Fact) (h : StandsForFacts r fs) where
       go : (t : Bool) → ltb place (length fs) ≡ t → (place < length fs) × (place ≡ place_of (present c) fs)
       go true e =
           let l : place < length fs = ltb-true place (length fs) e in
-          let is : get_or fs place (present 0) ≡ present c = is_content (get_or fs place (present 0)) (sym (p.found b) ∙ h.contents.stands place l) in
+          let is : get_or fs place (present 0) ≡ present c = is_content (get_or fs place (present 0)) (sym p.found ∙ h.contents.stands place l) in
           (l, sym (place_at fs h.distinct place l) ∙ ap (λ (f : Fact). place_of f fs) is)
       go false e =
           let n : get_or r.contents place 0 ≡ 64 = h.contents.past place (ltb-false place (length fs) e) b in
           let q : get_or r.contents place 0 ≡ c = p.found b in
           absurd (omega arith)
 
-  pub single_flag : (c place : ℕ) → c < 64 → place < 8 → FirstPlace r.contents c place → (1 * 2 ^ place) % 2 ^ 8 ≡ pattern_of fs [] (c ∷ [])
-  single_flag c place small b p =
-      let (l, e) = content_found c place small b p in
+  pub single_flag : (c place : ℕ) → c < 64 → FirstAt r.contents c place → (1 * 2 ^ place) % 2 ^ 8 ≡ pattern_of fs [] (c ∷ [])
+  single_flag c place small p =
+      let b : place < 8 = p.within in
+      let (l, e) = content_found c place small p in
       let s : (1 * 2 ^ place) % 2 ^ 8 ≡ 1 * 2 ^ place = shl_exact {a = 1} 1 place 8 (lit< tt) (omega arith) in
       let m : 2 ^ place < 2 ^ 8 = pow-lt b in
       placed_one c ((1 * 2 ^ place) % 2 ^ 8) (omega arith)
@@ -130,13 +132,13 @@ module _ (r : Scheme) (fs : List Fact) (h : StandsForFacts r fs) where
       (λ i b. member_zero i ∙ sym (one_flag c (get_or fs i (present 0)) ∙ same_place fs h.distinct (present c) i b ∙ ne_eqb i (place_of (present c) fs) (λ q. omega arith)))
       (λ i b. member_zero i)
 
-  pub single_none : (c place : ℕ) → 8 ≤ place → FirstPlace r.contents c place → 0 ≡ pattern_of fs [] (c ∷ [])
-  single_none c place b p = absent_none c (go (ltb (place_of (present c) fs) (length fs)) refl)
+  pub single_none : (c : ℕ) → FirstPlace r.contents c None → 0 ≡ pattern_of fs [] (c ∷ [])
+  single_none c p = absent_none c (go (ltb (place_of (present c) fs) (length fs)) refl)
     where
       go : (t : Bool) → ltb (place_of (present c) fs) (length fs) ≡ t → length fs ≤ place_of (present c) fs
       go true e =
           let l : place_of (present c) fs < length fs = ltb-true (place_of (present c) fs) (length fs) e in
-          absurd (p.first (place_of (present c) fs) (omega (arith, h.few)) (h.contents.stands (place_of (present c) fs) l ∙ ap content_of (fact_placed fs (present c) l)))
+          absurd (p (place_of (present c) fs) (omega (arith, h.few)) (h.contents.stands (place_of (present c) fs) l ∙ ap content_of (fact_placed fs (present c) l)))
       go false e = ltb-false (place_of (present c) fs) (length fs) e
 
   before_at : (i : ℕ) → i < 8 → get_or r.befores i 0 ≡ before_of fs (get_or fs i (present 0))
@@ -211,18 +213,17 @@ module _ (r : Scheme) (rooted : r.rooted ≡ true) where
   not_facts : {fs : List Fact} → StandsForFacts r fs → ⊥
   not_facts h = false≢true (sym h.not_rooted ∙ rooted)
 
-  pub single_alone : (c place : ℕ) → FirstPlace r.contents c place → place ≡ 0 → PatternOfOne r c 1
+  pub single_alone : (c : ℕ) → get_or r.contents 0 0 ≡ c → PatternOfOne r c 1
   unfolding class_of
-  single_alone c place p e R (of_facts h) = absurd (not_facts h)
-  single_alone c place p e R (of_root t) =
-      let q : get_or r.contents 0 0 ≡ c = (rw e at p.found) (omega arith) in
+  single_alone c q R (of_facts h) = absurd (not_facts h)
+  single_alone c q R (of_root t) =
       sym (ap (λ (b : Bool). cond b 1 2) (eq-eqb c (get_or r.contents 0 0) (sym q)))
 
-  pub single_other : (c place : ℕ) → FirstPlace r.contents c place → (place ≡ 0 → ⊥) → PatternOfOne r c 2
+  pub single_other : (c : ℕ) → (get_or r.contents 0 0 ≡ c → ⊥) → PatternOfOne r c 2
   unfolding class_of
-  single_other c place p n R (of_facts h) = absurd (not_facts h)
-  single_other c place p n R (of_root t) =
-      sym (ap (λ (b : Bool). cond b 1 2) (ne_eqb c (get_or r.contents 0 0) (λ e. p.first 0 (omega arith) (sym e))))
+  single_other c n R (of_facts h) = absurd (not_facts h)
+  single_other c n R (of_root t) =
+      sym (ap (λ (b : Bool). cond b 1 2) (ne_eqb c (get_or r.contents 0 0) (λ e. n (sym e))))
 
 -- ---- any of the two
 
@@ -230,13 +231,13 @@ module _ (r : Scheme) (plain : r.rooted ≡ false) where
   not_root : r.rooted ≡ true → ⊥
   not_root e = false≢true (sym plain ∙ e)
 
-  pub single_found : (c place : ℕ) → c < 64 → place < 8 → FirstPlace r.contents c place → PatternOfOne r c ((1 * 2 ^ place) % 2 ^ 8)
-  single_found c place small b p R (of_facts {fs} h) = single_flag r fs h c place small b p
-  single_found c place small b p R (of_root e) = absurd (not_root e)
+  pub single_found : (c place : ℕ) → c < 64 → FirstAt r.contents c place → PatternOfOne r c ((1 * 2 ^ place) % 2 ^ 8)
+  single_found c place small p R (of_facts {fs} h) = single_flag r fs h c place small p
+  single_found c place small p R (of_root e) = absurd (not_root e)
 
-  pub single_nowhere : (c place : ℕ) → 8 ≤ place → FirstPlace r.contents c place → PatternOfOne r c 0
-  single_nowhere c place l p R (of_facts {fs} h) = single_none r fs h c place l p
-  single_nowhere c place l p R (of_root e) = absurd (not_root e)
+  pub single_nowhere : (c : ℕ) → FirstPlace r.contents c None → PatternOfOne r c 0
+  single_nowhere c p R (of_facts {fs} h) = single_none r fs h c p
+  single_nowhere c p R (of_root e) = absurd (not_root e)
 
 -- What a morphism has that is read.
 module _ {r : Scheme} where
@@ -259,27 +260,3 @@ module _ {r : Scheme} where
   unfolding class_of
   empty_pattern (of_facts {fs} h) = pattern_of_nothing fs
   empty_pattern (of_root e) = refl
-
--- ---- schemes with the same contents and places
-
-lists_as : {of : Fact → ℕ} {none : ℕ} (fs : List Fact) → length fs ≤ 8 → (a b : List ℕ) → ((i : ℕ) → i < 8 → get_or a i 0 ≡ get_or b i 0)
-    → Lists of none b fs → Lists of none a fs
-lists_as fs few a b same L = record {
-  stands = λ i l. same i (omega arith) ∙ L.stands i l;
-  past = λ i l k. same i k ∙ L.past i l k;
-}
-
-pub same_stands_for : (a b : Scheme) → a.rooted ≡ false → b.rooted ≡ false
-    → ((i : ℕ) → i < 8 → get_or a.contents i 0 ≡ get_or b.contents i 0)
-    → ((i : ℕ) → i < 8 → get_or a.befores i 0 ≡ get_or b.befores i 0)
-    → ((i : ℕ) → i < 8 → get_or a.afters i 0 ≡ get_or b.afters i 0)
-    → (M : Morphisms.Morphism) → StandsFor b M → StandsFor a M
-same_stands_for a b p q contents befores afters M (of_facts {fs} h) = of_facts (record {
-  not_rooted = p;
-  few = h.few;
-  distinct = h.distinct;
-  contents = lists_as fs h.few a.contents b.contents contents h.contents;
-  befores = lists_as fs h.few a.befores b.befores befores h.befores;
-  afters = lists_as fs h.few a.afters b.afters afters h.afters;
-})
-same_stands_for a b p q contents befores afters M (of_root e) = absurd (false≢true (sym q ∙ e))

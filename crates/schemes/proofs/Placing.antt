@@ -1,15 +1,16 @@
 -- The search for a content's place, and the places of pairs.
-use Prim.Native.Nat.{ℕ, ◌+◌, ◌<◌, ◌≤◌}
+use Rattle.std.specs.Prelude.{Option, Some, None, min, unwrap_or, position}
+use Rattle.std.proofs.lemmas.List.{position-Some}
+use Prim.Native.Nat.{ℕ, ◌+◌, ◌%◌, ◌<◌, ◌≤◌}
 use mathlib.Core.Path.{◌≡◌, refl, sym, ap, ◌∙◌}
 use mathlib.Core.List.{List}
-use mathlib.Core.Bool.{Bool, true, false, false≢true}
-use mathlib.Core.Logic.{◌⊎◌, ⊎_elim}
+use mathlib.Core.Bool.{Bool, true, false, cond, false≢true}
 use native.Mathlib.Nat.{le_antisymm}
 use native.Mathlib.Omega.{arith}
 use native.Mathlib.Decide.{ℕ_discrete}
 use lib.ListN.{length, get_or, set, replicate, length-set, get_or-replicate}
-use lib.Dec.{ltb}
-use borrow.Author.Tests.{ltb-true, ltb-false}
+use lib.Dec.{eqb, ltb}
+use borrow.Author.Tests.{eqb-true, eqb-false, ltb-true, ltb-false}
 use lib.Seq.{get_or-set_same, get_or-set_other}
 use Rattle.strings.specs.declared.StringSet.{StringSet}
 use Rattle.vocabularies.specs.declared.Fact as Kept
@@ -31,24 +32,12 @@ module _ (t : Facts) (x : Fact) where
   abbrev pub From : ℕ → Type 0
   From i = OfFacts t (λ fs. i ≤ place_of x fs)
 
-  pub place_none : (i : ℕ) → i ≤ 8 → t.count ≤ i → From i → Places t x i
-  place_none i b l before = record {
-    within = b;
-    place = λ fs h few.
-        let low : i ≤ place_of x fs = before fs h few in
-        let most : place_of x fs ≤ length fs = place_le fs x in
-        let e : t.count ≡ length fs = few_count t fs h few in
-        omega arith;
-  }
-
-  pub place_last : (i : ℕ) → 8 ≤ i → From i → Places t x 8
-  place_last i l before = record {
-    within = omega arith;
-    place = λ fs h few.
-        let low : i ≤ place_of x fs = before fs h few in
-        let most : place_of x fs ≤ length fs = place_le fs x in
-        omega arith;
-  }
+  pub place_none : (i : ℕ) → min t.count 8 ≤ i → From i → Places t x None
+  place_none i l before fs h few =
+      let low : i ≤ place_of x fs = before fs h few in
+      let most : place_of x fs ≤ length fs = place_le fs x in
+      let e : t.count ≡ length fs = few_count t fs h few in
+      omega arith
 
   module _ (i : ℕ) (b : i < 8) (here : i < t.count) (before : From i) (y : Kept.Fact) (at : y ≡ kept_at t i) (told : Bool) (tells : told ≡ same_fact x (meaning_of y)) where
     module _ (fs : List Fact) (h : Represents t fs) (few : length fs ≤ 8) where
@@ -66,11 +55,8 @@ module _ (t : Facts) (x : Fact) where
           let found : get_or fs i (present 0) ≡ x = ap (λ (k : ℕ). get_or fs k (present 0)) (sym q) ∙ fact_placed fs x (let l = inside in omega arith) in
           false≢true (sym e ∙ told_of ∙ ap (same_fact x) found ∙ fact_same x)
 
-    pub place_found : told ≡ true → Places t x i
-    place_found e = record {
-      within = omega arith;
-      place = λ fs h few. le_antisymm (before fs h few) (is_first fs h few e);
-    }
+    pub place_found : told ≡ true → Places t x (Some i)
+    place_found e fs h few = (inside fs h few, le_antisymm (before fs h few) (is_first fs h few e))
 
     pub from_next : told ≡ false → From (i + 1)
     from_next e fs h few =
@@ -87,11 +73,13 @@ module _ (t : Facts) (in_first : Bool) (y : Kept.Fact) where
   pub no_pair_content : (c : ℕ) → y ≡ Present c → PlacesPair in_first t (meaning_of y) 8
   no_pair_content c e fs h few = rw e
 
-  pub pair_first : (c d r : ℕ) → y ≡ Ordered c d → in_first ≡ true → Places t (present d) r → PlacesPair in_first t (meaning_of y) r
-  pair_first c d r e q p fs h few = rw (e, q) (p.place fs h few)
-
-  pub pair_second : (c d r : ℕ) → y ≡ Ordered c d → in_first ≡ false → Places t (present c) r → PlacesPair in_first t (meaning_of y) r
-  pair_second c d r e q p fs h few = rw (e, q) (p.place fs h few)
+  -- The place of one of its contents; or the number of facts, where that is not there.
+  pub pair_at : (c d content r : ℕ) → y ≡ Ordered c d → content ≡ cond in_first d c → (o : Option ℕ) → Places t (present content) o
+      → r ≡ unwrap_or o (t.count % 256) → PlacesPair in_first t (meaning_of y) r
+  pair_at c d content r e q (Some i) p is fs h few = is ∙ rw (e, ← q) ((p fs h few).1)
+  pair_at c d content r e q None p is fs h few =
+      let n : t.count ≡ length fs = few_count t fs h few in
+      is ∙ rw (e, ← q, p fs h few) (omega arith)
 
   pub no_pair_value : (a : ℕ) (m : StringSet) → y ≡ Valued a m → PlacesPair in_first t (meaning_of y) 8
   no_pair_value a m e fs h few = rw e
@@ -132,9 +120,9 @@ module _ (t : Facts) (of : List Fact → Fact → ℕ) (none : ℕ) where
       )
       go j l (no n) = ((F.filled j (omega arith)).0, λ fs h few. get_or-set_other numbers i j r 0 n ∙ (F.filled j (omega arith)).1 fs h few)
 
-  pub filled_all : (i : ℕ) (numbers : List ℕ) → (t.count ≤ i) ⊎ (8 ≤ i) → Filling i numbers → OfFacts t (λ fs. Lists (of fs) none numbers fs)
+  pub filled_all : (i : ℕ) (numbers : List ℕ) → min t.count 8 ≤ i → Filling i numbers → OfFacts t (λ fs. Lists (of fs) none numbers fs)
   filled_all i numbers end F fs h few = record {
-    stands = λ j l. (F.filled j (⊎_elim (λ p. omega arith) (λ p. omega arith) end)).1 fs h few;
+    stands = λ j l. (F.filled j (let m : t.count ≡ length fs = few_count t fs h few in omega arith)).1 fs h few;
     past = λ j l b. F.rest j (late j l (ltb j i) refl) b;
   }
     where
@@ -145,33 +133,11 @@ module _ (t : Facts) (of : List Fact → Fact → ℕ) (none : ℕ) where
       n : t.count ≡ length fs
       n = few_count t fs h few
 
--- ---- the places of a table one by one
+-- ---- the place of a content
 
-module _ (contents : List ℕ) (c : ℕ) where
-  -- The content stands at no place before this one.
-  pub record Passed (i : ℕ) : Type 0 where
-    pub within : i ≤ 8
-    pub passed : (j : ℕ) → j < i → get_or contents j 0 ≡ c → ⊥
-
-  pub passed_none : Passed 0
-  passed_none = record { within = omega arith; passed = λ j l e. omega arith }
-
-  pub passed_more : (i : ℕ) → i < 8 → (get_or contents i 0 ≡ c → ⊥) → Passed i → Passed (i + 1)
-  passed_more i b n P = record { within = omega arith; passed = λ j l. go j l (ℕ_discrete j i) }
-    where
-      go : (j : ℕ) → j < i + 1 → Dec (j ≡ i) → get_or contents j 0 ≡ c → ⊥
-      go j l (yes e) = rw e n
-      go j l (no m) = P.passed j (omega arith)
-
-  pub passed_found : (i : ℕ) → get_or contents i 0 ≡ c → Passed i → FirstPlace contents c i
-  passed_found i e P = record { within = P.within; found = λ l. e; first = P.passed }
-
-  pub passed_all : (i : ℕ) → 8 ≤ i → Passed i → FirstPlace contents c 8
-  passed_all i l P = record { within = omega arith; found = λ k. absurd (omega arith); first = λ j k. P.passed j (omega arith) }
-
-pub same_more : (a b : List ℕ) (i : ℕ) → ((j : ℕ) → j < i → get_or a j 0 ≡ get_or b j 0) → get_or a i 0 ≡ get_or b i 0 → (j : ℕ) → j < i + 1 → get_or a j 0 ≡ get_or b j 0
-same_more a b i before e j l = go (ℕ_discrete j i)
-  where
-    go : Dec (j ≡ i) → get_or a j 0 ≡ get_or b j 0
-    go (yes q) = rw q e
-    go (no n) = before j (omega arith)
+-- The first at which it stands.
+pub first_place : (contents : List ℕ) (c : ℕ) (r : Option ℕ) → length contents ≡ 8 → r ≡ position (λ x. eqb x c) contents → FirstPlace contents c r
+first_place contents c (Some i) long e =
+    let p = position-Some (λ x. eqb x c) contents i 0 (sym e) in
+    record { within = omega (arith, p.0); found = eqb-true (get_or contents i 0) c p.1; first = λ j l. eqb-false (get_or contents j 0) c (p.2 j l) }
+first_place contents c None long e j l is = ?

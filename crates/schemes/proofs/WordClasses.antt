@@ -1,4 +1,5 @@
 -- Classes of words joined, set by set.
+use Rattle.std.specs.Prelude.{Option, Some, None, is_some}
 use Prim.Native.Nat.{ℕ, ◌<◌, ◌≤◌}
 use mathlib.Core.Path.{◌≡◌, refl, sym, ap, ◌∙◌}
 use mathlib.Core.List.{List}
@@ -11,21 +12,17 @@ use lib.Dec.{eqb, ltb}
 use borrow.Author.Tests.{ne_eqb, eqb-true, ltb-true, ltb-false}
 use Rattle.patterns.specs.Inner.Morphisms.{join_classes}
 use Rattle.sets.proofs.Booleans.{or_left, or_right, or_cases, and_both, and_left, and_right}
-use Rattle.pattern_sets.specs.Inner.PatternSets.{holds, First}
+use Rattle.pattern_sets.specs.Inner.PatternSets.{holds, NextPattern}
 use Rattle.pattern_sets.specs.Inner.Images.{Joined}
-use Rattle.pattern_sets.proofs.Laws.{held_small}
 use Rattle.schemes.specs.Inner.Promises.{HasMore, BothHaveMore}
 
-pub tells_more : (set : List ℕ) (first : ℕ) → length set ≡ 4 → First set 1 first → (t : Bool) → ltb first 256 ≡ t → HasMore set t
-tells_more set first four f true e = (first, f.is_held (ltb-true first 256 e), λ q. let l : 1 ≤ first = f.after in omega arith)
-tells_more set first four f false e = λ x h. go x h (ℕ_discrete x 0)
+pub tells_more : (set : List ℕ) (o : Option ℕ) → NextPattern set 1 o → HasMore set (is_some o)
+tells_more set (Some x) f = (x, f.is_held, λ q. let l : 1 ≤ x = f.after in omega arith)
+tells_more set None none x h = go (ℕ_discrete x 0)
   where
-    go : (x : ℕ) → holds set x ≡ true → Dec (x ≡ 0) → x ≡ 0
-    go x h (yes q) = q
-    go x h (no n) =
-        let small : x < 256 = held_small set four x h in
-        let late : 256 ≤ first = ltb-false first 256 e in
-        absurd (false≢true (sym (f.skips x (omega arith) (omega arith)) ∙ h))
+    go : Dec (x ≡ 0) → x ≡ 0
+    go (yes q) = q
+    go (no n) = absurd (false≢true (sym (none x (omega arith)) ∙ h))
 
 pub more_both : (a b : List ℕ) (p q : Bool) → p ≡ true → HasMore a p → HasMore b q → BothHaveMore a b q
 more_both a b true true e m n = (m, n)

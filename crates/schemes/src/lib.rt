@@ -141,11 +141,10 @@ pub fn single(r: Scheme, c: u8) -> u8
     requires { c < 64 }
     ensures { PatternOfOne r c result }
 {
-    let place = place_in(r.contents, c);
     if r.rooted {
-        return if place == Some(0) { ALONE } else { OTHER };
+        return if r.contents[0] == c { ALONE } else { OTHER };
     }
-    match place {
+    match place_in(r.contents, c) {
         Some(i) => 1 << i,
         None => EMPTY,
     }

@@ -1,5 +1,4 @@
 use mathlib.Core.Path.{refl}
-use mathlib.Core.Logic.{inl, inr}
 use native.Mathlib.Omega.{arith}
 use Rattle.schemes.proofs.Placing.{filling_none, filling_more, filled_all}
 use Rattle.schemes.proofs.pair_places.Goals as goal
@@ -7,11 +6,8 @@ use Rattle.schemes.proofs.pair_places.Goals as goal
 pub loop-i-init : goal.loop-i-init
 loop-i-init c = filling_none _ _ _
 
-pub returns-then-count-i : goal.returns-then-count-i
-returns-then-count-i c = filled_all _ _ _ _ _ (inl c.if-count-i.true) c.loop-i.invariant
-
 pub loop-i-preserved : goal.loop-i-preserved
 loop-i-preserved c = filling_more _ _ _ c.loop-i.i c.loop-i.places _ _ c.loop-i.invariant (omega arith) (omega arith) refl c.pair_place.ensures
 
 pub returns : goal.returns
-returns c = filled_all _ _ _ _ _ (inr c.loop-i-test.false) c.loop-i.invariant
+returns c = filled_all _ _ _ _ _ (omega arith) c.loop-i.invariant
