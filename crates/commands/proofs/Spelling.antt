@@ -1,25 +1,53 @@
 -- The set at an offset, byte by byte.
-use Prim.Native.Nat.{ℕ, zero, suc, ◌+◌, ◌*◌, ◌≤◌}
+use Prim.Native.Nat.{ℕ, zero, suc, ◌+◌, ◌-◌, ◌*◌, ◌^◌, ◌≤◌, ◌<◌}
 use mathlib.Core.Path.{◌≡◌, refl, ◌∙◌}
 use mathlib.Core.List.{List}
 use native.Mathlib.Omega.{arith}
 use lib.ListN.{length, get_or-eq_default}
 use Rattle.commands.specs.Commands.{byte, spelt, set_at}
 
-module _ (s : List ℕ) (i m₀ m₁ m₂ m₃ m₄ m₅ m₆ m₇ : ℕ) where
-  pub eight : m₀ ≡ 0 * 256 + byte s i → m₁ ≡ m₀ * 256 + byte s (i + 1) → m₂ ≡ m₁ * 256 + byte s (i + 2) → m₃ ≡ m₂ * 256 + byte s (i + 3)
-      → m₄ ≡ m₃ * 256 + byte s (i + 4) → m₅ ≡ m₄ * 256 + byte s (i + 5) → m₆ ≡ m₅ * 256 + byte s (i + 6) → m₇ ≡ m₆ * 256 + byte s (i + 7)
-      → m₇ ≡ set_at s i
+-- What so many bytes can spell is below this.
+unfoldable pub bound : ℕ → ℕ
+bound zero = 1
+bound (suc k) = 256 * bound k
+
+low : (k : ℕ) → k < 8 → bound k ≤ 2 ^ 56
+unfolding bound
+low zero h = omega arith
+low (suc zero) h = omega arith
+low (suc (suc zero)) h = omega arith
+low (suc (suc (suc zero))) h = omega arith
+low (suc (suc (suc (suc zero)))) h = omega arith
+low (suc (suc (suc (suc (suc zero))))) h = omega arith
+low (suc (suc (suc (suc (suc (suc zero)))))) h = omega arith
+low (suc (suc (suc (suc (suc (suc (suc zero))))))) h = omega arith
+low (suc (suc (suc (suc (suc (suc (suc (suc k)))))))) h = absurd (omega arith)
+
+module _ (s : List ℕ) (i : ℕ) where
+  -- After k bytes, which spell m, the others come.
+  pub record Spelling (k m : ℕ) : Type 0 where
+    pub others : spelt (8 - k) s (i + k) m ≡ set_at s i
+    pub small : m < bound k
+
+  pub starts : Spelling 0 0
+  unfolding bound
+  starts = let e : i + 0 ≡ i = omega arith in record { others = rw e; small = omega arith }
+
+  module _ (k m : ℕ) (h : k < 8) (S : Spelling k m) where
+    pub fits : m < 2 ^ 56
+    fits = omega (arith, S.small, low k h)
+
+    pub goes_on : (b : ℕ) → b ≡ byte s (i + k) → b < 256 → Spelling (k + 1) (m * 256 + b)
+    unfolding bound spelt
+    goes_on b e l =
+        let n : 8 - k ≡ suc (8 - (k + 1)) = omega arith in
+        let j : i + (k + 1) ≡ suc (i + k) = omega arith in
+        let q : k + 1 ≡ suc k = omega arith in
+        record { others = rw (j, e) (rw n at S.others); small = rw q (omega (arith, S.small)) }
+
+  pub ends : (k m : ℕ) → k ≡ 8 → Spelling k m → m ≡ set_at s i
   unfolding spelt
-  eight h₀ h₁ h₂ h₃ h₄ h₅ h₆ h₇ =
-      let e₁ : suc i ≡ i + 1 = omega arith in
-      let e₂ : suc (suc i) ≡ i + 2 = omega arith in
-      let e₃ : suc (suc (suc i)) ≡ i + 3 = omega arith in
-      let e₄ : suc (suc (suc (suc i))) ≡ i + 4 = omega arith in
-      let e₅ : suc (suc (suc (suc (suc i)))) ≡ i + 5 = omega arith in
-      let e₆ : suc (suc (suc (suc (suc (suc i))))) ≡ i + 6 = omega arith in
-      let e₇ : suc (suc (suc (suc (suc (suc (suc i)))))) ≡ i + 7 = omega arith in
-      rw (e₇, e₆, e₅, e₄, e₃, e₂, e₁, ← h₀, ← h₁, ← h₂, ← h₃, ← h₄, ← h₅, ← h₆, ← h₇)
+  ends k m e S = rw e at S.others
 
 -- Past the end all eight are 0.
 past : (s : List ℕ) (n i : ℕ) → length s ≤ i → spelt n s i 0 ≡ 0

@@ -59,29 +59,16 @@ pub fn byte_at(s: &[u8], i: usize) -> u8
     0
 }
 
-// A number with the byte at an offset put after it.
-fn with_byte(high: u64, s: &[u8], i: usize) -> u64
-    requires { high < 2 ^ 56 }
-    ensures { (result ≡ high * 256 + byte s.now i) × (result < (high + 1) * 256) }
-{
-    high * 256 + (byte_at(s, i) as u64)
-}
-
 // The number of the set of strings at an offset: eight bytes, highest first.
 fn set_at(s: &[u8], i: usize) -> u64
+    requires { i + 7 < 2 ^ 64 }
     ensures { result ≡ set_at s.now i }
 {
-    if s.len() <= i {
-        return 0;
+    let mut number: u64 = 0;
+    for k in 0..8 {
+        number = number * 256 + (byte_at(s, i + k) as u64);
     }
-    let b0 = with_byte(0, s, i);
-    let b1 = with_byte(b0, s, i + 1);
-    let b2 = with_byte(b1, s, i + 2);
-    let b3 = with_byte(b2, s, i + 3);
-    let b4 = with_byte(b3, s, i + 4);
-    let b5 = with_byte(b4, s, i + 5);
-    let b6 = with_byte(b5, s, i + 6);
-    with_byte(b6, s, i + 7)
+    number
 }
 
 fn is_either(a: u8, b: u8, code: u8) -> bool
