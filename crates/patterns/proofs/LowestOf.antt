@@ -155,34 +155,37 @@ module _ (φs : List Items) (chosen : ℕ) (test : ℕ → Test) where
   unfolding SomeElement
   none_in_first at b (l, c, e) = subst (SomeElement (λ e mark δ φ. (mark ≡ at) × (test 0 e mark δ φ ≡ some b))) (first_template φs) e
 
-  pub looked_none : (t : ℕ) → ((x : ℕ) → 1 ≤ x → x < t → member chosen x ≡ false) → LowestWrong (Below t) None
-  looked_none t skips = lowest_none (λ n at b h. go n at b h (ltb 0 n) refl)
-    where
-      go : (n at : ℕ) (b : Breach) → Below t n at b → (c : Bool) → ltb 0 n ≡ c → ⊥
-      go n at b (l, p) true q = let pos = ltb-true 0 n q in false≢true (sym (skips n (omega arith) l) ∙ p.1)
-      go n at b (l, p) false q =
-          let z = ltb-false 0 n q in
-          let is_first : n ≡ 0 = omega arith in
-          none_in_first at b (subst (λ (k : ℕ). Passing φs chosen test k at b) is_first p)
+  pub looked_none : LowestWrong (Below 1) None
+  looked_none = lowest_none (λ n at b (l, p). none_in_first at b (let first : n ≡ 0 = omega arith in subst (λ (k : ℕ). Passing φs chosen test k at b) first p))
 
-  module _ (t next : ℕ) (is_chosen : member chosen t ≡ true) (there : t ≤ length φs) (after : t + 1 ≤ next)
-      (skips : (x : ℕ) → t + 1 ≤ x → x < next → member chosen x ≡ false) where
-    pub looked_more : (w own : MaybeWrong) → own ≡ lowest_in t (test t) (template_at φs t) → LowestWrong (Below t) w
-        → LowestWrong (Below next) (lower_wrong w own)
-    looked_more w own is before =
-        rw is (lowest_iff (λ n at b. (to n at b, back n at b)) (lowest_lower before (lowest_in_lem t (test t) (template_at φs t))))
+  -- One template more, which is a chosen one or not.
+  module _ (t : ℕ) where
+    pub looked_past : member chosen t ≡ false → (w : MaybeWrong) → LowestWrong (Below t) w → LowestWrong (Below (t + 1)) w
+    looked_past absent w = lowest_iff (λ n at b. (λ (l, p). (omega arith, p), back n at b))
       where
-        to : (n at : ℕ) (b : Breach) → Below t n at b ⊎ Here t (test t) (template_at φs t) n at b → Below next n at b
-        to n at b (inl (l, p)) = (omega arith, p)
-        to n at b (inr (e, p)) = subst (λ (k : ℕ). Below next k at b) (sym e) (omega arith, (there, is_chosen, p))
-
-        back : (n at : ℕ) (b : Breach) → Below next n at b → Below t n at b ⊎ Here t (test t) (template_at φs t) n at b
-        back n at b (l, p) = go (ltb n t) refl (ℕ_discrete n t)
+        back : (n at : ℕ) (b : Breach) → Below (t + 1) n at b → Below t n at b
+        back n at b (l, p) = go (ℕ_discrete n t)
           where
-            go : (c : Bool) → ltb n t ≡ c → Dec (n ≡ t) → Below t n at b ⊎ Here t (test t) (template_at φs t) n at b
-            go true q d = inl (ltb-true n t q, p)
-            go false q (yes e) = inr (e, (subst (λ (k : ℕ). Passing φs chosen test k at b) e p).2)
-            go false q (no ne) = let le = ltb-false n t q in absurd (false≢true (sym (skips n (omega arith) l) ∙ p.1))
+            go : Dec (n ≡ t) → Below t n at b
+            go (yes e) = absurd (false≢true (sym absent ∙ subst (λ (k : ℕ). member chosen k ≡ true) e p.1))
+            go (no ne) = (omega arith, p)
+
+    module _ (is_chosen : member chosen t ≡ true) (there : t ≤ length φs) where
+      pub looked_more : (w own : MaybeWrong) → own ≡ lowest_in t (test t) (template_at φs t) → LowestWrong (Below t) w
+          → LowestWrong (Below (t + 1)) (lower_wrong w own)
+      looked_more w own is before =
+          rw is (lowest_iff (λ n at b. (to n at b, back n at b)) (lowest_lower before (lowest_in_lem t (test t) (template_at φs t))))
+        where
+          to : (n at : ℕ) (b : Breach) → Below t n at b ⊎ Here t (test t) (template_at φs t) n at b → Below (t + 1) n at b
+          to n at b (inl (l, p)) = (omega arith, p)
+          to n at b (inr (e, p)) = subst (λ (k : ℕ). Below (t + 1) k at b) (sym e) (omega arith, (there, is_chosen, p))
+
+          back : (n at : ℕ) (b : Breach) → Below (t + 1) n at b → Below t n at b ⊎ Here t (test t) (template_at φs t) n at b
+          back n at b (l, p) = go (ℕ_discrete n t)
+            where
+              go : Dec (n ≡ t) → Below t n at b ⊎ Here t (test t) (template_at φs t) n at b
+              go (yes e) = inr (e, (subst (λ (k : ℕ). Passing φs chosen test k at b) e p).2)
+              go (no ne) = inl (omega arith, p)
 
   pub looked_all : (t : ℕ) (w : MaybeWrong) → length φs < t → LowestWrong (Below t) w → LowestWrong (Passing φs chosen test) w
   looked_all t w past = lowest_iff (λ n at b. (λ (l, p). p, λ p. (let there = p.0 in omega arith, p)))

@@ -18,6 +18,7 @@ use Rattle.patterns.specs.Inner.Reached.{contents_of}
 use Rattle.patterns.specs.Inner.Elements.{carriable_names, content_outside, plain_breach}
 use Rattle.patterns.proofs.Tests.{any_below_lem, below_any}
 use Rattle.sets.proofs.Booleans.{and_both, and_left, and_right, refuted}
+use Rattle.patterns.specs.Inner.LowestWrong.{At}
 use Rattle.reach.specs.Inner.Walking.{TellsOutside}
 
 module _ (φs : List Items) (G : Summary) (C : Sets) (n : ℕ) (allowed : List ℕ) (φ : Items) (inside held : ℕ)

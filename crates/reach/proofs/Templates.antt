@@ -3,12 +3,11 @@ use Prim.Native.Nat.{ℕ, zero, suc, ◌+◌, ◌-◌, ◌≤◌, ◌<◌}
 use native.Mathlib.Omega.{arith}
 use mathlib.Core.Path.{◌≡◌, refl, sym, ap, ◌∙◌}
 use mathlib.Core.List.{List, [], ◌∷◌}
-use mathlib.Core.Bool.{true}
+use mathlib.Core.Bool.{true, false}
 use mathlib.Core.Logic.{◌⊎◌, ⊎_elim}
 use lib.ListN.{length, get_or}
 use Rattle.std.specs.Prelude.{None}
 use Rattle.sets.specs.Sets.{member}
-use Rattle.sets.specs.Inner.Promises.{FirstMember}
 use Rattle.commands.specs.Reading.{whole}
 use Rattle.vocabularies.specs.declared.Tables.{Tables}
 use Rattle.vocabularies.specs.Vocabulary.{Vocabulary, declared}
@@ -19,7 +18,7 @@ use Rattle.programs.specs.Program.{template_at}
 use Rattle.summaries.specs.Summaries.{Summary}
 use Rattle.patterns.specs.Inner.Rounds.{Sets}
 use Rattle.patterns.specs.Inner.LowestWrong.{MaybeWrong, lower_wrong, LowestWrong}
-use Rattle.patterns.proofs.LowestOf.{Below, looked_none, looked_more, looked_all}
+use Rattle.patterns.proofs.LowestOf.{Below, looked_none, looked_past, looked_more, looked_all}
 use Rattle.reach.specs.Inner.PlainlyWrong.{plainly_wrong}
 use Rattle.reach.specs.Inner.Promises.{GraphKept}
 use Rattle.reach.specs.Inner.Walking.{RulesKept, ContentsKept, TellsWrongIn, TellsPlainlyWrong}
@@ -46,42 +45,33 @@ rules_kept s D t d = record { allows = λ e r h. (d.rule e r h).allows; holds = 
 
 module _ (s allowed held starts : List ℕ) (count : ℕ) (graph within : List ℕ) (reached : ℕ) where
   -- The templates below t have been looked at.
-  pub record Looked (t : ℕ) (w : MaybeWrong) : Type 0 where
-    pub most : t ≤ 64
-    pub positive : 1 ≤ t
-    pub is_reached : t < 64 → member reached t ≡ true
-    pub told : (φs : List Items) (G : Summary) (C : Sets) (D : Vocabulary) → GraphKept φs G graph count → RulesKept D allowed held
-        → Located (declared D.rules) s φs count starts → ContentsKept φs C within
-        → LowestWrong (Below φs reached (λ n e mark δ φ. plainly_wrong φs G C D n e δ φ) t) w
+  abbrev pub Looked : ℕ → MaybeWrong → Type 0
+  Looked t w = (φs : List Items) (G : Summary) (C : Sets) (D : Vocabulary) → GraphKept φs G graph count → RulesKept D allowed held
+      → Located (declared D.rules) s φs count starts → ContentsKept φs C within
+      → LowestWrong (Below φs reached (λ n e mark δ φ. plainly_wrong φs G C D n e δ φ) t) w
 
-  pub looked_begin : (t : ℕ) → FirstMember reached 1 t → Looked t None
-  looked_begin t first = record {
-    most = first.within;
-    positive = first.after;
-    is_reached = first.is_held;
-    told = λ φs G C D kept rules located same. looked_none φs reached _ t first.skips;
-  }
+  pub looked_begin : Looked 1 None
+  looked_begin φs G C D kept rules located same = looked_none φs reached (λ n e mark δ φ. plainly_wrong φs G C D n e δ φ)
 
   module _ (t : ℕ) (w : MaybeWrong) (L : Looked t w) where
-    pub looked_next : t < 32 → t ≤ count → (own : MaybeWrong) → TellsWrongIn s allowed held (get_or starts t 0) graph t within own
-        → (lowest : MaybeWrong) → lowest ≡ lower_wrong w own → (next : ℕ) → FirstMember reached (t + 1) next → Looked next lowest
-    looked_next low there own T lowest is next first = record {
-      most = first.within;
-      positive = let a = first.after in omega arith;
-      is_reached = first.is_held;
-      told = λ φs G C D kept rules located same.
-          let at = get_or starts t 0 in
-          let fuel = (length s - at) + (length s - at) + 2 in
-          let q = located.counted in
-          let (end, reads) = located.located t L.positive (omega arith) fuel (omega arith) in
-          rw is (looked_more φs reached _ t next (L.is_reached (omega arith)) (omega arith) first.after first.skips w own
-          (T φs G C D count kept rules same fuel end (template_at φs t) (reads ∙ ap (λ (φ : Items). whole φ end) (sym (template_listed φs t L.positive))))
-          (L.told φs G C D kept rules located same));
-    }
+    pub looked_by : member reached t ≡ false → Looked (t + 1) w
+    looked_by absent φs G C D kept rules located same =
+        looked_past φs reached (λ n e mark δ φ. plainly_wrong φs G C D n e δ φ) t absent w (L φs G C D kept rules located same)
+
+    pub looked_next : 1 ≤ t → t < 32 → t ≤ count → member reached t ≡ true → (own : MaybeWrong) → TellsWrongIn s allowed held (get_or starts t 0) graph t within own
+        → (lowest : MaybeWrong) → lowest ≡ lower_wrong w own → Looked (t + 1) lowest
+    looked_next positive low there held own T lowest is φs G C D kept rules located same =
+        let at = get_or starts t 0 in
+        let fuel = (length s - at) + (length s - at) + 2 in
+        let q = located.counted in
+        let (end, reads) = located.located t positive (omega arith) fuel (omega arith) in
+        rw is (looked_more φs reached (λ n e mark δ φ. plainly_wrong φs G C D n e δ φ) t held (omega arith) w own
+        (T φs G C D count kept rules same fuel end (template_at φs t) (reads ∙ ap (λ (φ : Items). whole φ end) (sym (template_listed φs t positive))))
+        (L φs G C D kept rules located same))
 
     pub looked_end : (count < t) ⊎ (32 ≤ t) → TellsPlainlyWrong s allowed held starts count graph within reached w
     looked_end end φs G C D kept rules located same =
-        looked_all φs reached _ t w (past end) (L.told φs G C D kept rules located same)
+        looked_all φs reached (λ n e mark δ φ. plainly_wrong φs G C D n e δ φ) t w (past end) (L φs G C D kept rules located same)
       where
         past : (count < t) ⊎ (32 ≤ t) → length φs < t
         past e = let q = kept.counts in let few = kept.few in ⊎_elim (λ e. omega arith) (λ e. omega arith) e

@@ -2,7 +2,7 @@
 // attributes that they can carry or by their contents.
 #![tactic(auto)]
 
-ghost use Rattle.std.specs.Prelude.{◌≡◌, ℕ, ◌≤◌, ◌<◌, length};
+ghost use Rattle.std.specs.Prelude.{◌≡◌, ℕ, ◌≤◌, ◌<◌};
 ghost use Rattle.sets.specs.Sets.{member};
 ghost use Rattle.summaries.specs.Summaries.{Summary};
 ghost use Rattle.graphs.specs.Inner.Graphs.{Keeps};
@@ -21,39 +21,33 @@ pub fn yielding(classes: [[u64; 4]; 32], count: usize) -> u64
     ensures { TellsYielding classes count result }
 {
     let mut yields: u64 = 0;
-    let mut n: u8 = 0;
-    while n < 32 {
-        let t = n as usize;
-        if count < t {
+    for n in 0..32 {
+        if count < n {
             return yields;
         }
-        yields = sets::with_if(yields, n, !pattern_sets::is_empty(classes[t]));
-        n += 1;
+        yields = sets::with_if(yields, n as u8, !pattern_sets::is_empty(classes[n]));
     }
     yields
 }
 
 // A set, with the sets of the table that another set names.
 fn union_of(first: u64, set: u64, table: &[u64]) -> u64
-    requires { length table.now < 64 }
     ensures { United first set table.now result }
 {
     let mut all = first;
-    let mut i = sets::first_member(set, 0);
-    while i < 64 {
-        let k = i as usize;
-        if table.len() <= k {
+    let mut next = sets::next_member(set, 0);
+    while let Some(i) = next {
+        let Some(entry) = table.get(i as usize) else {
             return all;
-        }
-        all = sets::union(all, table[k]);
-        i = sets::first_member(set, i + 1);
+        };
+        all = sets::union(all, *entry);
+        next = sets::next_member(set, i + 1);
     }
     all
 }
 
 // The least set that has the members of a set and is closed under a table of edges. A round follows only what the last one added.
 fn closure(set: u64, table: &[u64]) -> u64
-    requires { length table.now < 64 }
     ensures { Closure set table.now result }
 {
     let mut all = set;
@@ -74,10 +68,10 @@ fn edges_of(graph: &Graph, n: usize, gaps: u64) -> u64
     ensures { (G : Summary) → Keeps graph.now G → (m : ℕ) → member result m ≡ edges_by G n gaps m }
 {
     let mut all: u64 = 0;
-    let mut g = sets::first_member(gaps, 0);
-    while g < 8 {
-        all = sets::union(all, graphs::edges(graph, n as u8, g as u8));
-        g = sets::first_member(gaps, g + 1);
+    for g in 0..8 {
+        if sets::has(gaps, g) {
+            all = sets::union(all, graphs::edges(graph, n as u8, g));
+        }
     }
     all
 }
@@ -87,13 +81,11 @@ fn edge_table(graph: &Graph, gaps: &[u64; 32], count: usize, yields: u64) -> [u6
     ensures { (G : Summary) → Keeps graph.now G → EdgeTable G gaps.now count yields result }
 {
     let mut table = [0u64; 32];
-    let mut n = 0;
-    while n < 32 {
+    for n in 0..32 {
         if count < n {
             return table;
         }
         table[n] = sets::common(edges_of(graph, n, gaps[n]), yields);
-        n += 1;
     }
     table
 }
@@ -273,7 +265,7 @@ fn walk_items(
 
 // The contents among the outer items of the templates that template n leads to, itself one of them, if pages come of it.
 fn contents_at(n: u8, targets: &[u64], contents: &[u64], yields: u64) -> u64
-    requires { (n < 64) × (length targets.now < 64) × (length contents.now < 64) }
+    requires { n < 64 }
     ensures { LedContents n targets.now contents.now yields result }
 {
     let start = sets::with_if(0, n, sets::has(yields, n));
@@ -292,13 +284,11 @@ pub fn contents_of(
 {
     let targets = edge_table(graph, gaps, count, yields);
     let mut table = [0u64; 32];
-    let mut n = 0;
-    while n < 32 {
+    for n in 0..32 {
         if count < n {
             return table;
         }
         table[n] = contents_at(n as u8, &targets, contents, yields);
-        n += 1;
     }
     table
 }
@@ -309,10 +299,8 @@ fn brings_of(graph: &Graph, n: usize, within: &[u64; 32]) -> [u64; 8]
     ensures { TellsBrings graph.now n within.now result }
 {
     let mut brings = [0u64; 8];
-    let mut g: u8 = 0;
-    while g < 8 {
-        brings[g as usize] = union_of(0, graphs::edges(graph, n as u8, g), within);
-        g += 1;
+    for g in 0..8 {
+        brings[g] = union_of(0, graphs::edges(graph, n as u8, g as u8), within);
     }
     brings
 }
@@ -358,15 +346,15 @@ pub fn plainly_wrong(
     ensures { TellsPlainlyWrong s.now attributes.now contents.now templates.now.starts templates.now.count graph.now within.now reached result }
 {
     let mut lowest = None;
-    let mut t = sets::first_member(reached, 1);
-    while t < 32 {
-        let n = t as usize;
-        if count < n {
+    for n in 1..32 {
+        if templates.count < n {
             return lowest;
         }
-        let found = wrong_in(s, attributes, contents, starts[n], graph, n, within);
-        lowest = patterns::lower(lowest, found);
-        t = sets::first_member(reached, t + 1);
+        if sets::has(reached, n as u8) {
+            let at = templates.starts[n];
+            let found = wrong_in(s, attributes, contents, at, graph, n, within);
+            lowest = patterns::lower(lowest, found);
+        }
     }
     lowest
 }

@@ -1,24 +1,23 @@
+use mathlib.Core.Path.{sym, ◌∙◌}
 use mathlib.Core.Logic.{inl, inr}
 use native.Mathlib.Omega.{arith}
-use Rattle.reach.proofs.Templates.{looked_begin, looked_next, looked_end}
+use Rattle.reach.proofs.Templates.{looked_begin, looked_by, looked_next, looked_end}
 use Rattle.reach.proofs.plainly_wrong.Goals as goal
+use Rattle.reach.proofs.plainly_wrong.Goals.{then-has, else-has}
 
-pub loop-t-init : goal.loop-t-init
-loop-t-init c = let args = c.args in
-    looked_begin args.s.now args.attributes.now args.contents.now args.starts.now args.count args.graph.now args.within.now args.reached _ c.first_member-t.ensures
+pub loop-n-init : goal.loop-n-init
+loop-n-init c = looked_begin _ _ _ _ _ _ _ _
 
-pub overflow_cast-n : goal.overflow_cast-n
-overflow_cast-n c = omega arith
+pub returns-then-templates-n : goal.returns-then-templates-n
+returns-then-templates-n c = looked_end _ _ _ _ _ _ _ _ _ _ c.loop-n.invariant (inl c.if-templates-n.true)
 
-pub returns-then-count-n : goal.returns-then-count-n
-returns-then-count-n c = looked_end _ _ _ _ _ _ _ _ _ _ c.loop-t.invariant (inl c.if-count-n.true)
-
-pub loop-t-smaller : goal.loop-t-smaller
-loop-t-smaller c = omega (arith, c.first_member-t-in-loop-t.ensures.after, c.loop-t.invariant.most)
-
-pub loop-t-preserved : goal.loop-t-preserved
-loop-t-preserved c = looked_next _ _ _ _ _ _ _ _ _ _ c.loop-t.invariant c.loop-t-test.true c.if-count-n.false
-    c.wrong_in-found.result c.wrong_in-found.ensures c.lower-lowest.result c.lower-lowest.ensures _ c.first_member-t-in-loop-t.ensures
+pub loop-n-preserved : goal.loop-n-preserved
+loop-n-preserved c = let low = c.loop-n-test.true in
+    elim c.if-has.branch [
+      | then-has m ↦ rw m.lowest-is (looked_next _ _ _ _ _ _ _ _ _ _ c.loop-n.invariant c.loop-n.auto.n low c.if-templates-n.false (sym c.has.ensures ∙ m.if-has.true)
+          m.wrong_in-found.result m.wrong_in-found.ensures m.lower-lowest.result m.lower-lowest.ensures)
+      | else-has m ↦ rw m.lowest-is (looked_by _ _ _ _ _ _ _ _ _ _ c.loop-n.invariant (sym c.has.ensures ∙ m.if-has.false))
+    ]
 
 pub returns : goal.returns
-returns c = looked_end _ _ _ _ _ _ _ _ _ _ c.loop-t.invariant (inr c.loop-t-test.false)
+returns c = looked_end _ _ _ _ _ _ _ _ _ _ c.loop-n.invariant (inr c.loop-n-test.false)
