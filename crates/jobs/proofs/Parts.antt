@@ -1,6 +1,6 @@
 -- A script and a job, part by part: what each part's reading tells of the whole.
-use Prim.Native.Nat.{ℕ, ◌≤◌, ◌<◌}
-use mathlib.Core.Path.{◌≡◌, refl, sym, ap, ◌∙◌, subst, fun_ext}
+use Prim.Native.Nat.{ℕ, ◌≤◌}
+use mathlib.Core.Path.{◌≡◌, refl, ap, ◌∙◌, subst, fun_ext}
 use mathlib.Core.List.{List}
 use mathlib.Core.Bool.{Bool, true, false}
 use lib.ListN.{length}
@@ -11,7 +11,7 @@ use Rattle.verdicts.specs.declared.Form.TheVariants.{TooLong, NotAllowed}
 use Rattle.sets.specs.Sets.{member}
 use Rattle.commands.specs.declared.Position.{Position}
 use Rattle.commands.specs.declared.ReadError.{ReadError}
-use Rattle.commands.specs.Reading.{Read, whole, refused, unfinished, and_then, when, enough}
+use Rattle.commands.specs.Reading.{Read, whole, refused, and_then, when, enough}
 use Rattle.commands.specs.Inner.Parts.{AgreesAs, AgreesWith}
 use Rattle.vocabularies.specs.declared.Tables.{Tables}
 use Rattle.vocabularies.specs.Vocabulary.{Vocabulary, declared}
@@ -121,7 +121,8 @@ module _ {s : List ℕ} {v : Tables} {next : Position} {t : Templates} {next' : 
   pub program_last : (p : Points) (end : Position) → ProgramReads s t.count next'.at (Ok (p, end)) → ScriptReads s (Ok (record { tables = v; templates = t; points = p }, end))
   program_last p end reads =
       let h = agrees_with_whole TabledHere (program (enough s) (length φs) s next'.at) (Ok (p, end)) p end refl (p_agrees (Ok (p, end)) reads) in
-      script_whole s there.before.fits (of_parts s (D there.before) φs h.tree) h.end (record { tables = v; templates = t; points = p }) end (after_t ∙ rw h.reads) h.ends
+      script_whole s there.before.fits (of_parts s (D there.before) φs h.tree) end.at (record { tables = v; templates = t; points = p }) end
+      (after_t ∙ whole_then (λ ts at. TabledHere ts p) (program (enough s) (length φs) s next'.at) end h (λ ts at. whole (of_parts s (D there.before) φs ts) at)) refl
       (record { vocabulary = (v_tree there.before).holds; templates = t_tree.holds; program = h.holds })
 
 -- Bytes that are read alone: not too many, and nothing after the last part.

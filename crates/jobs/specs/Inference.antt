@@ -2,8 +2,7 @@
 use Rattle.std.specs.Prelude.{ℕ, ◌+◌, ◌≤◌, ◌<◌, ◌≡◌, List, ◌++◌, length, take, drop, replicate}
 use Rattle.verdicts.specs.declared.Form.{Form}
 use Rattle.verdicts.specs.declared.Numbers.{Numbers}
-use Rattle.verdicts.specs.declared.Writing.{Writing}
-use Rattle.verdicts.specs.Printed.{prints, form_number, numbers_of, verdict_of, bytes_written}
+use Rattle.verdicts.specs.Printed.{prints, form_number, Writing, numbers_of, verdict_of, bytes_written}
 use Rattle.commands.specs.Reading.{Read, whole, refused}
 use Rattle.vocabularies.specs.VocabularyReading.{most_bytes, alone}
 use Rattle.summaries.specs.Summaries.{Environment}

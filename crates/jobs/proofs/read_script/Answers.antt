@@ -1,15 +1,24 @@
 -- Each answer is the one that its parts lead to.
-use native.Mathlib.Omega.{arith}
-use Rattle.jobs.proofs.Parts.{VocabularyThere, TemplatesThere, templates_refuse, program_last}
+use Rattle.std.proofs.Common.{rules}
+use Rattle.jobs.proofs.Parts.{vocabulary_refuses, VocabularyThere, templates_refuse, TemplatesThere, program_refuses, program_last}
 use Rattle.jobs.proofs.read_script.Goals as goal
 
-pub returns-in_default-second : goal.returns-in_default-second
-returns-in_default-second c =
-    let there : VocabularyThere c.args.s.now c.read_vocabulary-vocabulary.result c.in-Whole.next = record { fits = omega arith; reads = c.read_vocabulary-vocabulary.ensures; is_whole = c.in-Whole.is } in
-    templates_refuse there _ c.read_templates-templates.ensures _ _ _ c.in_default-second.is c.unread-in_default-second.ensures
+pub returns-in_err-tables : goal.returns-in_err-tables
+returns-in_err-tables c = search (rules, vocabulary_refuses c.args.s.now _ c.in_ok-not_too_many.ensures c.in_err-tables.ensures)
+
+pub returns-in_err-templates : goal.returns-in_err-templates
+returns-in_err-templates c =
+    let there : VocabularyThere c.args.s.now c.in_ok-tables.tables c.in_ok-tables.next = record { fits = c.in_ok-not_too_many.ensures; reads = c.in_ok-tables.ensures } in
+    search (rules, templates_refuse there _ c.in_err-templates.ensures)
+
+pub returns-in_err-points : goal.returns-in_err-points
+returns-in_err-points c =
+    let there : VocabularyThere c.args.s.now c.in_ok-tables.tables c.in_ok-tables.next = record { fits = c.in_ok-not_too_many.ensures; reads = c.in_ok-tables.ensures } in
+    let both : TemplatesThere c.args.s.now c.in_ok-tables.tables c.in_ok-tables.next c.in_ok-templates.templates c.in_ok-templates.next = record { before = there; reads = c.in_ok-templates.ensures } in
+    search (rules, program_refuses both _ c.in_err-points.ensures)
 
 pub returns : goal.returns
 returns c =
-    let there : VocabularyThere c.args.s.now c.read_vocabulary-vocabulary.result c.in-Whole.next = record { fits = omega arith; reads = c.read_vocabulary-vocabulary.ensures; is_whole = c.in-Whole.is } in
-    let both : TemplatesThere c.args.s.now c.read_vocabulary-vocabulary.result c.in-Whole.next c.read_templates-templates.result c.in-Whole-second.next = record { before = there; reads = c.read_templates-templates.ensures; is_whole = c.in-Whole-second.is } in
-    program_last both _ c.read_program-program.ensures
+    let there : VocabularyThere c.args.s.now c.in_ok-tables.tables c.in_ok-tables.next = record { fits = c.in_ok-not_too_many.ensures; reads = c.in_ok-tables.ensures } in
+    let both : TemplatesThere c.args.s.now c.in_ok-tables.tables c.in_ok-tables.next c.in_ok-templates.templates c.in_ok-templates.next = record { before = there; reads = c.in_ok-templates.ensures } in
+    program_last both c.in_ok-points.points c.in_ok-points.end c.in_ok-points.ensures
