@@ -1,7 +1,7 @@
 -- The variables that values are made from: of an act whose numbers are in range they are there.
 use Prim.Native.Nat.{ℕ, ◌≤◌, ◌<◌}
-use mathlib.Core.Path.{◌≡◌, refl}
-use mathlib.Core.Bool.{Bool, true, false, ◌||◌}
+use mathlib.Core.Path.{◌≡◌}
+use mathlib.Core.Bool.{true}
 use Rattle.programs.specs.Program.{Act, Variable, template_variable, string_variable}
 use Rattle.programs.specs.ProgramReading.{act_templates_there}
 use Rattle.programs.specs.Inner.Promises.{ActFits, IsVariable}
@@ -12,10 +12,6 @@ use Rattle.transfers.specs.declared.MadeString.TheVariants.{One, Any}
 use Rattle.transfers.specs.declared.MadeString.TheVariants as Strings
 use Rattle.transfers.specs.Inner.Ways.{made_by, string_made_by, MadeFits, StringMadeFits, sources, string_sources, act_sources}
 use Rattle.transfers.proofs.Transfers.{made_fits, string_made_fits}
-
-pub twice : (t : Bool) → t ≡ (t || t)
-twice true = refl
-twice false = refl
 
 template_source : (x : ℕ) → x < 4 → (way : Made) → MadeFits way → IsVariable (sources x way).0
 template_source x low (Value z) f = f

@@ -1,9 +1,0 @@
--- A variable is below 4.
-use borrow.Author.Tests.{lt-ltb, le-ltb}
-use Rattle.transfers.proofs.has_string.Goals as goal
-
-pub returns-then-y-ge4 : goal.returns-then-y-ge4
-returns-then-y-ge4 c = rw (le-ltb _ 4 c.if-y-ge4.true)
-
-pub returns : goal.returns
-returns c = rw (lt-ltb _ 4 c.if-y-ge4.false) c.has.ensures
