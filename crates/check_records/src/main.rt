@@ -4,15 +4,13 @@
 
 ghost use Rattle.std.specs.Prelude.{◌≡◌, length};
 
-use records::Found;
 use std::io;
 
 // Checks the next job, and answers whether there was one.
 fn check_next(rt: &HostRuntime, buffer: &mut [u8]) -> io::Result<bool>
     requires { length buffer.old ≡ 65536 }
 {
-    let found = records::read_slice(rt, true, buffer);
-    let Found::Bytes(n) = found else {
+    let Ok(n) = records::read_slice(rt, true, buffer) else {
         return Ok(false);
     };
     records::print_verdict(rt, buffers::job_numbers(buffer, n))?;

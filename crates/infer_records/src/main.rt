@@ -4,7 +4,6 @@
 
 ghost use Rattle.std.specs.Prelude.{◌≡◌, length};
 
-use records::Found;
 use std::io;
 
 // Works out the proposal of the next script, and answers whether there was one.
@@ -16,8 +15,7 @@ fn infer_next(
 ) -> io::Result<bool>
     requires { length script.old ≡ 65536 }
 {
-    let found = records::read_slice(rt, true, script);
-    let Found::Bytes(n) = found else {
+    let Ok(n) = records::read_slice(rt, true, script) else {
         return Ok(false);
     };
     let answer = script_buffers::infer_script(script, n, work, buffer);

@@ -3,7 +3,6 @@
 
 ghost use Rattle.std.specs.Prelude.{◌≡◌, length};
 
-use records::Found;
 use std::io;
 
 // Judges the next page, and answers whether there was one.
@@ -11,12 +10,10 @@ fn judge_next(rt: &HostRuntime, vocabulary: &mut [u8], page: &mut [u8]) -> io::R
     requires vocabulary_len { length vocabulary.old ≡ 65536 }
     requires page_len { length page.old ≡ 65536 }
 {
-    let first = records::read_slice(rt, true, vocabulary);
-    let Found::Bytes(n) = first else {
+    let Ok(n) = records::read_slice(rt, true, vocabulary) else {
         return Ok(false);
     };
-    let second = records::read_slice(rt, false, page);
-    let Found::Bytes(m) = second else {
+    let Ok(m) = records::read_slice(rt, false, page) else {
         return Ok(false);
     };
     records::print_verdict(rt, buffers::page_numbers(vocabulary, n, page, m))?;

@@ -5,29 +5,19 @@
 ghost use Rattle.std.specs.Prelude.{◌≤◌, ◌≡◌, length};
 ghost use Rattle.verdicts.specs.Printed.{bytes_written};
 
-use records::Filled;
 use std::io;
 use verdicts::Writing;
 
 // Writes the script and the proposal behind it, or tells the refusal.
-fn write_job(
-    rt: &HostRuntime,
-    script: &[u8],
-    n: usize,
-    buffer: &[u8],
-    answer: Writing,
-) -> io::Result<()>
-    requires n_in_bounds { n ≤ length script.now }
-    requires answer_in_bounds { bytes_written answer ≤ length buffer.now }
+fn write_job(rt: &HostRuntime, script: &[u8], buffer: &[u8], answer: Writing) -> io::Result<()>
+    requires { bytes_written answer ≤ length buffer.now }
 {
     match answer {
-        Writing::Written(m) => {
-            records::write_bytes(rt, &script[..n])?;
+        Ok(m) => {
+            records::write_bytes(rt, script)?;
             records::write_bytes(rt, &buffer[..m])
         }
-        Writing::Refused(_) => {
-            records::tell_verdict(rt, verdicts::numbers_of(verdicts::verdict_of(answer)))
-        }
+        Err(_) => { records::tell_verdict(rt, verdicts::numbers_of(verdicts::verdict_of(answer))) }
     }
 }
 
@@ -40,12 +30,11 @@ fn infer_input(
 ) -> io::Result<()>
     requires { length script.old ≡ 65536 }
 {
-    let filled = records::fill(rt, script);
-    let Filled::Bytes(n) = filled else {
+    let Ok(n) = records::fill(rt, script) else {
         return Ok(());
     };
     let answer = script_buffers::infer_script(script, n, work, buffer);
-    write_job(rt, script, n, buffer, answer)
+    write_job(rt, &script[..n], buffer, answer)
 }
 
 fn main(rt: HostRuntime) -> io::Result<()> {

@@ -1,5 +1,5 @@
--- The digits of bytes, byte by byte.
-use Prim.Native.Nat.{ℕ, zero, suc, ◌+◌, ◌-◌, ◌≤◌, ◌<◌}
+-- Bytes that spell a number, and the digits of bytes, byte by byte.
+use Prim.Native.Nat.{ℕ, zero, suc, ◌+◌, ◌*◌, ◌≤◌, ◌<◌}
 use native.Mathlib.Omega.{arith}
 use native.Mathlib.Nat.{le_of_suc-le-suc, not-suc-le-zero}
 use native.Mathlib.Numerals.{add-one}
@@ -7,16 +7,18 @@ use mathlib.Core.Path.{◌≡◌, refl, sym, ap}
 use mathlib.Core.List.{List, [], ◌∷◌, ◌++◌}
 use lib.ListN.{length, get_or, take}
 use lib.Seq.{length-take-le, take_all}
-use borrow.Author.Tests.{lt-ltb, le-ltb}
 use Rattle.memory.specs.Inner.Laid.{Writes}
 use Rattle.memory.proofs.Laid.{writes_none, writes_then, writes_same, writes_length}
-use Rattle.records.specs.Spelling.{hex_digit, digits_of, spelt}
+use Rattle.records.specs.Spelling.{digits_of, spelt}
+use Rattle.records.specs.Reading.{number_of}
 
-pub low_digit : (d : ℕ) → d < 10 → 48 + d ≡ hex_digit d
-low_digit d l = rw (lt-ltb d 10 l)
-
-pub high_digit : (d : ℕ) → 10 ≤ d → 65 + (d - 10) ≡ hex_digit d
-high_digit d l = rw (le-ltb d 10 l) (omega arith)
+pub four : (bs : List ℕ) → get_or bs 0 0 + 256 * get_or bs 1 0 + 65536 * get_or bs 2 0 + 16777216 * get_or bs 3 0 ≡ number_of 4 bs
+unfolding number_of
+four [] = refl
+four (a ∷ []) = omega arith
+four (a ∷ b ∷ []) = omega arith
+four (a ∷ b ∷ c ∷ []) = omega arith
+four (a ∷ b ∷ c ∷ d ∷ bs) = omega arith
 
 pub spelt_length : (bs : List ℕ) → length (spelt bs) ≡ length bs + length bs
 unfolding spelt
