@@ -63,7 +63,7 @@ pub enum AttributeHere {
     Done,
 }
 
-// The gaps found, bit g for gap g and bit 8 + h for attribute gap h, and the position after what was searched.
+// The gaps found so far, bit g for gap g and bit 8 + h for attribute gap h, and the position after what was searched.
 #[derive(Clone, Copy)]
 pub struct GapsFound {
     pub gaps: u64,
@@ -169,59 +169,59 @@ pub fn after_attributes(s: &[u8], here: Position) -> Position
     }
 }
 
-// The gaps of the attributes here, added to others.
-fn attribute_gaps(s: &[u8], here: Position, gaps: u64) -> GapsFound
-    ensures forward { here.at ≤ result.next.at }
-    ensures found { AttributeGaps s.now here.at gaps result }
+// The gaps of the attributes after those found, added to them.
+fn attribute_gaps(s: &[u8], before: GapsFound) -> GapsFound
+    ensures forward { before.next.at ≤ result.next.at }
+    ensures found { AttributeGaps s.now before.next.at before.gaps result }
 {
-    let mut all = gaps;
-    let mut p = here;
+    let mut found = before;
     loop {
-        let attribute = attribute_here(s, p);
+        let attribute = attribute_here(s, found.next);
         match attribute {
-            AttributeHere::Fixed { next, .. } => p = next,
+            AttributeHere::Fixed { next, .. } => found.next = next,
             AttributeHere::Open { gap, next, .. } => {
-                all = sets::with(all, 8 + gap);
-                p = next;
+                found.gaps = sets::with(found.gaps, 8 + gap);
+                found.next = next;
             }
-            AttributeHere::Done => return GapsFound { gaps: all, next: p },
+            AttributeHere::Done => return found,
         }
     }
 }
 
-// The gaps of an element whose attributes stand here, added to others.
+// The gaps of an element whose attributes stand after those found, added to them.
 #[cycle(element_gaps_items_gaps)]
-fn element_gaps(s: &[u8], here: Position, gaps: u64) -> GapsFound
-    ensures forward { here.at ≤ result.next.at }
-    ensures found { ElementGaps s.now here.at gaps result }
+fn element_gaps(s: &[u8], before: GapsFound) -> GapsFound
+    ensures forward { before.next.at ≤ result.next.at }
+    ensures found { ElementGaps s.now before.next.at before.gaps result }
 {
-    let named = attribute_gaps(s, here, gaps);
-    items_gaps(s, named.next, named.gaps)
+    let named = attribute_gaps(s, before);
+    items_gaps(s, named)
 }
 
-// The gaps of a list of items, added to others.
+// The gaps of the list of items after those found, added to them.
 #[cycle(element_gaps_items_gaps)]
-fn items_gaps(s: &[u8], here: Position, gaps: u64) -> GapsFound
-    ensures forward { here.at ≤ result.next.at }
-    ensures found { ItemsGaps s.now here.at gaps result }
+fn items_gaps(s: &[u8], before: GapsFound) -> GapsFound
+    ensures forward { before.next.at ≤ result.next.at }
+    ensures found { ItemsGaps s.now before.next.at before.gaps result }
 {
-    let mut all = gaps;
-    let mut p = here;
+    let mut found = before;
     loop {
-        let item = item_here(s, p);
+        let item = item_here(s, found.next);
         match item {
-            ItemHere::Text(next) => p = next,
+            ItemHere::Text(next) => found.next = next,
             ItemHere::Gap(g, next) => {
-                all = sets::with(all, g);
-                p = next;
+                found.gaps = sets::with(found.gaps, g);
+                found.next = next;
             }
             ItemHere::Element(_, next) => {
-                let inside = element_gaps(s, next, all);
-                all = inside.gaps;
-                p = inside.next;
+                found.next = next;
+                found = element_gaps(s, found);
             }
-            ItemHere::Blank(next) => p = next,
-            ItemHere::End(next) => return GapsFound { gaps: all, next },
+            ItemHere::Blank(next) => found.next = next,
+            ItemHere::End(next) => {
+                found.next = next;
+                return found;
+            }
         }
     }
 }
@@ -230,7 +230,11 @@ fn items_gaps(s: &[u8], here: Position, gaps: u64) -> GapsFound
 fn gaps_at(s: &[u8], here: Position) -> u64
     ensures { (φ : Items) → ItemsStand s.now here.at φ → GapsAre result φ }
 {
-    items_gaps(s, here, 0).gaps
+    let none = GapsFound {
+        gaps: 0,
+        next: here,
+    };
+    items_gaps(s, none).gaps
 }
 
 // The gaps of every template. Template 0 has none.

@@ -23,8 +23,8 @@ items_gaps-loop-next-smaller-in-Text t c = let m = text_moves _ _ _ c.item_here-
 pub items_gaps-loop-next-preserved-in-Text : goal.items_gaps-loop-next-preserved-in-Text
 items_gaps-loop-next-preserved-in-Text t c = text_gaps _ _ _ c.item_here-item.ensures.is c.item_here-item.ensures.moves _ _ _ c.loop-next.invariant _ c.in-Text.is
 
-pub items_gaps-with-all-requires : goal.items_gaps-with-all-requires
-items_gaps-with-all-requires t c = let m = gap_moves _ _ _ c.item_here-item.ensures.moves _ _ c.in-Gap.is in
+pub items_gaps-with-requires : goal.items_gaps-with-requires
+items_gaps-with-requires t c = let m = gap_moves _ _ _ c.item_here-item.ensures.moves _ _ c.in-Gap.is in
     omega (arith, m.1)
 
 pub items_gaps-loop-next-smaller-in-Gap : goal.items_gaps-loop-next-smaller-in-Gap
@@ -32,18 +32,18 @@ items_gaps-loop-next-smaller-in-Gap t c = let m = (gap_moves _ _ _ c.item_here-i
     omega (arith, m.inside, m.forward)
 
 pub items_gaps-loop-next-preserved-in-Gap : goal.items_gaps-loop-next-preserved-in-Gap
-items_gaps-loop-next-preserved-in-Gap t c = gap_gaps _ _ _ c.item_here-item.ensures.is c.item_here-item.ensures.moves _ _ _ c.loop-next.invariant _ _ c.in-Gap.is _ c.with-all.ensures
+items_gaps-loop-next-preserved-in-Gap t c = gap_gaps _ _ _ c.item_here-item.ensures.is c.item_here-item.ensures.moves _ _ _ c.loop-next.invariant _ _ c.in-Gap.is _ c.with.ensures
 
-pub items_gaps-element_gaps-inside-requires : goal.items_gaps-element_gaps-inside-requires
-items_gaps-element_gaps-inside-requires t c = let m = (element_moves _ _ _ c.item_here-item.ensures.moves _ _ c.in-Element.is).0 in
+pub items_gaps-element_gaps-found-requires : goal.items_gaps-element_gaps-found-requires
+items_gaps-element_gaps-found-requires t c = let m = (element_moves _ _ _ c.item_here-item.ensures.moves _ _ c.in-Element.is).0 in
     (omega (arith, m.inside, m.forward, c.loop-next.invariant.forward), tt)
 
 pub items_gaps-loop-next-smaller-in-Element : goal.items_gaps-loop-next-smaller-in-Element
 items_gaps-loop-next-smaller-in-Element t c = let m = (element_moves _ _ _ c.item_here-item.ensures.moves _ _ c.in-Element.is).0 in
-    omega (arith, m.inside, m.forward, c.element_gaps-inside.ensures.forward)
+    omega (arith, m.inside, m.forward, c.element_gaps-found.ensures.forward)
 
 pub items_gaps-loop-next-preserved-in-Element : goal.items_gaps-loop-next-preserved-in-Element
-items_gaps-loop-next-preserved-in-Element t c = element_gaps_go _ _ _ c.item_here-item.ensures.is c.item_here-item.ensures.moves _ _ _ c.loop-next.invariant _ _ c.in-Element.is c.element_gaps-inside.result c.element_gaps-inside.ensures.forward c.element_gaps-inside.ensures.found
+items_gaps-loop-next-preserved-in-Element t c = element_gaps_go _ _ _ c.item_here-item.ensures.is c.item_here-item.ensures.moves _ _ _ c.loop-next.invariant _ _ c.in-Element.is c.element_gaps-found.result c.element_gaps-found.ensures.forward c.element_gaps-found.ensures.found
 
 pub items_gaps-loop-next-smaller : goal.items_gaps-loop-next-smaller
 items_gaps-loop-next-smaller t c = let m = blank_moves _ _ _ c.item_here-item.ensures.moves _ c.in-Blank.is in

@@ -18,8 +18,8 @@ pub overflow_add-gap : goal.overflow_add-gap
 overflow_add-gap c = let m = open_moves _ _ _ c.attribute_here-attribute.ensures.moves _ _ _ c.in-Open.is in
     record { fits = omega (arith, m.2) }
 
-pub with-all-requires : goal.with-all-requires
-with-all-requires c = let m = open_moves _ _ _ c.attribute_here-attribute.ensures.moves _ _ _ c.in-Open.is in
+pub with-requires : goal.with-requires
+with-requires c = let m = open_moves _ _ _ c.attribute_here-attribute.ensures.moves _ _ _ c.in-Open.is in
     omega (arith, m.2)
 
 pub loop-next-smaller : goal.loop-next-smaller
@@ -27,7 +27,7 @@ loop-next-smaller c = let m = (open_moves _ _ _ c.attribute_here-attribute.ensur
     omega (arith, m.inside, m.forward)
 
 pub loop-next-preserved : goal.loop-next-preserved
-loop-next-preserved c = open_gaps _ _ _ c.attribute_here-attribute.ensures.is c.attribute_here-attribute.ensures.moves _ _ _ c.loop-next.invariant _ _ _ c.in-Open.is _ c.with-all.ensures
+loop-next-preserved c = open_gaps _ _ _ c.attribute_here-attribute.ensures.is c.attribute_here-attribute.ensures.moves _ _ _ c.loop-next.invariant _ _ _ c.in-Open.is _ c.with.ensures
 
 pub returns-in-Done : goal.returns-in-Done
 returns-in-Done c =

@@ -6,7 +6,7 @@ use Rattle.pages.proofs.Gathering.{Onto}
 use Rattle.pages.proofs.attribute_gaps.Given as goal
 
 abbrev pub invariant-loop-next : goal.invariant-loop-next
-invariant-loop-next l = Onto (AttributeGaps l.s) l.initial.p.at l.initial.all l.p.at l.all
+invariant-loop-next l = Onto (AttributeGaps l.s) l.initial.found.next.at l.initial.found.gaps l.found.next.at l.found.gaps
 
 abbrev pub decreases-loop-next : goal.decreases-loop-next
-decreases-loop-next l = length l.s - l.p.at
+decreases-loop-next l = length l.s - l.found.next.at
