@@ -282,7 +282,15 @@ pub fn fill_within(
     ensures empty { Keeps graph.new nothing }
 {
     load(s, there, graph);
-    let holds = items_hold(s, from, graph, Passing::Filling { gap: attribute, strings });
+    let holds = items_hold(
+        s,
+        from,
+        graph,
+        Passing::Filling {
+            gap: attribute,
+            strings,
+        },
+    );
     unload(s, there, graph);
     holds
 }
