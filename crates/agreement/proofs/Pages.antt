@@ -4,7 +4,7 @@ use Prim.Native.Nat.{ℕ, ◌≤◌, ◌+◌}
 use native.Mathlib.Omega.{arith}
 use mathlib.Core.Path.{◌≡◌, refl, sym, ◌∙◌}
 use mathlib.Core.List.{List}
-use mathlib.Core.Bool.{true, false, false≢true}
+use mathlib.Core.Bool.{false, false≢true}
 use mathlib.Core.Option.{Option}
 use mathlib.Core.Logic.{inl, inr}
 use borrow.Author.Tests.{eq-eqb}
@@ -14,7 +14,6 @@ use Rattle.verdicts.specs.declared.Breach.{Breach}
 use Rattle.vocabularies.specs.Vocabulary.{Vocabulary, rule_of, declared}
 use Rattle.vocabularies.proofs.Laws.{rule_found}
 use Rattle.pages.specs.Items.{Attribute, Item, text, blank, gap, element, Items, more, gap_in, gap_in_item}
-use Rattle.pages.specs.Items as Items
 use Rattle.pages.specs.RightPages.{ElementWrong, FirstBreach, Accepts, AcceptsItem, SomeElement, SomeElementOf, WrongAt}
 use Rattle.judging.specs.Inner.Judgement.{FirstWrong, or_else, of_element, first_wrong, first_wrong_item}
 use Rattle.agreement.proofs.Breaches.{first_told, first_below, first_of, BreachFound, no_breach, breaks}
