@@ -27,7 +27,7 @@ use Rattle.states.proofs.Entries.{nothing_held, no_string_held}
 use Rattle.least_entries.specs.Inner.Order.{Below}
 use Rattle.programs.proofs.AtPoints.{past_stops}
 use Rattle.solver.specs.Inner.Flows.{Starts, made_from, Settling}
-use Rattle.solver.specs.Inner.Work.{ZeroPoints, RisesOr, waits_in, Working, NoneWaits, Visited, all_variables, FirstWaiting, Started}
+use Rattle.solver.specs.Inner.Work.{ZeroPoints, RisesOr, waits_in, Working, NoneWaits, Visited, all_variables, Started}
 use Rattle.solver.proofs.Variables.{among_none, among_all, number_there}
 use Rattle.solver.proofs.Worklist.{settling_starts, settled}
 use Rattle.solver.proofs.Bounds.{act_fits, act_there, few_there}
@@ -125,9 +125,9 @@ module _ (s gaps : List ℕ) (points : ℕ) (places : List ℕ) (names : ℕ) wh
     }
 
   module _ (work waiting : List ℕ) (W : Working s gaps points places names work waiting) where
-    pub working_ends : (p : ℕ) → FirstWaiting waiting p → 32 ≤ p → (π : Script) (count : ℕ) (starts : List ℕ) → ScriptTables π s count starts points places names → GapsTable gaps π.templates → Least π (entries_in points work)
-    working_ends p F far π count starts T G = settled π (entries_in points work) (waits_in waiting) (W.settling π count starts T G) (λ q w. rw (none q (ltb q points) refl) (among_none w))
+    pub working_ends : ((q : ℕ) → q < 32 → get_or waiting q 0 ≡ 0) → (π : Script) (count : ℕ) (starts : List ℕ) → ScriptTables π s count starts points places names → GapsTable gaps π.templates → Least π (entries_in points work)
+    working_ends done π count starts T G = settled π (entries_in points work) (waits_in waiting) (W.settling π count starts T G) (λ q w. rw (none q (ltb q points) refl) (among_none w))
       where
         none : (q : ℕ) (t : Bool) → ltb q points ≡ t → get_or waiting q 0 ≡ 0
-        none q true e = let l = ltb-true q points e in F.skips q (let few = T.few_points in omega arith)
+        none q true e = let l = ltb-true q points e in done q (let few = T.few_points in omega arith)
         none q false e = W.there π count starts T G q (ltb-false q points e)

@@ -23,7 +23,7 @@ use Rattle.graphs.specs.Inner.Graphs.{Keeps}
 use Rattle.states.specs.Inner.States.{entries_in}
 use Rattle.states.specs.Inner.Promises.{GraphJoined, ValuesJoined}
 use Rattle.solver.specs.Inner.Flows.{Starts}
-use Rattle.solver.specs.Inner.Work.{HasWords, all_variables, FirstWaiting, VariableStarts, NamedStarts, Started}
+use Rattle.solver.specs.Inner.Work.{HasWords, VariableStarts, NamedStarts, Started}
 use Rattle.solver.proofs.Worklist.{same_or_not, lower, starts_from, starts_past, starts_on}
 use Rattle.solver.proofs.Entering.{graph_said, template_entered, string_entered}
 use Rattle.solver.proofs.Flowing.{has_words}
@@ -54,66 +54,3 @@ starting_goes names v before work after low S N π points some A nothing = go (m
     go : (t : Bool) → member names v ≡ t → Starts π (v + 1) (entries_in points after)
     go true e = starts_on π (entries_in points work) v (S π points some A nothing) (entries_in points after) (sym (A v low) ∙ e) low (N.starts e points some)
     go false e = rw (N.left e) (starts_past π (entries_in points work) v (S π points some A nothing) (sym (A v low) ∙ e))
-
--- At the points below the loop's, of those that there are, all variables wait.
-module _ (points : ℕ) where
-  abbrev pub WaitingTo : ℕ → List ℕ → Type 0
-  WaitingTo k waiting = (q : ℕ) → get_or waiting q 0 ≡ cond (ltb q k && ltb q points) all_variables 0
-
-  pub waiting_begins : (waiting : List ℕ) → waiting ≡ replicate 32 0 → WaitingTo 0 waiting
-  waiting_begins waiting is q = rw (is, le-ltb q 0 (omega arith)) (zeros 32 q)
-
-  module _ (k : ℕ) (waiting : List ℕ) (to : WaitingTo k waiting) where
-    -- The others are as they were.
-    others_go : (q : ℕ) → (q ≡ k → ⊥) → get_or waiting q 0 ≡ cond (ltb q (k + 1) && ltb q points) all_variables 0
-    others_go q d = to q ∙ ap (λ (t : Bool). cond (t && ltb q points) all_variables 0) (go (ltb q k) refl)
-      where
-        go : (t : Bool) → ltb q k ≡ t → t ≡ ltb q (k + 1)
-        go true e = let b = ltb-true q k e in sym (lt-ltb q (k + 1) (omega arith))
-        go false e = let b = ltb-false q k e in sym (le-ltb q (k + 1) (past b d))
-          where
-            past : k ≤ q → (q ≡ k → ⊥) → k + 1 ≤ q
-            past l n = omega arith
-
-    pub waiting_goes : k < points → k < length waiting → WaitingTo (k + 1) (set waiting k all_variables)
-    waiting_goes l low q = go (same_or_not q k)
-      where
-        go : Dec (q ≡ k) → get_or (set waiting k all_variables) q 0 ≡ cond (ltb q (k + 1) && ltb q points) all_variables 0
-        go (yes e) = rw (e, lt-ltb k (k + 1) (omega arith), lt-ltb k points l) (get_or-set_same waiting k all_variables 0 low)
-        go (no d) = get_or-set_other waiting k q all_variables 0 d ∙ others_go q d
-
-    pub waiting_stays : points ≤ k → WaitingTo (k + 1) waiting
-    waiting_stays l q = go (same_or_not q k)
-      where
-        go : Dec (q ≡ k) → get_or waiting q 0 ≡ cond (ltb q (k + 1) && ltb q points) all_variables 0
-        go (yes e) = to q ∙ rw (e, le-ltb k points l, and-false (ltb k k), and-false (ltb k (k + 1)))
-        go (no d) = others_go q d
-
-    pub waiting_ends : 32 ≤ k → points ≤ 32 → (q : ℕ) → get_or waiting q 0 ≡ cond (ltb q points) all_variables 0
-    waiting_ends l few q = to q ∙ ap (λ (t : Bool). cond t all_variables 0) (go (ltb q points) refl)
-      where
-        go : (t : Bool) → ltb q points ≡ t → (ltb q k && t) ≡ t
-        go true e = let a = ltb-true q points e in rw (lt-ltb q k (omega arith))
-        go false e = and-false (ltb q k)
-
--- At the points below the loop's nothing waits.
-module _ (waiting : List ℕ) where
-  abbrev pub Skips : ℕ → Type 0
-  Skips p = (q : ℕ) → q < p → get_or waiting q 0 ≡ 0
-
-  pub skips_begin : Skips 0
-  skips_begin q l = absurd (omega arith)
-
-  module _ (p : ℕ) (skips : Skips p) where
-    pub skips_go : get_or waiting p 0 ≡ 0 → Skips (p + 1)
-    skips_go e q l = go (same_or_not q p)
-      where
-        go : Dec (q ≡ p) → get_or waiting q 0 ≡ 0
-        go (yes s) = rw s e
-        go (no d) = skips q (lower q p l d)
-
-    pub found_waiting : (get_or waiting p 0 ≡ 0 → ⊥) → FirstWaiting waiting p
-    found_waiting n = record { waits = λ l. n; skips = skips }
-
-    pub none_waiting : 32 ≤ p → FirstWaiting waiting p
-    none_waiting l = record { waits = λ low. absurd (omega arith); skips = skips }

@@ -15,10 +15,11 @@ ghost use Rattle.states.specs.Inner.States.{entries_in};
 ghost use Rattle.states.specs.Inner.Promises.{HasPoint};
 ghost use Rattle.programs.specs.Program.{template_variable, string_variable};
 ghost use Rattle.programs.specs.Inner.Promises.{as_act};
-ghost use Rattle.solver.specs.Inner.Work.{VariableFlows, NeededFlows, Flowed, StepTaken, HasPoints, Settles, turned, Visited, all_variables, most_points, FirstWaiting, VariableStarts, NamedStarts, Started, ZeroPoints};
+ghost use Rattle.solver.specs.Inner.Work.{VariableFlows, NeededFlows, Flowed, StepTaken, HasPoints, Settles, turned, Visited, all_variables, most_points, NoneWaiting, VariableStarts, NamedStarts, Started, ZeroPoints};
 ghost use Rattle.summaries.specs.ProposalReading.{variable_of};
 
 use commands::Position;
+use entries::Passing;
 use graphs::Graph;
 use programs::{Act, Points, Statement};
 use strings::Values;
@@ -56,7 +57,13 @@ fn filled_graph(work: &[u64], p: usize, x: usize, h: u8, y: usize) -> Graph
 {
     let mut graph = states::graph_at(work, p, x);
     let values = states::values_at(work, p, y);
-    entries::pass(&mut graph, entries::filling(h, values));
+    entries::pass(
+        &mut graph,
+        Passing::Filling {
+            gap: h,
+            strings: values,
+        },
+    );
     graph
 }
 
@@ -173,11 +180,9 @@ fn flow(
     ensures { Flowed 8 work.old gaps.now names fresh (as_act act) p next work.new result }
 {
     let mut changed: u64 = 0;
-    let mut v: usize = 0;
-    while v < 8 {
+    for v in 0..8 {
         let rises = flow_needed(work, gaps, names, act, p, next, fresh, v);
         changed = sets::with_if(changed, v as u8, rises);
-        v += 1;
     }
     changed
 }
@@ -272,11 +277,9 @@ fn sweep(
     requires { HasPoints work.old × (length waiting.old ≡ 32) }
     ensures { Visited (λ q. q < most_points) s.now gaps.now points.now.places points.now.named work.old waiting.old work.new waiting.new }
 {
-    let mut turn: usize = 0;
-    while turn < MOST_POINTS {
+    for turn in 0..MOST_POINTS {
         let p = point_of_turn(upwards, turn);
         visit_point(s, work, gaps, points, p, waiting);
-        turn += 1;
     }
 }
 
@@ -309,10 +312,8 @@ fn start(work: &mut [u64], names: u64)
     requires { HasPoints work.old }
     ensures { Started 8 names work.old work.new }
 {
-    let mut v: usize = 0;
-    while v < 8 {
+    for v in 0..8 {
         start_named(work, names, v);
-        v += 1;
     }
 }
 
@@ -320,29 +321,14 @@ fn start(work: &mut [u64], names: u64)
 fn all_waiting(points: usize) -> [u64; 32]
     ensures { points ≤ 32 → (k : ℕ) → get_or result k 0 ≡ cond (ltb k points) all_variables 0 }
 {
-    let mut waiting = [0u64; 32];
-    let mut k: usize = 0;
-    while k < MOST_POINTS {
-        if k < points {
-            waiting[k] = ALL_VARIABLES;
-        }
-        k += 1;
-    }
-    waiting
+    std::array::from_fn(|p| if p < points { ALL_VARIABLES } else { 0 })
 }
 
-// The first point at which some variable waits, or 32 where there is none.
-fn first_waiting(waiting: &[u64; 32]) -> usize
-    ensures { FirstWaiting waiting.now result }
+// Whether no variable waits at any point.
+fn none_waits(waiting: &[u64; 32]) -> bool
+    ensures { NoneWaiting waiting.now result }
 {
-    let mut p: usize = 0;
-    while p < MOST_POINTS {
-        if waiting[p] != 0 {
-            return p;
-        }
-        p += 1;
-    }
-    p
+    waiting.iter().all(|&variables| variables == 0)
 }
 
 // The least entries that cover a script that was read, in a work area whose words of points are zero.
@@ -354,10 +340,7 @@ pub fn solve(s: &[u8], gaps: &[u64; 32], points: &Points, work: &mut [u64])
     start(work, points.named);
     let mut waiting = all_waiting(points.count);
     let mut upwards = true;
-    loop {
-        if MOST_POINTS <= first_waiting(&waiting) {
-            return;
-        }
+    while !none_waits(&waiting) {
         sweep(s, work, gaps, points, upwards, &mut waiting);
         upwards = !upwards;
     }

@@ -5,17 +5,18 @@ use borrow.Author.Rules.{rules}
 use Rattle.solver.proofs.flow.Goals as goal
 
 pub loop-v-init : goal.loop-v-init
-loop-v-init c = (search rules, omega arith, flowing_begins _ _ _ _ _ _ _)
+loop-v-init c = record { same_length = search rules; flowed = flowing_begins _ _ _ _ _ _ _ }
 
 pub flow_needed-rises-requires : goal.flow_needed-rises-requires
-flow_needed-rises-requires c = (rw c.loop-v.invariant.0 c.requires.0, rw c.loop-v.invariant.0 c.requires.1, c.loop-v-test.true)
+flow_needed-rises-requires c = let kept = c.loop-v.invariant.same_length in (rw kept c.requires.0, rw kept c.requires.1, c.loop-v-test.true)
 
 pub loop-v-preserved : goal.loop-v-preserved
-loop-v-preserved c = let low = c.loop-v-test.true in
-    (c.flow_needed-rises.auto.work ∙ c.loop-v.invariant.0, omega arith, flowing_goes _ _ _ _ _ _ _ c.loop-v.v low c.loop-v.work _ c.loop-v.changed _ _ c.loop-v.invariant.2 c.flow_needed-rises.ensures c.with_if-changed.ensures)
+loop-v-preserved c = record {
+  same_length = c.flow_needed-rises.auto.work ∙ c.loop-v.invariant.same_length;
+  flowed = flowing_goes _ _ _ _ _ _ _ c.loop-v.v c.loop-v-test.true c.loop-v.work _ c.loop-v.changed _ _ c.loop-v.invariant.flowed c.flow_needed-rises.ensures c.with_if-changed.ensures;
+}
 
 pub returns : goal.returns
-returns c = let left = c.loop-v-test.false in
-    let most = c.loop-v.invariant.1 in
+returns c =
     let end : c.loop-v.v ≡ 8 = omega arith in
-    rw end at c.loop-v.invariant.2
+    rw end at c.loop-v.invariant.flowed

@@ -1,5 +1,4 @@
 -- The step is taken at the variables before the loop's.
-use Prim.Native.Nat.{◌-◌, ◌≤◌}
 use mathlib.Core.Path.{◌≡◌}
 use lib.ListN.{length}
 use Rattle.programs.specs.Inner.Promises.{as_act}
@@ -7,7 +6,7 @@ use Rattle.solver.specs.Inner.Work.{Flowed}
 use Rattle.solver.proofs.flow.Given as goal
 
 abbrev pub invariant-loop-v : goal.invariant-loop-v
-invariant-loop-v l = (length l.work ≡ length l.initial.work) × (l.v ≤ 8) × Flowed l.v l.initial.work l.gaps l.names l.fresh (as_act l.act) l.p l.next l.work l.changed
-
-abbrev pub decreases-loop-v : goal.decreases-loop-v
-decreases-loop-v l = 8 - l.v
+invariant-loop-v l = record {
+  same_length : length l.work ≡ length l.initial.work;
+  flowed : Flowed l.v l.initial.work l.gaps l.names l.fresh (as_act l.act) l.p l.next l.work l.changed;
+}

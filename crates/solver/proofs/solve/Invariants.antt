@@ -6,7 +6,11 @@ use Rattle.solver.proofs.Solving.{measure}
 use Rattle.solver.proofs.solve.Given as goal
 
 abbrev pub invariant-loop-waiting : goal.invariant-loop-waiting
-invariant-loop-waiting l = (length l.work ≡ length l.initial.work) × (length l.waiting ≡ 32) × Working l.s l.gaps l.points l.places l.names l.work l.waiting
+invariant-loop-waiting l = record {
+  same_length : length l.work ≡ length l.initial.work;
+  sets : length l.waiting ≡ 32;
+  working : Working l.s l.gaps l.points.count l.points.places l.points.named l.work l.waiting;
+}
 
 abbrev pub decreases-loop-waiting : goal.decreases-loop-waiting
 decreases-loop-waiting l = measure l.work l.waiting

@@ -134,10 +134,10 @@ turned false k = most_points - 1 - k
 abbrev pub all_variables : ℕ
 all_variables = 255
 
--- The first point at which some variable waits, or 32 where there is none.
-pub record FirstWaiting (waiting : List ℕ) (p : ℕ) : Type 0 where
-  pub waits : p < most_points → get_or waiting p 0 ≡ 0 → ⊥
-  pub skips : (q : ℕ) → q < p → get_or waiting q 0 ≡ 0
+-- By the answer: no variable waits at any point; or some does at one.
+abbrev pub NoneWaiting : List ℕ → Bool → Type 0
+NoneWaiting waiting true = (q : ℕ) → q < most_points → get_or waiting q 0 ≡ 0
+NoneWaiting waiting false = (p : ℕ) × ((p < most_points) × (get_or waiting p 0 ≡ 0 → ⊥))
 
 -- A variable gets its start at point 0.
 abbrev pub VariableStarts : ℕ → List ℕ → List ℕ → Type 0
