@@ -1,11 +1,12 @@
 -- The start is put at point 0, at one variable after the other.
-use Prim.Native.Nat.{ℕ, ◌+◌, ◌-◌, ◌≤◌, ◌<◌}
+use Prim.Native.Nat.{ℕ, ◌+◌, ◌-◌, ◌≤◌, ◌<◌, min}
 use mathlib.Core.Path.{◌≡◌, refl, sym, ap, ◌∙◌}
-use mathlib.Core.List.{List}
+use mathlib.Core.List.{List, ◌++◌}
 use mathlib.Core.Bool.{Bool, true, false, cond, ◌&&◌, and-false, false≢true}
 use native.Mathlib.Omega.{arith}
-use lib.ListN.{length, get_or, set, replicate}
-use lib.Seq.{get_or-set_same, get_or-set_other}
+use lib.ListN.{length, get_or, take, drop, replicate}
+use lib.Seq.{length-take-le, get_or-drop}
+use Rattle.std.proofs.lemmas.List.{length-replicate, get_or-replicate, get_or_append_left, get_or-append_right}
 use lib.Dec.{eqb, ltb}
 use borrow.Author.Tests.{lt-ltb, le-ltb, ltb-true, ltb-false}
 use Rattle.sets.specs.Sets.{member}
@@ -23,7 +24,7 @@ use Rattle.graphs.specs.Inner.Graphs.{Keeps}
 use Rattle.states.specs.Inner.States.{entries_in}
 use Rattle.states.specs.Inner.Promises.{GraphJoined, ValuesJoined}
 use Rattle.solver.specs.Inner.Flows.{Starts}
-use Rattle.solver.specs.Inner.Work.{HasWords, VariableStarts, NamedStarts, Started}
+use Rattle.solver.specs.Inner.Work.{HasWords, all_variables, VariableStarts, NamedStarts, Started}
 use Rattle.solver.proofs.Worklist.{same_or_not, lower, starts_from, starts_past, starts_on}
 use Rattle.solver.proofs.Entering.{graph_said, template_entered, string_entered}
 use Rattle.solver.proofs.Flowing.{has_words}
@@ -54,3 +55,22 @@ starting_goes names v before work after low S N π points some A nothing = go (m
     go : (t : Bool) → member names v ≡ t → Starts π (v + 1) (entries_in points after)
     go true e = starts_on π (entries_in points work) v (S π points some A nothing) (entries_in points after) (sym (A v low) ∙ e) low (N.starts e points some)
     go false e = rw (N.left e) (starts_past π (entries_in points work) v (S π points some A nothing) (sym (A v low) ∙ e))
+
+-- At each point that there is, of 32, all variables wait.
+pub all_filled : (points n : ℕ) (part : List ℕ) → points ≤ 32 → n ≡ min points 32 → part ≡ replicate (length {A = ℕ} (take n (replicate 32 0))) all_variables
+    → (k : ℕ) → get_or (part ++ drop n (replicate 32 0)) k 0 ≡ cond (ltb k points) all_variables 0
+all_filled points n part few n_is part_is k =
+    let all : n ≡ points = omega arith in
+    let long : length {A = ℕ} (take n (replicate 32 0)) ≡ points = length-take-le n (replicate 32 0) (omega arith) ∙ all in
+    let filled : part ≡ replicate points all_variables = part_is ∙ rw long refl in
+    rw (filled, all) (go (ltb k points) refl)
+  where
+    go : (t : Bool) → ltb k points ≡ t → get_or (replicate points all_variables ++ drop points (replicate 32 0)) k 0 ≡ cond (ltb k points) all_variables 0
+    go true e =
+        let low = ltb-true k points e in
+        get_or_append_left (replicate points all_variables) (drop points (replicate 32 0)) 0 k (omega (arith, low, length-replicate points all_variables))
+        ∙ get_or-replicate points k all_variables 0 low ∙ rw e
+    go false e =
+        let high = ltb-false k points e in
+        get_or-append_right (replicate points all_variables) (drop points (replicate 32 0)) points k 0 (length-replicate points all_variables) high
+        ∙ get_or-drop points (replicate 32 0) (k - points) 0 ∙ zeros 32 (points + (k - points)) ∙ rw e

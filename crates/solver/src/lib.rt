@@ -321,7 +321,9 @@ fn start(work: &mut [u64], names: u64)
 fn all_waiting(points: usize) -> [u64; 32]
     ensures { points ≤ 32 → (k : ℕ) → get_or result k 0 ≡ cond (ltb k points) all_variables 0 }
 {
-    std::array::from_fn(|p| if p < points { ALL_VARIABLES } else { 0 })
+    let mut waiting = [0; 32];
+    waiting[..points.min(MOST_POINTS)].fill(ALL_VARIABLES);
+    waiting
 }
 
 // Whether no variable waits at any point.
