@@ -73,31 +73,32 @@ pub struct GapsFound {
 // What an attribute of `28` has: a string outside 0 to 63.
 const OUTSIDE: u8 = 64;
 
-fn item_context(kind: Kind) -> Context
-    ensures { result ≡ item_context kind }
-{
-    match kind {
-        Kind::Template => Context::TemplateItems,
-        Kind::Page => Context::PageItems,
-    }
+// What may stand in a list of items: which items and attributes, and how many elements open above one another.
+#[derive(Clone, Copy)]
+struct Allowed {
+    items: Context,
+    attributes: Context,
+    nesting: usize,
 }
 
-fn attribute_context(kind: Kind) -> Context
-    ensures { result ≡ attribute_context kind }
-{
-    match kind {
-        Kind::Template => Context::TemplateAttributes,
-        Kind::Page => Context::PageAttributes,
-    }
-}
-
-// How many elements may stand open above one another.
-fn most_nested(kind: Kind) -> usize
-    ensures { result ≡ nesting kind }
-{
-    match kind {
-        Kind::Template => 16,
-        Kind::Page => 1024,
+impl Kind {
+    fn allowed(self) -> Allowed
+        ensures items { result.items ≡ item_context self }
+        ensures attributes { result.attributes ≡ attribute_context self }
+        ensures nesting { result.nesting ≡ nesting self }
+    {
+        match self {
+            Kind::Template => Allowed {
+                items: Context::TemplateItems,
+                attributes: Context::TemplateAttributes,
+                nesting: 16,
+            },
+            Kind::Page => Allowed {
+                items: Context::PageItems,
+                attributes: Context::PageAttributes,
+                nesting: 1024,
+            },
+        }
     }
 }
 
@@ -251,91 +252,95 @@ pub fn gaps_of(s: &[u8], templates: &Templates) -> [u64; 32]
     table
 }
 
-// A list of items below `depth` open elements, up to and with what ends it; `declared` is the set of elements that have a rule.
-#[cycle(read_item_read_items)]
-fn read_items(
+// What lists of items are read in: bytes, of which kind they are, and the set of elements that have a rule.
+#[derive(Clone, Copy)]
+struct Reading<'a> {
     kind: Kind,
     declared: u64,
-    s: &[u8],
-    here: Position,
-    depth: usize,
-) -> Result<Position, ReadError>
-    ensures { ItemsRead kind (member declared) s.now depth here.at result }
-{
-    let end = end_of(depth);
-    let mut p = here;
-    loop {
-        if let Some(next) = p.past(s, end) {
-            return Ok(next);
+    s: &'a [u8],
+}
+
+impl<'a> Reading<'a> {
+    // A list of items below `depth` open elements, up to and with what ends it.
+    #[cycle(read_item_read_items)]
+    fn read_items(&self, here: Position, depth: usize) -> Result<Position, ReadError>
+        ensures { ItemsRead self.now.kind (member self.now.declared) self.now.s.now depth here.at result }
+    {
+        let end = end_of(depth);
+        let mut p = here;
+        loop {
+            if let Some(next) = p.past(self.s, end) {
+                return Ok(next);
+            }
+            p = self.read_item(p, depth)?;
         }
-        p = read_item(kind, declared, s, p, depth)?;
     }
-}
 
-// Text, blank text, a gap, or an element with its attributes and contents.
-#[cycle(read_item_read_items)]
-fn read_item(
-    kind: Kind,
-    declared: u64,
-    s: &[u8],
-    here: Position,
-    depth: usize,
-) -> Result<Position, ReadError>
-    ensures { ItemRead kind (member declared) s.now depth here.at result }
-{
-    let d = here.item_command(s, item_context(kind));
-    let Decoded::Moved(code, next) = d else {
-        return Err(d.refusal());
-    };
-    if code != 0x23 {
-        return Ok(next);
-    }
-    if !sets::has(declared, here.operand(s, 1)) {
-        return Err(ReadError {
-            form: Form::Missing,
-            at: here.at,
-        });
-    }
-    if most_nested(kind) <= depth {
-        return Err(ReadError {
-            form: Form::TooMany,
-            at: here.at,
-        });
-    }
-    let inside = read_attributes(kind, s, next)?;
-    read_items(kind, declared, s, inside, depth + 1)
-}
-
-// The attributes straight after `23 e`: none is named twice.
-fn read_attributes(kind: Kind, s: &[u8], here: Position) -> Result<Position, ReadError>
-    ensures { AttributesRead kind s.now [] here.at result }
-{
-    let context = attribute_context(kind);
-    let mut seen: u64 = 0;
-    let mut p = here;
-    while commands::is_allowed(context, commands::byte_at(s, p.at)) {
-        let d = p.attribute_command(s, context);
-        let Decoded::Moved(_, next) = d else {
+    // Text, blank text, a gap, or an element with its attributes and contents.
+    #[cycle(read_item_read_items)]
+    fn read_item(&self, here: Position, depth: usize) -> Result<Position, ReadError>
+        ensures { ItemRead self.now.kind (member self.now.declared) self.now.s.now depth here.at result }
+    {
+        let allowed = self.kind.allowed();
+        let d = here.item_command(self.s, allowed.items);
+        let Decoded::Moved(code, next) = d else {
             return Err(d.refusal());
         };
-        let name = p.operand(s, 1);
-        if sets::has(seen, name) {
+        if code != 0x23 {
+            return Ok(next);
+        }
+        if !sets::has(self.declared, here.operand(self.s, 1)) {
             return Err(ReadError {
-                form: Form::NotRising,
-                at: p.at,
+                form: Form::Missing,
+                at: here.at,
             });
         }
-        seen = sets::with(seen, name);
-        p = next;
+        if allowed.nesting <= depth {
+            return Err(ReadError {
+                form: Form::TooMany,
+                at: here.at,
+            });
+        }
+        let inside = self.read_attributes(next)?;
+        self.read_items(inside, depth + 1)
     }
-    Ok(p)
+
+    // The attributes straight after `23 e`: none is named twice.
+    fn read_attributes(&self, here: Position) -> Result<Position, ReadError>
+        ensures { AttributesRead self.now.kind self.now.s.now [] here.at result }
+    {
+        let context = self.kind.allowed().attributes;
+        let mut seen: u64 = 0;
+        let mut p = here;
+        while commands::is_allowed(context, commands::byte_at(self.s, p.at)) {
+            let d = p.attribute_command(self.s, context);
+            let Decoded::Moved(_, next) = d else {
+                return Err(d.refusal());
+            };
+            let name = p.operand(self.s, 1);
+            if sets::has(seen, name) {
+                return Err(ReadError {
+                    form: Form::NotRising,
+                    at: p.at,
+                });
+            }
+            seen = sets::with(seen, name);
+            p = next;
+        }
+        Ok(p)
+    }
 }
 
 // A page, from the first byte on.
 pub fn read_page(declared: u64, s: &[u8]) -> Result<Position, ReadError>
     ensures { Agrees (items (enough s.now) Kind.Page (member declared) s.now 0 0) result }
 {
-    read_items(Kind::Page, declared, s, Position::new(0), 0)
+    let reading = Reading {
+        kind: Kind::Page,
+        declared,
+        s,
+    };
+    reading.read_items(Position::new(0), 0)
 }
 
 // The templates of a job, up to `2F`.
@@ -346,6 +351,11 @@ pub fn read_templates(
 ) -> Result<(Templates, Position), ReadError>
     ensures { TemplatesFrom (member declared) s.now here.at result }
 {
+    let reading = Reading {
+        kind: Kind::Template,
+        declared,
+        s,
+    };
     let mut count: usize = 0;
     let mut starts = [0usize; 32];
     let mut p = here;
@@ -365,6 +375,6 @@ pub fn read_templates(
         }
         count += 1;
         starts[count] = next.at;
-        p = read_items(Kind::Template, declared, s, next, 0)?;
+        p = reading.read_items(next, 0)?;
     }
 }

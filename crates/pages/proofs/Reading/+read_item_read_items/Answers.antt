@@ -10,62 +10,62 @@ use Rattle.commands.proofs.Laws.{moved, refused_with}
 use Rattle.pages.proofs.Laws.{element_range}
 use Rattle.pages.proofs.Agreement.{items_end, items_refused, items_next, list_ended, list_goes_on, item_refused, item_leaf, item_missing, item_deep, item_attributes_refused, item_element, item_permitted}
 use Rattle.pages.proofs.Trees.{attributes_onward, item_onward}
-use Rattle.pages.proofs.+read_item_read_items.Goals as goal
+use Rattle.pages.proofs.Reading.+read_item_read_items.Goals as goal
 
 pub read_item-item_command-d-requires : goal.read_item-item_command-d-requires
 read_item-item_command-d-requires t c =
-    rw c.item_context.ensures (item_permitted c.args.kind)
+    rw c.allowed-allowed.ensures.items (item_permitted c.args.self.now.kind)
 
 pub read_item-returns-in_default : goal.read_item-returns-in_default
 read_item-returns-in_default t c =
-    item_refused _ c.item_context.result c.item_context.ensures _ _ _ _ _ (sym c.item_command-d.ensures ∙ refused_with _ _ c.refusal.ensures)
+    item_refused _ c.allowed-allowed.result.items c.allowed-allowed.ensures.items _ _ _ _ _ (sym c.item_command-d.ensures ∙ refused_with _ _ c.refusal.ensures)
 
 pub read_item-returns-then-code-ne35 : goal.read_item-returns-then-code-ne35
 read_item-returns-then-code-ne35 t c =
-    let stands : command c.item_context.result c.args.s.now c.args.here.at ≡ Moved c.in-Moved.code c.in-Moved.next = sym c.item_command-d.ensures ∙ c.in-Moved.is in
-    item_leaf _ c.item_context.result c.item_context.ensures _ _ _ _ _ _ stands c.if-code-ne35.true
+    let stands : command c.allowed-allowed.result.items c.args.self.now.s.now c.args.here.at ≡ Moved c.in-Moved.code c.in-Moved.next = sym c.item_command-d.ensures ∙ c.in-Moved.is in
+    item_leaf _ c.allowed-allowed.result.items c.allowed-allowed.ensures.items _ _ _ _ _ _ stands c.if-code-ne35.true
 
 pub read_item-has-requires : goal.read_item-has-requires
 read_item-has-requires t c =
-    let stands : command c.item_context.result c.args.s.now c.args.here.at ≡ Moved c.in-Moved.code c.in-Moved.next = sym c.item_command-d.ensures ∙ c.in-Moved.is in
+    let stands : command c.allowed-allowed.result.items c.args.self.now.s.now c.args.here.at ≡ Moved c.in-Moved.code c.in-Moved.next = sym c.item_command-d.ensures ∙ c.in-Moved.is in
     let range = element_range _ _ _ _ _ stands c.if-code-ne35.false in
     omega (arith, c.operand.ensures)
 
-pub read_item-returns-then-most_nested-depth : goal.read_item-returns-then-most_nested-depth
-read_item-returns-then-most_nested-depth t c =
-    let stands : command c.item_context.result c.args.s.now c.args.here.at ≡ Moved c.in-Moved.code c.in-Moved.next = sym c.item_command-d.ensures ∙ c.in-Moved.is in
-    let ruled : member c.args.declared (byte c.args.s.now (c.args.here.at + 1)) ≡ c.has.result = rw (← c.operand.ensures) (sym c.has.ensures) in
-    item_deep _ c.item_context.result c.item_context.ensures _ _ _ _ _ _ stands c.if-code-ne35.false (ruled ∙ c.if-not-has.false) (rw (← c.most_nested.ensures) c.if-most_nested-depth.true)
+pub read_item-returns-then-allowed-depth : goal.read_item-returns-then-allowed-depth
+read_item-returns-then-allowed-depth t c =
+    let stands : command c.allowed-allowed.result.items c.args.self.now.s.now c.args.here.at ≡ Moved c.in-Moved.code c.in-Moved.next = sym c.item_command-d.ensures ∙ c.in-Moved.is in
+    let ruled : member c.args.self.now.declared (byte c.args.self.now.s.now (c.args.here.at + 1)) ≡ c.has.result = rw (← c.operand.ensures) (sym c.has.ensures) in
+    item_deep _ c.allowed-allowed.result.items c.allowed-allowed.ensures.items _ _ _ _ _ _ stands c.if-code-ne35.false (ruled ∙ c.if-not-has.false) (rw (← c.allowed-allowed.ensures.nesting) c.if-allowed-depth.true)
 
 pub read_item-returns-then-not-has : goal.read_item-returns-then-not-has
 read_item-returns-then-not-has t c =
-    let stands : command c.item_context.result c.args.s.now c.args.here.at ≡ Moved c.in-Moved.code c.in-Moved.next = sym c.item_command-d.ensures ∙ c.in-Moved.is in
-    let ruled : member c.args.declared (byte c.args.s.now (c.args.here.at + 1)) ≡ c.has.result = rw (← c.operand.ensures) (sym c.has.ensures) in
-    item_missing _ c.item_context.result c.item_context.ensures _ _ _ _ _ _ stands c.if-code-ne35.false (ruled ∙ c.if-not-has.true)
+    let stands : command c.allowed-allowed.result.items c.args.self.now.s.now c.args.here.at ≡ Moved c.in-Moved.code c.in-Moved.next = sym c.item_command-d.ensures ∙ c.in-Moved.is in
+    let ruled : member c.args.self.now.declared (byte c.args.self.now.s.now (c.args.here.at + 1)) ≡ c.has.result = rw (← c.operand.ensures) (sym c.has.ensures) in
+    item_missing _ c.allowed-allowed.result.items c.allowed-allowed.ensures.items _ _ _ _ _ _ stands c.if-code-ne35.false (ruled ∙ c.if-not-has.true)
 
 pub read_item-returns-in_err-inside : goal.read_item-returns-in_err-inside
 read_item-returns-in_err-inside t c =
-    let stands : command c.item_context.result c.args.s.now c.args.here.at ≡ Moved c.in-Moved.code c.in-Moved.next = sym c.item_command-d.ensures ∙ c.in-Moved.is in
-    let ruled : member c.args.declared (byte c.args.s.now (c.args.here.at + 1)) ≡ c.has.result = rw (← c.operand.ensures) (sym c.has.ensures) in
+    let stands : command c.allowed-allowed.result.items c.args.self.now.s.now c.args.here.at ≡ Moved c.in-Moved.code c.in-Moved.next = sym c.item_command-d.ensures ∙ c.in-Moved.is in
+    let ruled : member c.args.self.now.declared (byte c.args.self.now.s.now (c.args.here.at + 1)) ≡ c.has.result = rw (← c.operand.ensures) (sym c.has.ensures) in
     let up : c.from_residual.result ≡ Err c.in_err-inside.field-0.0 = search rules in
-    rw up (item_attributes_refused _ c.item_context.result c.item_context.ensures _ _ _ _ _ _ stands c.if-code-ne35.false (ruled ∙ c.if-not-has.false) (rw (← c.most_nested.ensures) c.if-most_nested-depth.false) _ c.read_attributes.ensures _ c.in_err-inside.was)
+    rw up (item_attributes_refused _ c.allowed-allowed.result.items c.allowed-allowed.ensures.items _ _ _ _ _ _ stands c.if-code-ne35.false (ruled ∙ c.if-not-has.false) (rw (← c.allowed-allowed.ensures.nesting) c.if-allowed-depth.false) _ c.read_attributes.ensures _ c.in_err-inside.was)
 
 pub read_item-overflow_add-depth : goal.read_item-overflow_add-depth
 read_item-overflow_add-depth t c =
-    omega (arith, c.if-most_nested-depth.false, c.most_nested.type_inv)
+    omega (arith, c.if-allowed-depth.false, c.allowed-allowed.type_inv)
 
 pub read_item-read_items-requires : goal.read_item-read_items-requires
 read_item-read_items-requires t c =
-    let stands : command c.item_context.result c.args.s.now c.args.here.at ≡ Moved c.in-Moved.code c.in-Moved.next = sym c.item_command-d.ensures ∙ c.in-Moved.is in
+    let stands : command c.allowed-allowed.result.items c.args.self.now.s.now c.args.here.at ≡ Moved c.in-Moved.code c.in-Moved.next = sym c.item_command-d.ensures ∙ c.in-Moved.is in
     let m = moved _ _ _ _ _ stands in
     let i = attributes_onward _ _ _ _ _ _ c.in_ok-inside.was c.read_attributes.ensures m.inside in
     (omega (arith, i, m.forward), tt)
 
 pub read_item-returns : goal.read_item-returns
 read_item-returns t c =
-    let stands : command c.item_context.result c.args.s.now c.args.here.at ≡ Moved c.in-Moved.code c.in-Moved.next = sym c.item_command-d.ensures ∙ c.in-Moved.is in
-    let ruled : member c.args.declared (byte c.args.s.now (c.args.here.at + 1)) ≡ c.has.result = rw (← c.operand.ensures) (sym c.has.ensures) in
-    item_element _ c.item_context.result c.item_context.ensures _ _ _ _ _ _ stands c.if-code-ne35.false (ruled ∙ c.if-not-has.false) (rw (← c.most_nested.ensures) c.if-most_nested-depth.false) _ c.read_attributes.ensures _ _ c.in_ok-inside.was c.read_items.ensures
+    let stands : command c.allowed-allowed.result.items c.args.self.now.s.now c.args.here.at ≡ Moved c.in-Moved.code c.in-Moved.next = sym c.item_command-d.ensures ∙ c.in-Moved.is in
+    let ruled : member c.args.self.now.declared (byte c.args.self.now.s.now (c.args.here.at + 1)) ≡ c.has.result = rw (← c.operand.ensures) (sym c.has.ensures) in
+    item_element _ c.allowed-allowed.result.items c.allowed-allowed.ensures.items _ _ _ _ _ _ stands c.if-code-ne35.false (ruled ∙ c.if-not-has.false) (rw (← c.allowed-allowed.ensures.nesting) c.if-allowed-depth.false) _ c.read_attributes.ensures _ _ c.in_ok-inside.was c.read_items.ensures
 
 pub read_items-loop-next-init : goal.read_items-loop-next-init
 read_items-loop-next-init t c =

@@ -11,12 +11,12 @@ use Rattle.vocabularies.specs.Vocabulary.{is_in}
 use Rattle.pages.specs.declared.Kind.{Kind}
 use Rattle.pages.specs.ItemReading.{attribute_context}
 use Rattle.pages.specs.Inner.Promises.{AttributesRead}
-use Rattle.pages.proofs.read_attributes.Given as goal
+use Rattle.pages.proofs.Reading.read_attributes.Given as goal
 
 abbrev pub invariant-loop-context : goal.invariant-loop-context
 invariant-loop-context l = (before : List ℕ)
     × ((a : ℕ) → member l.seen a ≡ is_in a before)
-    × ((k : Kind) → l.context ≡ attribute_context k → (r : Result Position ReadError) → AttributesRead k l.s before l.p.at r → AttributesRead k l.s [] l.initial.p.at r)
+    × ((k : Kind) → l.context ≡ attribute_context k → (r : Result Position ReadError) → AttributesRead k l.self.s.now before l.p.at r → AttributesRead k l.self.s.now [] l.initial.p.at r)
 
 abbrev pub decreases-loop-context : goal.decreases-loop-context
-decreases-loop-context l = length l.s - l.p.at
+decreases-loop-context l = length l.self.s.now - l.p.at
