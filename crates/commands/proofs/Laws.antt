@@ -6,7 +6,7 @@ use mathlib.Core.Bool.{Bool, true, false, cond, ◌&&◌}
 use native.Mathlib.Omega.{arith}
 use lib.ListN.{length, get_or-eq_default}
 use lib.Dec.{leb, ltb, eqb}
-use borrow.Author.Tests.{leb-true, ltb-true, ltb-false, lt-ltb, le-ltb, le-leb, eq-eqb, ne_eqb, eqb-true, eqb-false}
+use borrow.Author.Tests.{leb-true, ltb-true, ltb-false, lt-ltb, le-leb, eqb-true, eqb-false}
 use Rattle.sets.proofs.Booleans.{and_left, and_right}
 use Rattle.std.specs.Prelude.{Option, Some, None, Err}
 use Rattle.verdicts.specs.declared.Form.{Form}
@@ -26,19 +26,6 @@ byte_past s at h = get_or-eq_default s 0 h
 
 -- A byte passed over: when it is, and what it tells that it was or was not.
 module _ (s : List ℕ) (at code : ℕ) where
-  pub not_past_end : length s ≤ at → None ≡ past s at code
-  unfolding past
-  not_past_end h = rw (le-ltb at (length s) h)
-
-  module _ (here : at < length s) where
-    pub not_past : (byte s at ≡ code → ⊥) → None ≡ past s at code
-    unfolding past
-    not_past n = rw (lt-ltb at (length s) here, ne_eqb (byte s at) code n)
-
-    pub is_past : byte s at ≡ code → Some (record { at = at + 1 }) ≡ past s at code
-    unfolding past
-    is_past e = rw (lt-ltb at (length s) here, eq-eqb (byte s at) code e)
-
   pub past_over : (r : Option Position) (next : Position) → r ≡ past s at code → r ≡ Some next → (at < length s) × (byte s at ≡ code) × (next.at ≡ at + 1)
   unfolding past
   past_over r next e o = go (ltb at (length s)) (eqb (byte s at) code) refl refl (sym e ∙ o)
@@ -64,30 +51,11 @@ pub refused_with : (d : Decoded) (e : ReadError) → part_of d ≡ Err e → d �
 refused_with (Moved code next) e h = absurd (let z : ◌≡◌ {A = ℕ} 0 1 = cc in omega arith)
 refused_with (Refused f n) e h = cc
 
--- The five answers, each from the tests that lead to it.
-module _ (x : Context) (s : List ℕ) (at : ℕ) where
-  pub ended_before : length s ≤ at → Refused Ended (length s) ≡ command x s at
-  unfolding command
-  ended_before h = rw (le-ltb at (length s) h)
-
-  module _ (here : at < length s) where
-    pub not_allowed : allowed x (byte s at) ≡ false → Refused NotAllowed at ≡ command x s at
-    unfolding command
-    not_allowed a = rw (lt-ltb at (length s) here, a)
-
-    module _ (a : allowed x (byte s at) ≡ true) where
-      pub ended_in : length s ≤ at + operand_bytes (byte s at) → Refused Ended at ≡ command x s at
-      unfolding command
-      ended_in h = rw (lt-ltb at (length s) here, a, le-ltb (at + operand_bytes (byte s at)) (length s) h)
-
-      module _ (fits : at + operand_bytes (byte s at) < length s) where
-        pub out_of_range : all_in_range (operands_of (byte s at)) s (at + 1) ≡ false → Refused OutOfRange at ≡ command x s at
-        unfolding command
-        out_of_range r = rw (lt-ltb at (length s) here, a, lt-ltb (at + operand_bytes (byte s at)) (length s) fits, r)
-
-        pub moves : all_in_range (operands_of (byte s at)) s (at + 1) ≡ true → Moved (byte s at) (record { at = at + 1 + operand_bytes (byte s at) }) ≡ command x s at
-        unfolding command
-        moves r = rw (lt-ltb at (length s) here, a, lt-ltb (at + operand_bytes (byte s at)) (length s) fits, r)
+-- A command that may stand there, is whole and in range is read.
+pub moves : (x : Context) (s : List ℕ) (at : ℕ) → at < length s → allowed x (byte s at) ≡ true → at + operand_bytes (byte s at) < length s
+    → all_in_range (operands_of (byte s at)) s (at + 1) ≡ true → Moved (byte s at) (record { at = at + 1 + operand_bytes (byte s at) }) ≡ command x s at
+unfolding command
+moves x s at here a fits r = rw (lt-ltb at (length s) here, a, lt-ltb (at + operand_bytes (byte s at)) (length s) fits, r)
 
 -- A command whose first byte is known is read, where its operands are.
 pub moves_as : (x : Context) (s : List ℕ) (at k : ℕ) (os : List Operand) → at < length s → byte s at ≡ k → allowed x k ≡ true → operands_of k ≡ os
@@ -214,14 +182,6 @@ few_operands c n e = rw e (lookup_short c formats refl)
 
 -- The command at an offset of bytes that were read.
 module _ (s : List ℕ) (at : ℕ) where
-  pub no_step : length s ≤ at → Refused Ended (length s) ≡ stepped s at
-  unfolding stepped
-  no_step h = rw (le-ltb at (length s) h)
-
-  pub steps : at < length s → Moved (byte s at) (record { at = at + 1 + operand_bytes (byte s at) }) ≡ stepped s at
-  unfolding stepped
-  steps h = rw (lt-ltb at (length s) h)
-
   pub record SteppedOver (code : ℕ) (next : Position) : Type 0 where
     pub here : at < length s
     pub first : byte s at ≡ code

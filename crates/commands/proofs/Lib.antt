@@ -1,4 +1,3 @@
-pub mod Operands
 pub mod Spelling
 pub mod Laws
 pub mod BlankText

@@ -107,6 +107,7 @@ pub fn is_allowed(context: Context, code: u8) -> bool
 }
 
 // How many bytes follow a command's first byte: an arm for each format.
+#[tactic(auto, unfolding(crate::specs::Commands::operand_bytes, crate::specs::Commands::operands_of))]
 pub fn operand_bytes(code: u8) -> usize
     ensures { result ≡ operand_bytes code }
 {
@@ -151,6 +152,7 @@ fn are_most(s: &[u8], i: usize, first: u8, second: u8) -> bool
     is_most(s, i, first) && is_most(s, i + 1, second)
 }
 
+#[tactic(auto, unfolding(crate::specs::Commands::in_range))]
 fn is_element(s: &[u8], i: usize) -> bool
     ensures { result ≡ in_range element s.now i }
 {
@@ -158,6 +160,7 @@ fn is_element(s: &[u8], i: usize) -> bool
 }
 
 // An attribute, and a set that is not empty.
+#[tactic(auto, unfolding(crate::specs::Commands::in_range))]
 fn is_value(s: &[u8], i: usize) -> bool
     requires { i + 8 < 2 ^ 64 }
     ensures { result ≡ (in_range attribute s.now i && in_range strings_set s.now (i + 1)) }
@@ -166,6 +169,7 @@ fn is_value(s: &[u8], i: usize) -> bool
 }
 
 // Two variables, a gap and a variable.
+#[tactic(auto, unfolding(crate::specs::Commands::in_range, crate::specs::Commands::all_in_range, crate::specs::Commands::operands_of))]
 fn is_plug(s: &[u8], i: usize) -> bool
     requires { i + 3 < 2 ^ 64 }
     ensures { result ≡ all_in_range (operands_of 0x35) s.now i }
@@ -174,6 +178,7 @@ fn is_plug(s: &[u8], i: usize) -> bool
 }
 
 // A variable, a template, which has no range, and a gap.
+#[tactic(auto, unfolding(crate::specs::Commands::in_range, crate::specs::Commands::all_in_range, crate::specs::Commands::operands_of))]
 fn is_frame(s: &[u8], i: usize) -> bool
     requires { i + 2 < 2 ^ 64 }
     ensures { result ≡ all_in_range (operands_of 0x39) s.now i }
@@ -182,6 +187,7 @@ fn is_frame(s: &[u8], i: usize) -> bool
 }
 
 // Whether the operands of a command that stands at an offset are in range.
+#[tactic(auto, unfolding(crate::specs::Commands::in_range, crate::specs::Commands::all_in_range, crate::specs::Commands::operands_of))]
 fn in_range(s: &[u8], at: usize, code: u8) -> bool
     requires { at < 2 ^ 63 }
     ensures { result ≡ all_in_range (operands_of code) s.now (at + 1) }
@@ -232,6 +238,7 @@ impl Position {
     }
 
     // The position after the byte `code`, if it stands here.
+    #[tactic(auto, unfolding(crate::specs::Inner::Parts::past))]
     pub fn past(self, s: &[u8], code: u8) -> Option<Position>
         ensures { result ≡ past s.now self.at code }
     {
@@ -246,6 +253,7 @@ impl Position {
     }
 
     // The command here, if it may stand here and is whole and in range, with the position moved over it.
+    #[tactic(auto, unfolding(crate::specs::Commands::command))]
     pub fn command(self, s: &[u8], context: Context) -> Decoded
         ensures { result ≡ command context s.now self.at }
     {
@@ -271,7 +279,7 @@ impl Position {
     }
 
     // The command here, where text and elements may stand: `21`, `29` and `23 e` are seen at once.
-    #[tactic(auto, using(crate::proofs::Laws::text_moves, crate::proofs::Laws::blank_moves))]
+    #[tactic(auto, using(crate::proofs::Laws::text_moves, crate::proofs::Laws::blank_moves, crate::proofs::Laws::element_moves))]
     pub fn item_command(self, s: &[u8], context: Context) -> Decoded
         requires { (allowed context 0x21 ≡ true) × (allowed context 0x29 ≡ true) × (allowed context 0x23 ≡ true) }
         ensures { result ≡ command context s.now self.at }
@@ -300,6 +308,7 @@ impl Position {
     }
 
     // The command here, where a formula may stand: `10` to `13`, which have no operand, are seen at once.
+    #[tactic(auto, using(crate::proofs::Laws::bare_formula_moves))]
     pub fn formula_command(self, s: &[u8]) -> Decoded
         ensures { result ≡ command Context.Formulas s.now self.at }
     {
@@ -339,6 +348,7 @@ impl Position {
     }
 
     // The command here, where an attribute with a string may stand: `24 a s` is seen at once.
+    #[tactic(auto, using(crate::proofs::Laws::attribute_moves))]
     pub fn attribute_command(self, s: &[u8], context: Context) -> Decoded
         requires { allowed context 0x24 ≡ true }
         ensures { result ≡ command context s.now self.at }
@@ -363,6 +373,7 @@ impl Position {
     }
 
     // The command here, of bytes that were read, with the position moved over it: what was tested then is not tested again.
+    #[tactic(auto, using(crate::proofs::Laws::few_operands), unfolding(crate::specs::Inner::Parts::stepped))]
     pub fn step(self, s: &[u8]) -> Decoded
         ensures { result ≡ stepped s.now self.at }
     {
@@ -390,6 +401,7 @@ impl Position {
     }
 
     // The set of strings of the `17` here.
+    #[tactic(auto, using(crate::proofs::Spelling::numbered_none))]
     pub fn string_set(self, s: &[u8]) -> StringSet
         ensures { set_number result ≡ set_at s.now (self.at + 2) }
     {
