@@ -9,17 +9,14 @@ use native.Mathlib.Numerals.{add-one}
 use native.Mathlib.Omega.{arith}
 use lib.ListN.{length, get_or}
 use lib.Dec.{eqb, ltb}
-use borrow.Author.Tests.{eqb-true, eqb-false, ltb-true, ltb-false, lt-ltb}
-use Rattle.std.specs.Prelude.{None}
+use borrow.Author.Tests.{eqb-true, eqb-false, ltb-true, ltb-false, lt-ltb, le-ltb}
+use Rattle.std.specs.Prelude.{None, Result, Ok, Err}
 use Rattle.sets.specs.Sets.{member}
-use Rattle.sets.specs.Inner.Promises.{FirstMember}
 use Rattle.sets.proofs.Laws.{member_zero, member_high}
-use Rattle.verdicts.specs.declared.Form.{Form}
 use Rattle.verdicts.specs.declared.Breach.{Breach}
 use Rattle.verdicts.specs.declared.Breach.TheVariants as Breaches
 use Rattle.commands.specs.declared.Position.{Position}
-use Rattle.commands.specs.declared.Part.{Part}
-use Rattle.commands.specs.declared.Part.TheVariants.{Whole, Refused}
+use Rattle.commands.specs.declared.ReadError.{ReadError}
 use Rattle.commands.specs.Commands.{byte}
 use Rattle.commands.specs.Reading.{whole}
 use Rattle.vocabularies.specs.declared.Facts.{Facts}
@@ -64,7 +61,7 @@ first_none (some b) = refl
 
 -- ---- the clauses of one rule
 
-whole_same : (p : Position) (n : ℕ) → Whole p ≡ Whole (record { at = n }) → p ≡ record { at = n }
+whole_same : (p : Position) (n : ℕ) → ◌≡◌ {A = Result Position ReadError} (Ok p) (Ok (record { at = n })) → p ≡ record { at = n }
 whole_same p n e = cc
 
 module _ (s : List ℕ) (e : ℕ) (words starts : List ℕ) (count chosen : ℕ) where
@@ -88,12 +85,12 @@ module _ (s : List ℕ) (e : ℕ) (words starts : List ℕ) (count chosen : ℕ)
     either_clause false p q = refl
 
     -- A clause, whose formula was read, and then the others.
-    module _ (formula : Position) (over : formula.at ≡ at + 1) (read : Part) (reads_formula : FormulaReads s 0 formula.at read) where
+    module _ (formula : Position) (over : formula.at ≡ at + 1) (read : Result Position ReadError) (reads_formula : FormulaReads s 0 formula.at read) where
       -- A formula that is not whole stands in no rule that was read.
-      pub rule_unread : (i : Form) (n : ℕ) → read ≡ Refused i n → byte s at ≡ 0x04 → SearchesRule s e at k words starts count chosen None
+      pub rule_unread : (refused : ReadError) → read ≡ Err refused → byte s at ≡ 0x04 → SearchesRule s e at k words starts count chosen None
       unfolding Reading.clauses
-      rule_unread i n broken code φs G X S zero end ψs reads exact = never_unfinished reads
-      rule_unread i n broken code φs G X S (suc f) end ψs reads exact = go (clauses_formed f s at ψs end reads)
+      rule_unread refused broken code φs G X S zero end ψs reads exact = never_unfinished reads
+      rule_unread refused broken code φs G X S (suc f) end ψs reads exact = go (clauses_formed f s at ψs end reads)
         where
           go : Clausal f s at ψs end → LowestWrong (Passing φs chosen (λ n e' mark δ φ. told_if (eqb e' e) (first_clause φs G X k ψs n δ φ))) None
           go (no_more here q z) = absurd (here code)
@@ -101,7 +98,7 @@ module _ (s : List ℕ) (e : ℕ) (words starts : List ℕ) (count chosen : ℕ)
               let w = formula_whole s 0 formula.at read reads_formula f ψ next (rw over reads_ψ) in
               let z : ◌≡◌ {A = ℕ} 0 1 = cc in absurd (omega arith)
 
-      module _ (after : Position) (ended : read ≡ Whole after) (facts : Facts) (gathered : FactsRead s formula.at after.at facts) (r : Schemes.Scheme) (keeps : KeepsFacts facts r) where
+      module _ (after : Position) (ended : read ≡ Ok after) (facts : Facts) (gathered : FactsRead s formula.at after.at facts) (r : Schemes.Scheme) (keeps : KeepsFacts facts r) where
         pub rule_goes : byte s at ≡ 0x04 → (found : MaybeWrong)
             → SearchesClause s (record { element = e; place = k; formula = formula; facts = facts; scheme = r }) words starts count chosen found
             → (later : MaybeWrong) → SearchesRule s e after.at (k + 1) words starts count chosen later
@@ -181,83 +178,80 @@ module _ (φs : List Items) (reached standing chosen : ℕ) (table : List ℕ) (
 
 module _ (s : List ℕ) (declared : ℕ) (clauses standing words starts : List ℕ) (count reached : ℕ) where
   -- The rules of the elements below a number.
-  pub record Ruled (e : ℕ) (lowest : MaybeWrong) : Type 0 where
-    pub most : e ≤ 64
-    pub is_declared : e < 64 → member declared e ≡ true
-    pub told : (φs : List Items) (G : Summary) (D : Vocabulary) (X : Formula → Sets) → Standing s φs G words starts count
-        → RulesStand s D declared clauses → Occurrences φs standing → ExactClauses φs G D X
-        → LowestWrong (Passing φs reached (λ n e' mark δ φ. told_if (ltb e' e) (wrong_by_clause φs G X D n e' δ φ))) lowest
+  abbrev pub Ruled : ℕ → MaybeWrong → Type 0
+  Ruled e lowest = (φs : List Items) (G : Summary) (D : Vocabulary) (X : Formula → Sets) → Standing s φs G words starts count
+      → RulesStand s D declared clauses → Occurrences φs standing → ExactClauses φs G D X
+      → LowestWrong (Passing φs reached (λ n e' mark δ φ. told_if (ltb e' e) (wrong_by_clause φs G X D n e' δ φ))) lowest
 
   module _ (φs : List Items) (G : Summary) (D : Vocabulary) (X : Formula → Sets) (R : RulesStand s D declared clauses) where
     undeclared : (e n : ℕ) (δ : List Attribute) (φ : Items) → member declared e ≡ false → wrong_by_clause φs G X D n e δ φ ≡ none
     undeclared e n δ φ absent = ap (λ (o : Option Rule). clause_by φs G X o n δ φ) (no_rule (rule_of D.rules e) (sym (R.declares e) ∙ absent))
 
-    skipped : (from first : ℕ) → FirstMember declared from first → (e n : ℕ) (δ : List Attribute) (φ : Items) → from ≤ e
-        → told_if (ltb e first) (wrong_by_clause φs G X D n e δ φ) ≡ none
-    skipped from first is e n δ φ l = go (ltb e first) refl
-      where
-        go : (t : Bool) → ltb e first ≡ t → told_if t (wrong_by_clause φs G X D n e δ φ) ≡ none
-        go true q = undeclared e n δ φ (is.skips e l (ltb-true e first q))
-        go false q = refl
+    module _ (e n e' : ℕ) (δ : List Attribute) (φ : Items) where
+      w : Option Breach
+      w = wrong_by_clause φs G X D n e' δ φ
 
-    -- One rule more.
-    module _ (e next : ℕ) (is : FirstMember declared (e + 1) next) (r : Rule) (rule : rule_of D.rules e ≡ some r) (n e' : ℕ) (δ : List Attribute) (φ : Items) where
-      pub rule_more : or_first (told_if (ltb e' e) (wrong_by_clause φs G X D n e' δ φ)) (told_if (eqb e' e) (first_clause φs G X 0 r.clauses n δ φ))
-          ≡ told_if (ltb e' next) (wrong_by_clause φs G X D n e' δ φ)
-      rule_more = go (eqb e' e) refl (ltb e' e) refl
+      -- One element more, which has no rule.
+      pub rule_none : member declared e ≡ false → told_if (ltb e' e) w ≡ told_if (ltb e' (e + 1)) w
+      rule_none absent = go (eqb e' e) refl (ltb e' e) refl
         where
-          w : Option Breach
-          w = wrong_by_clause φs G X D n e' δ φ
-
-          go : (a : Bool) → eqb e' e ≡ a → (b : Bool) → ltb e' e ≡ b
-              → or_first (told_if b w) (told_if a (first_clause φs G X 0 r.clauses n δ φ)) ≡ told_if (ltb e' next) w
-          go true p true q = let same = eqb-true e' e p in let l = ltb-true e' e q in absurd (omega arith)
-          go true p false q =
+          go : (a : Bool) → eqb e' e ≡ a → (b : Bool) → ltb e' e ≡ b → told_if b w ≡ told_if (ltb e' (e + 1)) w
+          go true p b q =
               let same = eqb-true e' e p in
-              let a = is.after in
-              rw (lt-ltb e' next (omega arith), same, rule)
-          go false p true q =
-              let l = ltb-true e' e q in
-              let a = is.after in
-              rw (lt-ltb e' next (omega arith)) (first_none w)
+              let none_told : w ≡ none = undeclared e' n δ φ (ap (member declared) same ∙ absent) in
+              rw none_told (told_none b ∙ sym (told_none (ltb e' (e + 1))))
+          go false p true q = let l = ltb-true e' e q in rw (lt-ltb e' (e + 1) (omega arith)) refl
           go false p false q =
               let ne = eqb-false e' e p in
               let l = ltb-false e' e q in
-              sym (skipped (e + 1) next is e' n δ φ (omega arith))
+              rw (le-ltb e' (e + 1) (omega arith)) refl
 
-  pub ruled_none : (e : ℕ) → FirstMember declared 0 e → Ruled e None
-  ruled_none e is = record {
-    most = is.within;
-    is_declared = is.is_held;
-    told = λ φs G D X S R H exact. lowest_never φs reached (λ n e' mark δ φ. told_if (ltb e' e) (wrong_by_clause φs G X D n e' δ φ))
-        (λ n e' mark δ φ. skipped φs G D X R 0 e is e' n δ φ (omega arith));
-  }
+      -- One rule more.
+      pub rule_more : (r : Rule) → rule_of D.rules e ≡ some r
+          → or_first (told_if (ltb e' e) w) (told_if (eqb e' e) (first_clause φs G X 0 r.clauses n δ φ)) ≡ told_if (ltb e' (e + 1)) w
+      rule_more r rule = go (eqb e' e) refl (ltb e' e) refl
+        where
+          go : (a : Bool) → eqb e' e ≡ a → (b : Bool) → ltb e' e ≡ b
+              → or_first (told_if b w) (told_if a (first_clause φs G X 0 r.clauses n δ φ)) ≡ told_if (ltb e' (e + 1)) w
+          go true p true q = let same = eqb-true e' e p in let l = ltb-true e' e q in absurd (omega arith)
+          go true p false q = let same = eqb-true e' e p in rw (lt-ltb e' (e + 1) (omega arith), same, rule)
+          go false p true q = let l = ltb-true e' e q in rw (lt-ltb e' (e + 1) (omega arith)) (first_none w)
+          go false p false q =
+              let ne = eqb-false e' e p in
+              let l = ltb-false e' e q in
+              rw (le-ltb e' (e + 1) (omega arith)) refl
 
-  pub ruled_more : (e : ℕ) (lowest : MaybeWrong) → Ruled e lowest → e < 64 → (chosen : ℕ) → ((k : ℕ) → member chosen k ≡ (member reached k && member (get_or standing e 0) k))
+  pub ruled_none : Ruled 0 None
+  ruled_none φs G D X S R H exact = lowest_never φs reached (λ n e' mark δ φ. told_if (ltb e' 0) (wrong_by_clause φs G X D n e' δ φ))
+      (λ n e' mark δ φ. rw (le-ltb e' 0 (omega arith)) refl)
+
+  pub ruled_past : (e : ℕ) (lowest : MaybeWrong) → Ruled e lowest → member declared e ≡ false → Ruled (e + 1) lowest
+  ruled_past e lowest before absent φs G D X S R H exact = lowest_same φs reached
+      (λ n e' mark δ φ. told_if (ltb e' e) (wrong_by_clause φs G X D n e' δ φ)) (λ n e' mark δ φ. told_if (ltb e' (e + 1)) (wrong_by_clause φs G X D n e' δ φ))
+      (λ n e' mark δ φ. rule_none φs G D X R e n e' δ φ absent) lowest (before φs G D X S R H exact)
+
+  pub ruled_more : (e : ℕ) (lowest : MaybeWrong) → Ruled e lowest → member declared e ≡ true
+      → (chosen : ℕ) → ((k : ℕ) → member chosen k ≡ (member reached k && member (get_or standing e 0) k))
       → (found : MaybeWrong) → SearchesRule s e (get_or clauses e 0) 0 words starts count chosen found
-      → (lower : MaybeWrong) → lower ≡ lower_wrong lowest found → (next : ℕ) → FirstMember declared (e + 1) next → Ruled next lower
-  ruled_more e lowest before low chosen common found searched lower is_lower next is = rw is_lower (record {
-    most = is.within;
-    is_declared = is.is_held;
-    told = λ φs G D X S R H exact.
-        let (r, rule) = rule_found (rule_of D.rules e) (sym (R.declares e) ∙ before.is_declared low) in
-        let from = get_or clauses e 0 in
-        let (end, reads) = R.stands e r rule ((length s - from) + (length s - from) + 2) (omega arith) in
-        let here = searched φs G X S ((length s - from) + (length s - from) + 2) end r.clauses reads (λ ψ m. exact e r ψ rule m) in
-        lowest_same φs reached
-        (λ n e' mark δ φ. or_first (told_if (ltb e' e) (wrong_by_clause φs G X D n e' δ φ)) (told_if (eqb e' e) (first_clause φs G X 0 r.clauses n δ φ)))
-        (λ n e' mark δ φ. told_if (ltb e' next) (wrong_by_clause φs G X D n e' δ φ))
-        (λ n e' mark δ φ. rule_more φs G D X R e next is r rule n e' δ φ) (lower_wrong lowest found)
-        (lowest_either φs reached (λ n e' mark δ φ. told_if (ltb e' e) (wrong_by_clause φs G X D n e' δ φ))
-        (λ n e' mark δ φ. told_if (eqb e' e) (first_clause φs G X 0 r.clauses n δ φ)) lowest found (before.told φs G D X S R H exact)
-        (chosen_wider φs reached (get_or standing e 0) chosen standing e refl common H (λ n e' mark δ φ. first_clause φs G X 0 r.clauses n δ φ) found here));
-  })
+      → (lower : MaybeWrong) → lower ≡ lower_wrong lowest found → Ruled (e + 1) lower
+  ruled_more e lowest before is_declared chosen common found searched lower is_lower φs G D X S R H exact =
+      let (r, rule) = rule_found (rule_of D.rules e) (sym (R.declares e) ∙ is_declared) in
+      let from = get_or clauses e 0 in
+      let (end, reads) = R.stands e r rule ((length s - from) + (length s - from) + 2) (omega arith) in
+      let here = searched φs G X S ((length s - from) + (length s - from) + 2) end r.clauses reads (λ ψ m. exact e r ψ rule m) in
+      rw is_lower (lowest_same φs reached
+      (λ n e' mark δ φ. or_first (told_if (ltb e' e) (wrong_by_clause φs G X D n e' δ φ)) (told_if (eqb e' e) (first_clause φs G X 0 r.clauses n δ φ)))
+      (λ n e' mark δ φ. told_if (ltb e' (e + 1)) (wrong_by_clause φs G X D n e' δ φ))
+      (λ n e' mark δ φ. rule_more φs G D X R e n e' δ φ r rule) (lower_wrong lowest found)
+      (lowest_either φs reached (λ n e' mark δ φ. told_if (ltb e' e) (wrong_by_clause φs G X D n e' δ φ))
+      (λ n e' mark δ φ. told_if (eqb e' e) (first_clause φs G X 0 r.clauses n δ φ)) lowest found (before φs G D X S R H exact)
+      (chosen_wider φs reached (get_or standing e 0) chosen standing e refl common H (λ n e' mark δ φ. first_clause φs G X 0 r.clauses n δ φ) found here)))
 
   pub ruled_all : (e : ℕ) (lowest : MaybeWrong) → Ruled e lowest → 64 ≤ e → declared < 2 ^ 64
       → SearchesRules s declared clauses standing words starts count reached lowest
   ruled_all e lowest all l narrow φs G D X S R H exact = lowest_same φs reached
       (λ n e' mark δ φ. told_if (ltb e' e) (wrong_by_clause φs G X D n e' δ φ)) (λ n e' mark δ φ. wrong_by_clause φs G X D n e' δ φ)
-      (λ n e' mark δ φ. go n e' δ φ (ltb e' e) refl) lowest (all.told φs G D X S R H exact)
+      (λ n e' mark δ φ. go n e' δ φ (ltb e' e) refl) lowest (all φs G D X S R H exact)
     where
       go : (n e' : ℕ) (δ : List Attribute) (φ : Items) (b : Bool) → ltb e' e ≡ b
           → told_if b (wrong_by_clause φs G X D n e' δ φ) ≡ wrong_by_clause φs G X D n e' δ φ

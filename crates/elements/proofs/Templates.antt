@@ -2,13 +2,12 @@
 use Prim.Native.Nat.{ℕ, ◌+◌, ◌≤◌, ◌<◌}
 use mathlib.Core.Path.{◌≡◌}
 use mathlib.Core.List.{List}
-use mathlib.Core.Bool.{true}
+use mathlib.Core.Bool.{true, false}
 use mathlib.Core.Logic.{◌⊎◌, ⊎_elim}
 use native.Mathlib.Omega.{arith}
 use lib.ListN.{length, get_or}
 use Rattle.std.specs.Prelude.{None}
 use Rattle.sets.specs.Sets.{member}
-use Rattle.sets.specs.Inner.Promises.{FirstMember}
 use Rattle.vocabularies.specs.Vocabulary.{Formula}
 use Rattle.pages.specs.Items.{Items}
 use Rattle.programs.specs.Program.{template_at}
@@ -18,7 +17,7 @@ use Rattle.patterns.specs.Inner.Given.{Bounded}
 use Rattle.patterns.specs.Inner.Rounds.{Sets}
 use Rattle.patterns.specs.Inner.Exactness.{Exact}
 use Rattle.patterns.specs.Inner.LowestWrong.{MaybeWrong, lower_wrong, LowestWrong}
-use Rattle.patterns.proofs.LowestOf.{Below, looked_none, looked_more, looked_all}
+use Rattle.patterns.proofs.LowestOf.{Below, looked_none, looked_past, looked_more, looked_all}
 use Rattle.schemes.specs.declared.Scheme.{Scheme}
 use Rattle.schemes.specs.Inner.Schemes.{StandsFor, of_facts}
 use Rattle.graphs.specs.Inner.Graphs.{Keeps}
@@ -40,26 +39,6 @@ template_searched s from c words sets n takes gaps found searched φs G ψ X cou
     (searched φs G ψ X (record { clause = C; bounded = kept.bounded; keeps = kept.keeps; gaps = gaps φs G (patterns_by ψ) X (omega arith) kept.bounded kept.keeps are })
     stand.ruled stand.fuel 0 stand.end φ stand.reads).finds
 
--- Sets that are settled by one scheme serve another that stands for the same morphisms.
-pub settled_same : (a b : Scheme) (s words starts : List ℕ) (count : ℕ) (sets : List (List ℕ)) → ((M : Morphism) → StandsFor b M → StandsFor a M)
-    → SettledBy a s words starts count sets → SettledBy b s words starts count sets
-settled_same a b s words starts count sets same (made, settles) = (
-  made,
-  λ φs G M shown k. settles φs G M (record {
-    lent = record { used = shown.lent.used; reads = same M shown.lent.reads; bounded = shown.lent.bounded; keeps = shown.lent.keeps };
-    few = shown.few;
-    stand = shown.stand;
-  }) k,
-)
-
--- The templates below t have been searched.
-pub record Turning (s : List ℕ) (c : Clause) (words starts : List ℕ) (count chosen t : ℕ) (lowest : MaybeWrong) : Type 0 where
-  pub least : 1 ≤ t
-  pub most : t ≤ 64
-  pub is_chosen : t < 64 → member chosen t ≡ true
-  pub told : (φs : List Items) (G : Summary) (ψ : Formula) (X : Sets) → Standing s φs G words starts count → ClauseAt s ψ c
-      → Exact φs G (patterns_by ψ) X → LowestWrong (Below φs chosen (λ n. fails_at φs G ψ X c.place n c.element) t) lowest
-
 module _ (s : List ℕ) (c : Clause) (words starts : List ℕ) (count chosen : ℕ) where
   -- The sets that the rounds end with are the exact ones.
   exact_sets : (made : ℕ) (sets : List (List ℕ)) → Settles c.scheme s words starts count made sets → (φs : List Items) (G : Summary) (ψ : Formula) (X : Sets)
@@ -70,32 +49,29 @@ module _ (s : List ℕ) (c : Clause) (words starts : List ℕ) (count chosen : �
       let lent : Lent c.scheme words φs G (patterns_by ψ) = record { used = of_clause ψ; reads = of_facts C.reads; bounded = S.graph.bounded; keeps = S.graph.keeps } in
       settled_exact lent made sets (settles φs G (patterns_by ψ) (record { lent = lent; few = omega arith; stand = S.stand }) k) X exact
 
-  pub turning_begin : (t : ℕ) → FirstMember chosen 1 t → Turning s c words starts count chosen t None
-  turning_begin t first = record {
-    least = first.after;
-    most = first.within;
-    is_chosen = first.is_held;
-    told = λ φs G ψ X S C exact. looked_none φs chosen (λ n. fails_at φs G ψ X c.place n c.element) t first.skips;
-  }
+  -- The templates below t have been searched.
+  abbrev pub Turning : ℕ → MaybeWrong → Type 0
+  Turning t lowest = (φs : List Items) (G : Summary) (ψ : Formula) (X : Sets) → Standing s φs G words starts count → ClauseAt s ψ c
+      → Exact φs G (patterns_by ψ) X → LowestWrong (Below φs chosen (λ n. fails_at φs G ψ X c.place n c.element) t) lowest
 
-  module _ (t : ℕ) (lowest : MaybeWrong) (T : Turning s c words starts count chosen t lowest) where
-    pub turning_more : t < 32 → t ≤ count → (made : ℕ) (sets : List (List ℕ)) → Settles c.scheme s words starts count made sets
+  pub turning_begin : Turning 1 None
+  turning_begin φs G ψ X S C exact = looked_none φs chosen (λ n. fails_at φs G ψ X c.place n c.element)
+
+  module _ (t : ℕ) (lowest : MaybeWrong) (T : Turning t lowest) where
+    pub turning_by : member chosen t ≡ false → Turning (t + 1) lowest
+    turning_by absent φs G ψ X S C exact = looked_past φs chosen (λ n. fails_at φs G ψ X c.place n c.element) t absent lowest (T φs G ψ X S C exact)
+
+    pub turning_more : 1 ≤ t → t < 32 → t ≤ count → member chosen t ≡ true → (made : ℕ) (sets : List (List ℕ)) → Settles c.scheme s words starts count made sets
         → (found : MaybeWrong) → SearchesTemplate s (get_or starts t 0) c words sets t found
-        → (lower : MaybeWrong) → lower ≡ lower_wrong lowest found → (next : ℕ) → FirstMember chosen (t + 1) next → Turning s c words starts count chosen next lower
-    turning_more low there made sets settles found searched lower is next first = record {
-      least = let a = first.after in omega arith;
-      most = first.within;
-      is_chosen = first.is_held;
-      told = λ φs G ψ X S C exact.
-          let k = S.graph.counts in
-          let picked = T.is_chosen (omega arith) in
-          rw is (looked_more φs chosen (λ n. fails_at φs G ψ X c.place n c.element) t next picked (omega arith) first.after first.skips lowest found
-          (searched φs G ψ X count S.graph C (exact_sets made sets settles φs G ψ X S C exact) (template_at φs t) (S.stand t T.least (omega arith)))
-          (T.told φs G ψ X S C exact));
-    }
+        → (lower : MaybeWrong) → lower ≡ lower_wrong lowest found → Turning (t + 1) lower
+    turning_more least low there picked made sets settles found searched lower is φs G ψ X S C exact =
+        let k = S.graph.counts in
+        rw is (looked_more φs chosen (λ n. fails_at φs G ψ X c.place n c.element) t picked (omega arith) lowest found
+        (searched φs G ψ X count S.graph C (exact_sets made sets settles φs G ψ X S C exact) (template_at φs t) (S.stand t least (omega arith)))
+        (T φs G ψ X S C exact))
 
     pub turning_all : (count < t) ⊎ (32 ≤ t) → SearchesClause s c words starts count chosen lowest
-    turning_all end φs G ψ X S C exact = looked_all φs chosen (λ n. fails_at φs G ψ X c.place n c.element) t lowest (past end) (T.told φs G ψ X S C exact)
+    turning_all end φs G ψ X S C exact = looked_all φs chosen (λ n. fails_at φs G ψ X c.place n c.element) t lowest (past end) (T φs G ψ X S C exact)
       where
         past : (count < t) ⊎ (32 ≤ t) → length φs < t
         past e = let k = S.graph.counts in let few = S.graph.few in ⊎_elim (λ e. omega arith) (λ e. omega arith) e

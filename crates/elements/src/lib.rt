@@ -1,15 +1,14 @@
 // Elements of templates that are wrong by a clause of their rule (document 01, verdict 12; document 02, F-6), clause by clause.
 #![tactic(auto)]
 
-ghost use Rattle.std.specs.Prelude.{◌≡◌, true, ◌≤◌, ◌<◌};
-ghost use Rattle.sets.specs.Inner.Promises.{FirstMember};
+ghost use Rattle.std.specs.Prelude.{◌≡◌, ◌≤◌, ◌<◌, IfSome};
 ghost use Rattle.judging.specs.Inner.Judgement.{broken_if};
 ghost use Rattle.patterns.specs.Inner.LowestWrong.{wrong_at};
 ghost use Rattle.elements.specs.Inner.Attributes.{AttributePatterns};
 ghost use Rattle.elements.specs.Inner.Rules.{SettledBy, SearchesTemplate, SearchesClause, SearchesRule, SearchesRules};
 ghost use Rattle.elements.specs.Inner.Search.{CanFail, HasPattern, SearchesElement, SearchesItems};
 
-use commands::{Part, Past, Position};
+use commands::Position;
 use graphs::Graph;
 use pages::{AttributeHere, ItemHere, TEXT, Templates};
 use patterns::Wrong;
@@ -266,53 +265,36 @@ fn search_clause(
     ensures { SearchesClause s.now clause graph.now templates.now.starts templates.now.count chosen result }
 {
     let mut lowest = None;
-    let mut t = sets::first_member(chosen, 1);
-    while t < 32 {
-        let n = t as usize;
+    for n in 1..32 {
         if templates.count < n {
             return lowest;
         }
-        let found = search_template(s, Position::new(templates.starts[n]), clause, n, graph, sets);
-        lowest = patterns::lower(lowest, found);
-        t = sets::first_member(chosen, t + 1);
+        if sets::has(chosen, n as u8) {
+            let start = Position::new(templates.starts[n]);
+            let found = search_template(s, start, clause, n, graph, sets);
+            lowest = patterns::lower(lowest, found);
+        }
     }
     lowest
 }
 
-// Whether the sets at hand are settled, and by which scheme.
-#[derive(Clone, Copy)]
-struct AtHand {
-    known: bool,
-    scheme: Scheme,
-}
-
-// The sets settled by a scheme: those at hand, if their scheme is the same, as it often is of the clauses of a rule.
+// The sets become those settled by a scheme. They are at hand if they were settled by the same one, as they often are for the clauses of a
+// rule.
 fn settle_by(
     s: &[u8],
-    last: AtHand,
+    at_hand: Option<Scheme>,
     scheme: Scheme,
     graph: &Graph,
     templates: &Templates,
     sets: &mut [[u64; 4]; 32],
-) -> AtHand
-    requires { last.known ≡ true → SettledBy last.scheme s.now graph.now templates.now.starts templates.now.count sets.old }
-    ensures known { result.scheme ≡ scheme }
-    ensures settled { SettledBy scheme s.now graph.now templates.now.starts templates.now.count sets.new }
+)
+    requires { IfSome at_hand (λ last. SettledBy last s.now graph.now templates.now.starts templates.now.count sets.old) }
+    ensures { SettledBy scheme s.now graph.now templates.now.starts templates.now.count sets.new }
 {
-    let settled = last.scheme;
-    if last.known {
-        if schemes::same(settled, scheme) {
-            return AtHand {
-                known: true,
-                scheme,
-            };
-        }
+    if at_hand == Some(scheme) {
+        return;
     }
     languages::settle(s, scheme, graph, templates, sets);
-    AtHand {
-        known: true,
-        scheme,
-    }
 }
 
 // The clauses of element e's rule, which stand from an offset on, for the templates of a set.
@@ -333,23 +315,18 @@ fn search_rule(
     let mut here = Position::new(from);
     let mut place: usize = 0;
     let mut sets = [[0u64; 4]; 32];
-    let mut at_hand = AtHand {
-        known: false,
-        scheme: schemes::facts_scheme(vocabularies::no_facts()),
-    };
+    let mut at_hand = None;
     loop {
-        let begins = here.past(s, 0x04);
-        let Past::Over(formula) = begins else {
+        let Some(formula) = here.past(s, 0x04) else {
             return lowest;
         };
-        let part = vocabularies::read_formula(s, formula, 0);
-        let Part::Whole(next) = part else {
+        let Ok(next) = vocabularies::read_formula(s, formula, 0) else {
             return lowest;
         };
         let facts = vocabularies::facts_of(s, formula, next);
         let scheme = schemes::facts_scheme(facts);
-        let settled = settle_by(s, at_hand, scheme, graph, templates, &mut sets);
-        at_hand = settled;
+        settle_by(s, at_hand, scheme, graph, templates, &mut sets);
+        at_hand = Some(scheme);
         let clause = Clause {
             element: e,
             place,
@@ -364,17 +341,6 @@ fn search_rule(
     }
 }
 
-// The first element of a set from a place on, or 64.
-fn next_element(set: u64, from: u32) -> u32
-    requires { from ≤ 64 }
-    ensures { FirstMember set from result }
-{
-    if from == 64 {
-        return 64;
-    }
-    sets::first_member(set, from)
-}
-
 // All clauses of all rules, for the templates that are reached; `standing` has the templates in which each element stands.
 pub fn search_rules(
     s: &[u8],
@@ -386,16 +352,13 @@ pub fn search_rules(
 ) -> Option<Wrong>
     ensures { SearchesRules s.now rules.declared rules.clauses standing.now graph.now templates.now.starts templates.now.count reached result }
 {
-    let declared = rules.declared;
-    let clauses = rules.clauses;
     let mut lowest = None;
-    let mut e = sets::first_member(declared, 0);
-    while e < 64 {
-        let i = e as usize;
-        let chosen = sets::common(reached, standing[i]);
-        let found = search_rule(s, e as u8, clauses[i], graph, templates, chosen);
-        lowest = patterns::lower(lowest, found);
-        e = next_element(declared, e + 1);
+    for e in 0..64 {
+        if sets::has(rules.declared, e as u8) {
+            let chosen = sets::common(reached, standing[e]);
+            let found = search_rule(s, e as u8, rules.clauses[e], graph, templates, chosen);
+            lowest = patterns::lower(lowest, found);
+        }
     }
     lowest
 }

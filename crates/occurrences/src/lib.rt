@@ -86,16 +86,13 @@ pub fn of_templates(s: &[u8], templates: &Templates, table: &mut [u64; 64]) -> O
 {
     let mut contents = [0u64; 32];
     let mut gaps = [0u64; 32];
-    let mut n: u8 = 1;
-    while n < 32 {
-        let t = n as usize;
-        if count < t {
-            return Outlines { contents, gaps };
+    for n in 1..32 {
+        if templates.count < n {
+            break;
         }
-        let outer = outline_items(s, Position::new(starts[t]), n, table);
-        contents[t] = outer.contents;
-        gaps[t] = outer.gaps;
-        n += 1;
+        let outer = outline_items(s, Position::new(templates.starts[n]), n as u8, table);
+        contents[n] = outer.contents;
+        gaps[n] = outer.gaps;
     }
     Outlines { contents, gaps }
 }

@@ -1,25 +1,23 @@
+use mathlib.Core.Path.{sym, ◌∙◌}
 use mathlib.Core.Logic.{inl, inr}
-use native.Mathlib.Omega.{arith}
-use Rattle.elements.proofs.Templates.{turning_begin, turning_more, turning_all}
+use Rattle.elements.proofs.Templates.{turning_begin, turning_by, turning_more, turning_all}
 use Rattle.elements.proofs.search_clause.Goals as goal
+use Rattle.elements.proofs.search_clause.Goals.{then-has, else-has}
 
-pub loop-t-init : goal.loop-t-init
-loop-t-init c = let args = c.args in
-    turning_begin args.s.now args.clause args.graph.now args.starts.now args.count args.chosen _ c.first_member-t.ensures
+pub loop-n-init : goal.loop-n-init
+loop-n-init c = turning_begin _ _ _ _ _ _
 
-pub overflow_cast-n : goal.overflow_cast-n
-overflow_cast-n c = omega arith
+pub returns-then-templates-n : goal.returns-then-templates-n
+returns-then-templates-n c = turning_all _ _ _ _ _ _ _ _ c.loop-n.invariant (inl c.if-templates-n.true)
 
-pub returns-then-count-n : goal.returns-then-count-n
-returns-then-count-n c = turning_all _ _ _ _ _ _ _ _ c.loop-t.invariant (inl c.if-count-n.true)
-
-pub loop-t-smaller : goal.loop-t-smaller
-loop-t-smaller c = omega (arith, c.first_member-t-in-loop-t.ensures.after, c.loop-t.invariant.most)
-
-pub loop-t-preserved : goal.loop-t-preserved
-loop-t-preserved c = let settled = c.requires in
-    turning_more _ _ _ _ _ _ _ _ c.loop-t.invariant c.loop-t-test.true c.if-count-n.false settled.0 _ settled.1
-    c.search_template-found.result (rw c.new.ensures at c.search_template-found.ensures) c.lower-lowest.result c.lower-lowest.ensures _ c.first_member-t-in-loop-t.ensures
+pub loop-n-preserved : goal.loop-n-preserved
+loop-n-preserved c = let settled = c.requires in
+    elim c.if-has.branch [
+      | then-has m ↦ rw m.lowest-is (turning_more _ _ _ _ _ _ _ _ c.loop-n.invariant c.loop-n.auto.n c.loop-n-test.true c.if-templates-n.false
+          (sym c.has.ensures ∙ m.if-has.true) settled.0 _ settled.1 m.search_template-found.result (rw m.new-start.ensures at m.search_template-found.ensures)
+          m.lower-lowest.result m.lower-lowest.ensures)
+      | else-has m ↦ rw m.lowest-is (turning_by _ _ _ _ _ _ _ _ c.loop-n.invariant (sym c.has.ensures ∙ m.if-has.false))
+    ]
 
 pub returns : goal.returns
-returns c = turning_all _ _ _ _ _ _ _ _ c.loop-t.invariant (inr c.loop-t-test.false)
+returns c = turning_all _ _ _ _ _ _ _ _ c.loop-n.invariant (inr c.loop-n-test.false)

@@ -6,17 +6,14 @@ use Rattle.occurrences.proofs.of_templates.Goals as goal
 pub loop-n-init : goal.loop-n-init
 loop-n-init c = telling_none _ _ _ _ c.requires
 
-pub returns-then-count-t : goal.returns-then-count-t
-returns-then-count-t c = telling_all _ _ _ _ _ _ _ c.loop-n.invariant (inl c.if-count-t.true)
+pub returns-then-templates-n : goal.returns-then-templates-n
+returns-then-templates-n c = telling_all _ _ _ _ _ _ _ c.loop-n.invariant (inl c.if-templates-n.true)
 
 pub outline_items-outer-requires : goal.outline_items-outer-requires
 outline_items-outer-requires c = (c.loop-n.invariant.wide, omega arith)
 
-pub loop-n-smaller : goal.loop-n-smaller
-loop-n-smaller c = omega arith
-
 pub loop-n-preserved : goal.loop-n-preserved
-loop-n-preserved c = telling_more _ _ _ _ _ _ _ c.loop-n.invariant c.loop-n-test.true c.if-count-t.false c.outline_items-outer.result _ c.outline_items-outer.ensures.long c.outline_items-outer.ensures.keeps
+loop-n-preserved c = telling_more _ _ _ _ _ _ _ c.loop-n.invariant c.loop-n-test.true c.if-templates-n.false c.outline_items-outer.result _ c.outline_items-outer.ensures.long c.outline_items-outer.ensures.keeps
     (rw c.new.ensures at c.outline_items-outer.ensures.told)
 
 pub returns : goal.returns
