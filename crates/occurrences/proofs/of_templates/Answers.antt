@@ -16,5 +16,5 @@ pub loop-n-preserved : goal.loop-n-preserved
 loop-n-preserved c = telling_more _ _ _ _ _ _ _ c.loop-n.invariant c.loop-n-test.true c.if-templates-n.false c.outline_items-outer.result _ c.outline_items-outer.ensures.long c.outline_items-outer.ensures.keeps
     (rw c.new.ensures at c.outline_items-outer.ensures.told)
 
-pub returns : goal.returns
-returns c = telling_all _ _ _ _ _ _ _ c.loop-n.invariant (inr c.loop-n-test.false)
+pub returns-after-loop-n : goal.returns-after-loop-n
+returns-after-loop-n c = telling_all _ _ _ _ _ _ _ c.loop-n.invariant (inr c.loop-n-test.false)
