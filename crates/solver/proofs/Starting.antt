@@ -1,8 +1,8 @@
 -- The start is put at point 0, at one variable after the other.
 use Prim.Native.Nat.{ℕ, ◌+◌, ◌-◌, ◌≤◌, ◌<◌, min}
-use mathlib.Core.Path.{◌≡◌, refl, sym, ap, ◌∙◌}
+use mathlib.Core.Path.{◌≡◌, refl, sym, ◌∙◌}
 use mathlib.Core.List.{List, ◌++◌}
-use mathlib.Core.Bool.{Bool, true, false, cond, ◌&&◌, and-false, false≢true}
+use mathlib.Core.Bool.{Bool, true, false, cond, false≢true}
 use native.Mathlib.Omega.{arith}
 use lib.ListN.{length, get_or, take, drop, replicate}
 use lib.Seq.{length-take-le, get_or-drop}
@@ -25,7 +25,7 @@ use Rattle.states.specs.Inner.States.{entries_in}
 use Rattle.states.specs.Inner.Promises.{GraphJoined, ValuesJoined}
 use Rattle.solver.specs.Inner.Flows.{Starts}
 use Rattle.solver.specs.Inner.Work.{HasWords, all_variables, VariableStarts, NamedStarts, Started}
-use Rattle.solver.proofs.Worklist.{same_or_not, lower, starts_from, starts_past, starts_on}
+use Rattle.solver.proofs.Worklist.{starts_from, starts_past, starts_on}
 use Rattle.solver.proofs.Entering.{graph_said, template_entered, string_entered}
 use Rattle.solver.proofs.Flowing.{has_words}
 use Rattle.solver.proofs.Bounds.{start_inside}

@@ -5,4 +5,4 @@ use Rattle.solver.proofs.filled_graph.Goals as goal
 
 pub returns : goal.returns
 returns c = λ points l.
-    fill_keeps _ c.values_at-values.result _ c.filling.ensures _ _ (λ t. sym (c.values_at-values.ensures.keeps points l t)) _ (c.pass.ensures _ (c.graph_at-graph.ensures.keeps points l))
+    fill_keeps c.args.h c.values_at-values.result _ _ (λ t. sym (c.values_at-values.ensures.keeps points l t)) _ (c.pass.ensures _ (c.graph_at-graph.ensures.keeps points l))
