@@ -68,14 +68,11 @@ rule_finishes f s e at h =
     let l₂ = rising_ends f Contents s 0 next cs next' y in
     last_finishes (clauses f s next') (λ ψs. record { element = e; attributes = names; contents = cs; clauses = ψs }) (clauses_finishes f s next' (omega arith))
 
--- What code that reads a rule does. A refusal in a list is the rule's.
 abbrev Names : List ℕ → ℕ → Type 0
 Names ns set = (k : ℕ) → member set k ≡ is_in k ns
 
+-- What code that reads a rule does. A refusal in a list is the rule's.
 module _ (s : List ℕ) (at : ℕ) where
-  pub rule_attributes : (i : ReadError) → NamesRead s Attributes at (Err i) → RuleReads s at (Err i)
-  rule_attributes i read e f h = rw (agrees_with_refused Names (rising f Attributes s 0 at) i (read f h)) (refl, refl)
-
   module _ (attributes : ℕ) (next : Position) (read : NamesRead s Attributes at (Ok (attributes, next))) where
     -- The attributes at a fuel that is enough, and that it is enough behind them.
     attributes_read : (f : ℕ) → Enough s at f → (ns : List ℕ) × (rising f Attributes s 0 at ≡ whole ns next.at) × Names ns attributes × Enough s next.at f

@@ -14,9 +14,6 @@ returns-then-depth-ge-FORMULA_NESTING t c =
     let deep : formula_nesting ≤ c.args.depth = omega arith in
     search formula_deep_one
 
-pub overflow_add-depth : goal.overflow_add-depth
-overflow_add-depth t c = omega arith
-
 pub read_formula-requires : goal.read_formula-requires
 read_formula-requires t c = (search command_falls, tt)
 
@@ -25,17 +22,11 @@ returns-then-depth-ge-FORMULA_NESTING-2 t c =
     let deep : formula_nesting ≤ c.args.depth = omega arith in
     search formula_deep_two
 
-pub overflow_add-depth-in-16 : goal.overflow_add-depth-in-16
-overflow_add-depth-in-16 t c = omega arith
-
 pub read_formula-requires-in-16 : goal.read_formula-requires-in-16
 read_formula-requires-in-16 t c = (search command_falls, tt)
 
 pub returns-in_err-middle-in-16 : goal.returns-in_err-middle-in-16
 returns-in_err-middle-in-16 t c = search (rules, formula_first, c.in_err-middle-in-16.ensures)
-
-pub overflow_add-depth-in-16-2 : goal.overflow_add-depth-in-16-2
-overflow_add-depth-in-16-2 t c = omega arith
 
 pub read_formula-requires-in-16-2 : goal.read_formula-requires-in-16-2
 read_formula-requires-in-16-2 t c = (search (formula_falls, c.in_ok-middle-in-16.ensures), tt)

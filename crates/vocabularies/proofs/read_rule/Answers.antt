@@ -3,14 +3,11 @@ use mathlib.Core.Path.{refl}
 use mathlib.Core.Logic.{inl, inr}
 use Rattle.std.proofs.Common.{rules}
 use Rattle.vocabularies.proofs.NameLists.{attribute_single, content_single}
-use Rattle.vocabularies.proofs.Rules.{rule_attributes, rule_contents, rule_clauses, rule_whole}
+use Rattle.vocabularies.proofs.Rules.{rule_contents, rule_clauses, rule_whole}
 use Rattle.vocabularies.proofs.read_rule.Goals as goal
 
 pub read_names-requires : goal.read_names-requires
 read_names-requires c = (inl refl, attribute_single)
-
-pub returns-in_err-attributes : goal.returns-in_err-attributes
-returns-in_err-attributes c = search (rules, rule_attributes _ _ _ c.in_err-attributes.ensures)
 
 pub read_names-requires-2 : goal.read_names-requires-2
 read_names-requires-2 c = (inr refl, content_single)
