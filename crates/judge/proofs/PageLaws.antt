@@ -1,24 +1,21 @@
 -- The verdict of a page, from what reading and judging it tell.
-use Prim.Native.Nat.{ℕ, zero, suc, ◌≤◌, ◌<◌}
+use Prim.Native.Nat.{ℕ, zero, suc}
 use mathlib.Core.Path.{◌≡◌, refl, sym, ap, fun_ext, subst, ◌∙◌}
 use mathlib.Core.List.{List}
 use mathlib.Core.Logic.{inl, inr}
 use mathlib.Core.Bool.{Bool, true, false, cond, false≢true}
-use Rattle.std.specs.Prelude.{Result, Ok, Err}
-use lib.ListN.{length}
+use Rattle.std.specs.Prelude.{Result, Ok, Err, MatchResult, IsErrAnd}
 use lib.Dec.{eqb}
-use borrow.Author.Tests.{eq-eqb, ne_eqb, eqb-true, le-leb, le-ltb}
+use borrow.Author.Tests.{eq-eqb, ne_eqb, eqb-true}
 use Rattle.verdicts.specs.declared.Refusal.{Refusal}
 use Rattle.verdicts.specs.declared.Verdict.{Verdict}
 use Rattle.verdicts.specs.declared.Verdict.TheVariants.{Accepted, Refused}
 use Rattle.verdicts.specs.Printed.{unreadable, numbers_of}
 use Rattle.verdicts.specs.TheVerdict.{TheVerdict}
-use Rattle.sets.specs.Sets.{member}
 use Rattle.commands.specs.declared.Position.{Position}
 use Rattle.commands.specs.declared.ReadError.{ReadError}
 use Rattle.commands.specs.Commands.{byte}
-use Rattle.commands.specs.Reading.{Read, whole, refused, enough}
-use Rattle.commands.specs.Inner.Parts.{Agrees, AgreesWith}
+use Rattle.commands.specs.Reading.{whole, enough}
 use Rattle.vocabularies.specs.declared.Tables.{Tables}
 use Rattle.vocabularies.specs.Vocabulary.{Vocabulary, declared}
 use Rattle.vocabularies.specs.VocabularyReading.{vocabulary, alone, vocabulary_slice}
@@ -40,8 +37,8 @@ use Rattle.judging.proofs.Booleans.{by_test}
 use Rattle.judging.proofs.AttributeLaws.{no_template}
 use Rattle.judging.proofs.ItemLaws.{or_none}
 use Rattle.judge.specs.Inner.Answers.{not_root, Solid, AfterBlank, JudgesRead, VocabularyReads, PageReads}
-use Rattle.jobs.specs.Inner.Promises.{FewEnough, EndedAt, AgreesAlone}
-use Rattle.jobs.proofs.Alone.{WholeAlone, kept_alone, refused_alone}
+use Rattle.jobs.specs.Inner.Promises.{AgreesAlone}
+use Rattle.jobs.proofs.Alone.{WholeAlone, kept_alone, refused_alone, told_err, told_ok}
 use Rattle.jobs.proofs.Tables.{alone_whole}
 use Rattle.judge.proofs.BlankLaws.{none_left}
 
@@ -130,16 +127,35 @@ module _ (v p : List ℕ) (t : Tables) (r : Verdict) (at : Position) (A : AfterB
             (λ e. rw (a, e, wrong_in D p φ at.at end S h first-is x start opens i (J D H) last B (eqb-true (byte p last.at) 0x27 e)))
             (λ e. rw (a, e))
 
+-- 11 where the root is not alone, and else what is wrong in it.
+pub not_alone : (b : Bool) (w : Verdict) (e : Refusal) → Refused e ≡ cond b Accepted (Refused not_root) → Refused e ≡ cond b w (Refused not_root)
+not_alone true w e h = cc
+not_alone false w e h = h
+
+pub is_alone_then : (b : Bool) (r w : Verdict) → Accepted ≡ cond b Accepted (Refused not_root) → r ≡ w → r ≡ cond b w (Refused not_root)
+is_alone_then true r w h q = q
+is_alone_then false r w h q = cc
+
 -- ---- any vocabulary and any page
 
-module _ (v p : List ℕ) (x : Result Tables ReadError) (A : VocabularyReads v x) where
-  pub vocabulary_refused : (e : ReadError) → x ≡ Err e → (f : Refusal) → f ≡ unreadable e.form e.at 0 → Refused f ≡ page_verdict v p
-  unfolding page_verdict
-  vocabulary_refused e q f is = rw (is, refused_alone (Describes v) (vocabulary_slice v) x e q A)
+abbrev pub unreadable_at : ℕ → ReadError → Refusal
+unreadable_at slice e = unreadable e.form e.at slice
 
-  module _ (t : Tables) (q : x ≡ Ok t) where
+-- The refusal of a slice, by the error that its reading gave.
+abbrev pub TellsSlice : {A : Type 0} → ℕ → Result A ReadError → Result A Refusal → Type 0
+TellsSlice slice x y = MatchResult x (λ a. y ≡ Ok a) (λ e. IsErrAnd y (λ r. r ≡ unreadable_at slice e))
+
+module _ (v p : List ℕ) (x : Result Tables ReadError) (A : VocabularyReads v x) (x' : Result Tables Refusal) (tells : TellsSlice 0 x x') where
+  pub vocabulary_refused : (f : Refusal) → x' ≡ Err f → Refused f ≡ page_verdict v p
+  unfolding page_verdict vocabulary_slice
+  vocabulary_refused f q =
+      let (e, is, told) = told_err (unreadable_at 0) x x' tells f q in
+      rw (told, refused_alone (Describes v) (alone v (vocabulary v)) x e is A)
+
+  module _ (t : Tables) (q : x' ≡ Ok t) where
     read : WholeAlone (Describes v) (vocabulary_slice v) t
-    read = kept_alone (Describes v) (vocabulary_slice v) x t q A
+    unfolding vocabulary_slice
+    read = kept_alone (Describes v) (alone v (vocabulary v)) x t (told_ok (unreadable_at 0) x x' tells t q) A
 
     abbrev D : Vocabulary
     D = read.tree
@@ -148,18 +164,20 @@ module _ (v p : List ℕ) (x : Result Tables ReadError) (A : VocabularyReads v x
     unfolding page_verdict
     under = rw read.reads
 
-    module _ (y : Result (Unit {0}) ReadError) (B : PageReads t.declared p y) where
+    module _ (y : Result (Unit {0}) ReadError) (B : PageReads t.declared p y) (y' : Result (Unit {0}) Refusal) (tells_page : TellsSlice 1 y y') where
       page_reads : AgreesAlone (λ (φ : Items) u. Unit {0}) (page_slice D p) y
       unfolding page_slice
       page_reads = subst (λ (ruled : ℕ → Bool). AgreesAlone (λ (φ : Items) (u : Unit {0}). Unit {0}) (alone p (items (enough p) Page ruled p 0 0)) y) (fun_ext read.holds.declares) B
 
-      pub page_refused : (e : ReadError) → y ≡ Err e → (f : Refusal) → f ≡ unreadable e.form e.at 1 → Refused f ≡ page_verdict v p
-      page_refused e z f is = rw (is, refused_alone (λ (φ : Items) u. Unit {0}) (page_slice D p) y e z page_reads) under
+      pub page_refused : (f : Refusal) → y' ≡ Err f → Refused f ≡ page_verdict v p
+      page_refused f z =
+          let (e, is, told) = told_err (unreadable_at 1) y y' tells_page f z in
+          rw told (sym (ap (judged D) (refused_alone (λ (φ : Items) u. Unit {0}) (page_slice D p) y e is page_reads)) ∙ under)
 
-      pub page_judged : (u : Unit {0}) → y ≡ Ok u → (r : Verdict) → JudgesRead v p t r → r ≡ page_verdict v p
+      pub page_judged : (u : Unit {0}) → y' ≡ Ok u → (r : Verdict) → JudgesRead v p t r → r ≡ page_verdict v p
       unfolding page_slice
       page_judged u z r R =
-          let w = kept_alone (λ (φ : Items) u. Unit {0}) (page_slice D p) y u z page_reads in
+          let w = kept_alone (λ (φ : Items) u. Unit {0}) (page_slice D p) y u (told_ok (unreadable_at 1) y y' tells_page u z) page_reads in
           let reads = alone_whole p (items (enough p) Page (declared D.rules) p 0 0) w.reads in
           R D read.holds w.tree w.end reads ∙ (sym (ap (judged D) w.reads) ∙ under)
 

@@ -54,9 +54,9 @@ fn after_blank(page: &[u8], here: Position) -> Position
 fn page_end(page: &[u8], here: Position) -> Result<(), Refusal>
     ensures { verdict_of result ≡ cond (eqb (byte page.now here.at) 0x27) Verdict.Accepted (Verdict.Refused not_root) }
 {
-    if here.past(page, 0x27).is_none() {
+    let Some(_) = here.past(page, 0x27) else {
         return Err(not_root());
-    }
+    };
     Ok(())
 }
 
@@ -88,24 +88,25 @@ fn judge_read(vocabulary: &[u8], tables: Tables, page: &[u8]) -> Result<(), Refu
 }
 
 // The vocabulary of a slice: 1 to 7 where it cannot be read.
-fn read_vocabulary(s: &[u8]) -> Result<Tables, ReadError>
-    ensures { VocabularyReads s.now result }
+fn read_vocabulary(vocabulary: &[u8]) -> Result<Tables, ReadError>
+    ensures { VocabularyReads vocabulary.now result }
 {
-    jobs::not_too_many(s)?;
-    let (tables, end) = vocabularies::read_vocabulary(s)?;
-    jobs::ended(s, end)?;
+    jobs::not_too_many(vocabulary)?;
+    let (tables, end) = vocabularies::read_vocabulary(vocabulary)?;
+    jobs::ended(vocabulary, end)?;
     Ok(tables)
 }
 
-// 1 to 8 where a slice is no page with these elements.
-fn read_page(declared: u64, s: &[u8]) -> Result<(), ReadError>
-    ensures { PageReads declared s.now result }
+// 1 to 8 where a slice is no page whose elements have rules.
+fn read_page(declared: u64, page: &[u8]) -> Result<(), ReadError>
+    ensures { PageReads declared page.now result }
 {
-    jobs::not_too_many(s)?;
-    let end = pages::read_page(declared, s)?;
-    jobs::ended(s, end)
+    jobs::not_too_many(page)?;
+    let end = pages::read_page(declared, page)?;
+    jobs::ended(page, end)
 }
 
+// 1 to 8, the vocabulary before the page; then the judgement.
 fn judge_slices(vocabulary: &[u8], page: &[u8]) -> Result<(), Refusal>
     ensures { verdict_of result ≡ page_verdict vocabulary.now page.now }
 {

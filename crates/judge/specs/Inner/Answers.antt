@@ -12,7 +12,7 @@ use Rattle.commands.specs.Reading.{whole, enough}
 use Rattle.vocabularies.specs.declared.Tables.{Tables}
 use Rattle.vocabularies.specs.Vocabulary.{Vocabulary}
 use Rattle.vocabularies.specs.Vocabulary as Vocabularies
-use Rattle.vocabularies.specs.VocabularyReading.{alone, vocabulary_slice}
+use Rattle.vocabularies.specs.VocabularyReading.{vocabulary, alone}
 use Rattle.vocabularies.specs.Inner.Promises.{Describes}
 use Rattle.pages.specs.declared.Kind.TheVariants.{Page}
 use Rattle.pages.specs.Items.{blank, Items, more, without_blank}
@@ -43,7 +43,7 @@ JudgesRead v p t r = (D : Vocabulary) → Describes v D t → (φ : Items) (end 
 
 -- A vocabulary, and a page of these elements, that are slices of their own.
 abbrev pub VocabularyReads : List ℕ → Result Tables ReadError → Type 0
-VocabularyReads v r = AgreesAlone (Describes v) (vocabulary_slice v) r
+VocabularyReads v r = AgreesAlone (Describes v) (alone v (vocabulary v)) r
 
 abbrev pub PageReads : ℕ → List ℕ → Result (Unit {0}) ReadError → Type 0
 PageReads declared p r = AgreesAlone (λ (φ : Items) u. Unit {0}) (alone p (items (enough p) Page (member declared) p 0 0)) r
