@@ -7,7 +7,7 @@ use mathlib.Core.Option.{Option, some, none}
 use lib.ListN.{length}
 use lib.Dec.{ltb}
 use borrow.Author.Tests.{ltb-true, ltb-false}
-use Rattle.std.specs.Prelude.{None}
+use Rattle.std.specs.Prelude.{None, Some}
 use Rattle.verdicts.specs.declared.Numbers.{Numbers}
 use Rattle.verdicts.specs.declared.Breach.{Breach}
 use Rattle.verdicts.specs.declared.Fault.TheVariants.{NotRoot}
@@ -17,8 +17,8 @@ use Rattle.summaries.specs.Summaries.{Summary, Environment, entries}
 use Rattle.summaries.specs.Languages.{graph_shown}
 use Rattle.jobs.specs.Job.{Script, Job}
 use Rattle.jobs.specs.JobVerdict.{AllCovered, ShowHolds, NotRootAt, WrongIn, ScriptVerdict, not_root, wrong_element, accepted}
-use Rattle.programs.proofs.Points.{past_stops}
-use Rattle.patterns.specs.Inner.LowestWrong.{MaybeWrong, At, LowestBreach, nowhere_wrong, found_lowest}
+use Rattle.programs.proofs.AtPoints.{past_stops}
+use Rattle.patterns.specs.Inner.LowestWrong.{MaybeWrong, LowestBreach, nowhere_wrong, found_lowest}
 use Rattle.patterns.specs.Inner.Shows.{Tables, ExactTables, Least, lowest_root, lowest_wrong}
 use Rattle.patterns.proofs.Lowest.{least_of, least_below, none_of}
 use Rattle.patterns.proofs.ReadJobs.{GivenShows}
@@ -37,7 +37,7 @@ pub data Found : Type 0 where
 abbrev by_lowest : Option ℕ → MaybeWrong → Found
 by_lowest (some r) w = other_page r
 by_lowest none None = right
-by_lowest none (At n at b) = wrong n at b
+by_lowest none (Some w) = wrong w.template w.at w.breach
 
 abbrev only_enough : Bool → Found → Found
 only_enough true f = f

@@ -7,6 +7,7 @@ use mathlib.Core.Bool.{Bool, true, false, cond, ◌&&◌, ◌||◌, false≢true
 use mathlib.Core.Logic.{inl, inr}
 use lib.Dec.{eqb}
 use borrow.Author.Tests.{eqb-true}
+use Rattle.std.specs.Prelude.{Ok}
 use Rattle.pages.specs.Items.{gap_in}
 use Rattle.programs.specs.Program.{Variable, template_variable, string_variable, statement_at, template_at, named}
 use Rattle.summaries.specs.Proposal.{Claim, root, edge, gap_from, Holding, claim, Head}
@@ -15,7 +16,6 @@ use Rattle.summaries.specs.Covering.{WithinAt}
 use Rattle.jobs.specs.JobVerdict.{AllCovered}
 use Rattle.jobs.specs.LeastEntries.{Least}
 use Rattle.covering.specs.Inner.Promises.{Covers}
-use Rattle.covering.specs.declared.Covering.TheVariants.{Covered}
 use Rattle.sets.proofs.Booleans.{or_right, or_cases, and_both, and_left, and_right}
 use Rattle.entries.proofs.Claims.{says_alone}
 use Rattle.worked_examples.proofs.ReadingJ1.{j1_job}
@@ -73,7 +73,7 @@ unfolding entries
 proposal_within F hs w p (template_variable x) = under_within F hs w p (template_variable x)
 proposal_within F hs w p (string_variable y) = under_within F hs w p (string_variable y)
 
-covers : cover_by j1_job ≡ Covered
+covers : cover_by j1_job ≡ Ok tt
 unfolding cover_by held same_code template_at gap_in
 covers = refl
 

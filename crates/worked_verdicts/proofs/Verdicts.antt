@@ -5,6 +5,7 @@ use native.Mathlib.Omega.{arith}
 use mathlib.Core.Path.{◌≡◌, refl, subst}
 use mathlib.Core.List.{List}
 use mathlib.Core.Option.{Option, some, none}
+use Rattle.std.specs.Prelude.{Result, Ok, Err}
 use Rattle.verdicts.specs.declared.Cover.{Cover}
 use Rattle.verdicts.specs.declared.Cover.TheVariants.{Start, Step}
 use Rattle.verdicts.specs.declared.Numbers.{Numbers}
@@ -13,17 +14,15 @@ use Rattle.commands.specs.Reading.{Read, whole, refused, unfinished}
 use Rattle.summaries.specs.Summaries.{entries}
 use Rattle.jobs.specs.Job.{Job, job}
 use Rattle.jobs.specs.JobVerdict.{ScriptVerdict, start_uncovered, step_uncovered, JobVerdict, unreadable, readable}
-use Rattle.covering.specs.declared.Covering.{Covering}
-use Rattle.covering.specs.declared.Covering.TheVariants.{Covered, Uncovered}
 use Rattle.covering.specs.Inner.Promises.{Covers, CoverFails}
 use Rattle.patterns.proofs.ReadVocabularies.{Bytes}
 use Rattle.patterns.proofs.ReadJobs.{GivenShows, job_given}
 use Rattle.worked_verdicts.proofs.Covering.{cover_by, cover_by_lem}
 use Rattle.worked_verdicts.proofs.Shows.{shows_by, shows_by_lem}
 
-abbrev uncovered_or : Covering → Option Numbers → Option Numbers
-uncovered_or Covered rest = rest
-uncovered_or (Uncovered c) rest = some (cover_numbers c)
+abbrev uncovered_or : Result (Unit {0}) Cover → Option Numbers → Option Numbers
+uncovered_or (Ok u) rest = rest
+uncovered_or (Err c) rest = some (cover_numbers c)
 
 abbrev of_reading : ℕ → Read Job → Option Numbers
 of_reading t (whole j end) = uncovered_or (cover_by j) (shows_by t j)
@@ -41,10 +40,10 @@ module _ (t : ℕ) (s : List ℕ) (bytes : Bytes s) (v : Numbers) where
     of_cover (Step p next x) h =
         rw h.next_is (step_uncovered h.second h.start h.variable h.fails h.before)
 
-    of_covering : GivenShows j.script (entries j.proposal) → (r : Covering) → Covers j.script (entries j.proposal) r → uncovered_or r (shows_by t j) ≡ some v
+    of_covering : GivenShows j.script (entries j.proposal) → (r : Result (Unit {0}) Cover) → Covers j.script (entries j.proposal) r → uncovered_or r (shows_by t j) ≡ some v
         → ScriptVerdict j.script (entries j.proposal) v
-    of_covering given Covered h e = shows_by_lem t j given h v e
-    of_covering given (Uncovered c) h e =
+    of_covering given (Ok u) h e = shows_by_lem t j given h v e
+    of_covering given (Err c) h e =
         let is : cover_numbers c ≡ v = cc in
         subst (ScriptVerdict j.script (entries j.proposal)) is (of_cover c h)
 
