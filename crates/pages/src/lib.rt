@@ -28,7 +28,8 @@ pub enum Kind {
     Page,
 }
 
-// The templates of a job: how many, and where the items of each stand, from template 1 on.
+// The templates of a job: how many, and where the items of each stand, from template 1 on. Memory is fixed, so there is room for the
+// most that a job may have.
 #[derive(Clone, Copy)]
 pub struct Templates {
     pub count: usize,
@@ -36,7 +37,7 @@ pub struct Templates {
 }
 
 // What stands at a position in a list of items that was read: an item, with the position after its first command, or what ends the
-// list. After the first command of an element stand its attributes.
+// list, with the position after that. After the first command of an element stand its attributes.
 #[derive(Clone, Copy)]
 pub enum ItemHere {
     Text(Position),
@@ -47,7 +48,7 @@ pub enum ItemHere {
 }
 
 // What stands at a position in attributes that were read: one with a string (64 is any string outside 0 to 63), or with an attribute
-// gap; or none more.
+// gap; or none more, a case like the others, since a walk's one match on an Option around two cases would be no plainer.
 #[derive(Clone, Copy)]
 pub enum AttributeHere {
     Fixed {
@@ -70,7 +71,7 @@ pub struct GapsFound {
     pub next: Position,
 }
 
-// What an attribute of `28` has: a string outside 0 to 63.
+// What an attribute of `28` has: a string outside 0 to 63, which is a string too and no lack of one.
 const OUTSIDE: u8 = 64;
 
 // What may stand in a list of items: which items and attributes, and how many elements open above one another.

@@ -12,7 +12,7 @@ use commands::{Context, Decoded, Position, ReadError};
 use verdicts::Form;
 
 // The points of a program: how many, the offset of each point's statement, and as a set the variables that some statement names:
-// x for template variable x, 4 + y for string variable y.
+// x for template variable x, 4 + y for string variable y. Memory is fixed, so there is room for the most points that a program may have.
 #[derive(Clone, Copy)]
 pub struct Points {
     pub count: usize,
@@ -110,7 +110,7 @@ fn template_there(statement: Statement, templates: usize) -> bool
 }
 
 // The command of a statement that may stand here, after `before` others: a template that is not there comes before a point
-// too many.
+// too many. Bytes and templates are handed on by two functions alone, for which a struct of them would be no plainer.
 fn statement_here(s: &[u8], here: Position, templates: usize, before: usize) -> Decoded
     ensures { result ≡ tested_statement templates s.now before here.at }
 {
