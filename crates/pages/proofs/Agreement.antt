@@ -8,14 +8,16 @@ use lib.Dec.{eqb}
 use borrow.Author.Tests.{eq-eqb, ne_eqb, lt-ltb, le-ltb}
 use Rattle.std.specs.Prelude.{Option, Some, None, Result, Ok, Err}
 use Rattle.verdicts.specs.declared.Form.TheVariants.{NotRising, TooMany, Missing}
+use Rattle.sets.specs.Sets.{member}
 use Rattle.commands.specs.declared.Context.{Context}
 use Rattle.commands.specs.declared.Position.{Position}
 use Rattle.commands.specs.declared.ReadError.{ReadError}
-use Rattle.commands.specs.declared.Decoded.TheVariants.{Moved, Refused}
+use Rattle.commands.specs.declared.Decoded.{Decoded}
+use Rattle.commands.specs.declared.Decoded.TheVariants.{Moved}
 use Rattle.commands.specs.Commands.{byte, allowed, command}
 use Rattle.commands.specs.Reading.{Read, whole, and_then}
-use Rattle.commands.specs.Inner.Parts.{Agrees, past}
-use Rattle.commands.proofs.Laws.{moved, past_over, past_other}
+use Rattle.commands.specs.Inner.Parts.{Agrees, part_of, past}
+use Rattle.commands.proofs.Laws.{moved, refused_with, past_over, past_other}
 use Rattle.vocabularies.specs.Vocabulary.{is_in}
 use Rattle.pages.specs.declared.Kind.{Kind}
 use Rattle.pages.specs.declared.Kind.TheVariants.{Template, Page}
@@ -28,32 +30,38 @@ use Rattle.pages.proofs.Parts.{agrees_made, refused_first, whole_first}
 made : {A B : Type 0} (g : A → B) (x : Read A) (r : Result Position ReadError) → Agrees x r → Agrees (and_then x (λ a end. whole (g a) end)) r
 made g x r h = agrees_made _ _ g (λ a end u. u) x r h
 
--- The attributes; `x` is where they stand.
-module _ (k : Kind) (x : Context) (is : x ≡ attribute_context k) (s before : List ℕ) (at : ℕ) where
-  pub attributes_end : (p : Position) → allowed x (byte s at) ≡ false → p.at ≡ at → AttributesRead k s before at (Ok p)
+-- The attributes; `x` is where they stand, `seen` what was named before, and `may` whether one stands here.
+module _ (k : Kind) (x : Context) (is : x ≡ attribute_context k) (s before : List ℕ) (at seen : ℕ) (seen_is : (a : ℕ) → member seen a ≡ is_in a before)
+    (c : ℕ) (c_is : c ≡ byte s at) (may : Bool) (may_is : may ≡ allowed x c) where
+  told : (b : Bool) → may ≡ b → allowed x (byte s at) ≡ b
+  told b h = rw (← c_is) (sym may_is ∙ h)
+
+  pub attributes_end : may ≡ false → (p : Position) → p.at ≡ at → AttributesRead k s before at (Ok p)
   unfolding attributes
-  attributes_end p a e zero enough = absurd (omega arith)
-  attributes_end p a e (suc f) enough = rw (← is, a) (e, tt)
+  attributes_end h p e zero enough = absurd (omega arith)
+  attributes_end h p e (suc f) enough = rw (← is, told false h) (e, tt)
 
-  module _ (a : allowed x (byte s at) ≡ true) where
-    pub attributes_refused : (e : ReadError) → command x s at ≡ Refused e.form e.at → AttributesRead k s before at (Err e)
+  module _ (h : may ≡ true) (d : Decoded) (d_is : d ≡ command x s at) where
+    pub attributes_refused : (e : ReadError) → part_of d ≡ Err e → AttributesRead k s before at (Err e)
     unfolding attributes
-    attributes_refused e d zero enough = absurd (omega arith)
-    attributes_refused e d (suc g) enough = rw (← is, a, d) (refl, refl)
+    attributes_refused e refuses zero enough = absurd (omega arith)
+    attributes_refused e refuses (suc g) enough = rw (← is, told true h, ← d_is, refused_with d e refuses) (refl, refl)
 
-    module _ (code : ℕ) (next : Position) (d : command x s at ≡ Moved code next) where
-      pub attributes_twice : is_in (byte s (at + 1)) before ≡ true → AttributesRead k s before at (Err (record { form = NotRising; at = at }))
+    module _ (code : ℕ) (next : Position) (moves : d ≡ Moved code next) (name : ℕ) (name_is : name ≡ byte s (at + 1)) (has : Bool) (has_is : has ≡ member seen name) where
+      named : (b : Bool) → has ≡ b → is_in (byte s (at + 1)) before ≡ b
+      named b e = rw (← name_is) (sym (seen_is name) ∙ (sym has_is ∙ e))
+
+      pub attributes_twice : has ≡ true → AttributesRead k s before at (Err (record { form = NotRising; at = at }))
       unfolding attributes
       attributes_twice twice zero enough = absurd (omega arith)
-      attributes_twice twice (suc f) enough = rw (← is, a, d, twice) (refl, refl)
+      attributes_twice twice (suc f) enough = rw (← is, told true h, ← d_is, moves, named true twice) (refl, refl)
 
-      pub attributes_next : (r : Result Position ReadError) → is_in (byte s (at + 1)) before ≡ false → AttributesRead k s (byte s (at + 1) ∷ before) next.at r
-          → AttributesRead k s before at r
+      pub attributes_next : has ≡ false → (r : Result Position ReadError) → AttributesRead k s (byte s (at + 1) ∷ before) next.at r → AttributesRead k s before at r
       unfolding attributes
-      attributes_next r fresh goes zero enough = absurd (omega arith)
-      attributes_next r fresh goes (suc f) enough =
-          let m = moved x s at code next d in
-          rw (← is, a, d, fresh) (made _ (attributes f k s (byte s (at + 1) ∷ before) next.at) r (goes f (omega arith)))
+      attributes_next fresh r goes zero enough = absurd (omega arith)
+      attributes_next fresh r goes (suc f) enough =
+          let m = moved x s at code next (sym d_is ∙ moves) in
+          rw (← is, told true h, ← d_is, moves, named false fresh) (made _ (attributes f k s (byte s (at + 1) ∷ before) next.at) r (goes f (omega arith)))
 
 -- A list of items.
 module _ (k : Kind) (ruled : ℕ → Bool) (s : List ℕ) (depth at : ℕ) where
@@ -84,38 +92,45 @@ module _ (s : List ℕ) (depth at end : ℕ) (is : end ≡ end_of depth) (r : Op
   pub list_goes_on : r ≡ None → byte s at ≡ end_of depth → ⊥
   list_goes_on e ended = past_other s at end r here e (λ z. some_end (eqb depth 0) (sym is ∙ z)) (ended ∙ sym is)
 
--- An item; `x` is where it stands.
-module _ (k : Kind) (x : Context) (is : x ≡ item_context k) (ruled : ℕ → Bool) (s : List ℕ) (depth at : ℕ) where
-  pub item_refused : (e : ReadError) → command x s at ≡ Refused e.form e.at → ItemRead k ruled s depth at (Err e)
+-- An item; `x` is where it stands, and `d` the command there.
+module _ (k : Kind) (x : Context) (is : x ≡ item_context k) (ruled : ℕ → Bool) (s : List ℕ) (depth at : ℕ) (d : Decoded) (d_is : d ≡ command x s at) where
+  pub item_refused : (e : ReadError) → part_of d ≡ Err e → ItemRead k ruled s depth at (Err e)
   unfolding items
-  item_refused e d zero enough = absurd (omega arith)
-  item_refused e d (suc g) enough = rw (← is, d) (refl, refl)
+  item_refused e refuses zero enough = absurd (omega arith)
+  item_refused e refuses (suc g) enough = rw (← is, ← d_is, refused_with d e refuses) (refl, refl)
 
-  module _ (code : ℕ) (next : Position) (d : command x s at ≡ Moved code next) where
+  module _ (code : ℕ) (next : Position) (moves : d ≡ Moved code next) where
     pub item_leaf : (code ≡ 0x23 → ⊥) → ItemRead k ruled s depth at (Ok next)
     unfolding items
     item_leaf leaf zero enough = absurd (omega arith)
-    item_leaf leaf (suc f) enough = rw (← is, d, ne_eqb _ _ leaf) (refl, tt)
+    item_leaf leaf (suc f) enough = rw (← is, ← d_is, moves, ne_eqb _ _ leaf) (refl, tt)
 
-    module _ (opens : code ≡ 0x23) where
-      pub item_missing : ruled (byte s (at + 1)) ≡ false → ItemRead k ruled s depth at (Err (record { form = Missing; at = at }))
+    stands : command x s at ≡ Moved code next
+    stands = sym d_is ∙ moves
+
+    -- Where `23` opens an element: its name, whether that has a rule, and how many may stand open.
+    module _ (opens : code ≡ 0x23) (e : ℕ) (e_is : e ≡ byte s (at + 1)) (has : Bool) (has_is : has ≡ ruled e) (most : ℕ) (most_is : most ≡ nesting k) where
+      rule_is : (b : Bool) → has ≡ b → ruled (byte s (at + 1)) ≡ b
+      rule_is b h = rw (← e_is) (sym has_is ∙ h)
+
+      pub item_missing : has ≡ false → ItemRead k ruled s depth at (Err (record { form = Missing; at = at }))
       unfolding items
       item_missing lacks zero enough = absurd (omega arith)
-      item_missing lacks (suc f) enough = rw (← is, d, eq-eqb _ _ opens, lacks) (refl, refl)
+      item_missing lacks (suc f) enough = rw (← is, ← d_is, moves, eq-eqb _ _ opens, rule_is false lacks) (refl, refl)
 
-      module _ (has : ruled (byte s (at + 1)) ≡ true) where
-        pub item_deep : nesting k ≤ depth → ItemRead k ruled s depth at (Err (record { form = TooMany; at = at }))
+      module _ (declared : has ≡ true) where
+        pub item_deep : most ≤ depth → ItemRead k ruled s depth at (Err (record { form = TooMany; at = at }))
         unfolding items
         item_deep deep zero enough = absurd (omega arith)
-        item_deep deep (suc f) enough = rw (← is, d, eq-eqb _ _ opens, has, le-ltb _ _ deep) (refl, refl)
+        item_deep deep (suc f) enough = rw (← is, ← d_is, moves, eq-eqb _ _ opens, rule_is true declared, ← most_is, le-ltb _ _ deep) (refl, refl)
 
-        module _ (nests : depth < nesting k) (named : Result Position ReadError) (reads : AttributesRead k s [] next.at named) where
+        module _ (nests : depth < most) (named : Result Position ReadError) (reads : AttributesRead k s [] next.at named) where
           pub item_attributes_refused : (e : ReadError) → named ≡ Err e → ItemRead k ruled s depth at (Err e)
           unfolding items
           item_attributes_refused e refuses zero enough = absurd (omega arith)
           item_attributes_refused e refuses (suc g) enough =
-              let m = moved x s at code next d in
-              rw (← is, d, eq-eqb _ _ opens, has, lt-ltb _ _ nests)
+              let m = moved x s at code next stands in
+              rw (← is, ← d_is, moves, eq-eqb _ _ opens, rule_is true declared, ← most_is, lt-ltb _ _ nests)
               (refused_first (attributes g k s [] next.at) named (reads g (omega arith)) _ _ e refuses)
 
           pub item_element : (inside : Position) (r : Result Position ReadError) → named ≡ Ok inside → ItemsRead k ruled s (depth + 1) inside.at r
@@ -123,8 +138,8 @@ module _ (k : Kind) (x : Context) (is : x ≡ item_context k) (ruled : ℕ → B
           unfolding items
           item_element inside r e goes zero enough = absurd (omega arith)
           item_element inside r e goes (suc f) enough =
-              let m = moved x s at code next d in
-              rw (← is, d, eq-eqb _ _ opens, has, lt-ltb _ _ nests)
+              let m = moved x s at code next stands in
+              rw (← is, ← d_is, moves, eq-eqb _ _ opens, rule_is true declared, ← most_is, lt-ltb _ _ nests)
               (whole_first (attributes f k s [] next.at) named (reads f (omega arith)) _ _ inside r e λ δ e.
               let n = attributes_move f k s [] next.at δ inside.at m.inside e in
               made _ (items f k ruled s (depth + 1) inside.at) r (goes f (omega arith)))

@@ -29,6 +29,9 @@ pub record Onto {R : Type 0} (Found : ℕ → ℕ → R → Type 0) (at₀ set�
   pub forward : at₀ ≤ at
   pub goes : (r : R) → Found at set r → Found at₀ set₀ r
 
+pub onto_start : {R : Type 0} (Found : ℕ → ℕ → R → Type 0) (at set : ℕ) → Onto Found at set at set
+onto_start Found at set = record { forward = omega arith; goes = λ r found. found }
+
 -- ---- gaps
 
 or_assoc : (x y z : Bool) → ((x || y) || z) ≡ (x || (y || z))

@@ -1,7 +1,7 @@
 use mathlib.Core.Path.{refl}
 use native.Mathlib.Omega.{arith}
 use Rattle.pages.proofs.Steps.{text_moves, blank_moves, gap_moves, element_moves, end_moves}
-use Rattle.pages.proofs.Gathering.{text_gaps, blank_gaps, gap_gaps, element_gaps_go, end_gaps, inner_gaps}
+use Rattle.pages.proofs.Gathering.{onto_start, text_gaps, blank_gaps, gap_gaps, element_gaps_go, end_gaps, inner_gaps}
 use Rattle.pages.proofs.+element_gaps_items_gaps.Goals as goal
 
 pub element_gaps-items_gaps-requires : goal.element_gaps-items_gaps-requires
@@ -14,7 +14,7 @@ element_gaps-returns t c = record {
 }
 
 pub items_gaps-loop-next-init : goal.items_gaps-loop-next-init
-items_gaps-loop-next-init t c = record { forward = omega arith; goes = λ r N. N }
+items_gaps-loop-next-init t c = onto_start _ _ _
 
 pub items_gaps-loop-next-smaller-in-Text : goal.items_gaps-loop-next-smaller-in-Text
 items_gaps-loop-next-smaller-in-Text t c = let m = text_moves _ _ _ c.item_here-item.ensures.moves _ c.in-Text.is in

@@ -1,11 +1,11 @@
 use mathlib.Core.Path.{refl}
 use native.Mathlib.Omega.{arith}
 use Rattle.pages.proofs.Steps.{fixed_moves, open_moves}
-use Rattle.pages.proofs.Gathering.{fixed_gaps, open_gaps, none_gaps}
+use Rattle.pages.proofs.Gathering.{onto_start, fixed_gaps, open_gaps, none_gaps}
 use Rattle.pages.proofs.attribute_gaps.Goals as goal
 
 pub loop-next-init : goal.loop-next-init
-loop-next-init c = record { forward = omega arith; goes = λ r N. N }
+loop-next-init c = onto_start _ _ _
 
 pub loop-next-smaller-in-Fixed : goal.loop-next-smaller-in-Fixed
 loop-next-smaller-in-Fixed c = let m = (fixed_moves _ _ _ c.attribute_here-attribute.ensures.moves _ _ _ c.in-Fixed.is).0 in

@@ -1,12 +1,10 @@
-use Prim.Native.Nat.{◌+◌}
 use mathlib.Core.Path.{◌≡◌, sym, ◌∙◌}
 use native.Mathlib.Omega.{arith}
 use borrow.Author.Rules.{rules}
 use Rattle.std.specs.Prelude.{Err}
-use Rattle.sets.specs.Sets.{member}
 use Rattle.commands.specs.declared.Decoded.TheVariants.{Moved}
-use Rattle.commands.specs.Commands.{byte, command}
-use Rattle.commands.proofs.Laws.{moved, refused_with}
+use Rattle.commands.specs.Commands.{command}
+use Rattle.commands.proofs.Laws.{moved}
 use Rattle.pages.proofs.Laws.{element_range}
 use Rattle.pages.proofs.Agreement.{items_end, items_refused, items_next, list_ended, list_goes_on, item_refused, item_leaf, item_missing, item_deep, item_attributes_refused, item_element, item_permitted}
 use Rattle.pages.proofs.Trees.{attributes_onward, item_onward}
@@ -17,38 +15,24 @@ read_item-item_command-d-requires t c =
     rw c.allowed-allowed.ensures.items (item_permitted c.args.self.now.kind)
 
 pub read_item-returns-in_default : goal.read_item-returns-in_default
-read_item-returns-in_default t c =
-    item_refused _ c.allowed-allowed.result.items c.allowed-allowed.ensures.items _ _ _ _ _ (sym c.item_command-d.ensures ∙ refused_with _ _ c.refusal.ensures)
+read_item-returns-in_default t c = search item_refused
 
 pub read_item-returns-then-code-ne35 : goal.read_item-returns-then-code-ne35
-read_item-returns-then-code-ne35 t c =
-    let stands : command c.allowed-allowed.result.items c.args.self.now.s.now c.args.here.at ≡ Moved c.in-Moved.code c.in-Moved.next = sym c.item_command-d.ensures ∙ c.in-Moved.is in
-    item_leaf _ c.allowed-allowed.result.items c.allowed-allowed.ensures.items _ _ _ _ _ _ stands c.if-code-ne35.true
+read_item-returns-then-code-ne35 t c = search item_leaf
 
 pub read_item-has-requires : goal.read_item-has-requires
 read_item-has-requires t c =
-    let stands : command c.allowed-allowed.result.items c.args.self.now.s.now c.args.here.at ≡ Moved c.in-Moved.code c.in-Moved.next = sym c.item_command-d.ensures ∙ c.in-Moved.is in
-    let range = element_range _ _ _ _ _ stands c.if-code-ne35.false in
+    let range = element_range _ _ _ _ _ (sym c.item_command-d.ensures ∙ c.in-Moved.is) c.if-code-ne35.false in
     omega (arith, c.operand.ensures)
 
-pub read_item-returns-then-allowed-depth : goal.read_item-returns-then-allowed-depth
-read_item-returns-then-allowed-depth t c =
-    let stands : command c.allowed-allowed.result.items c.args.self.now.s.now c.args.here.at ≡ Moved c.in-Moved.code c.in-Moved.next = sym c.item_command-d.ensures ∙ c.in-Moved.is in
-    let ruled : member c.args.self.now.declared (byte c.args.self.now.s.now (c.args.here.at + 1)) ≡ c.has.result = rw (← c.operand.ensures) (sym c.has.ensures) in
-    item_deep _ c.allowed-allowed.result.items c.allowed-allowed.ensures.items _ _ _ _ _ _ stands c.if-code-ne35.false (ruled ∙ c.if-not-has.false) (rw (← c.allowed-allowed.ensures.nesting) c.if-allowed-depth.true)
-
 pub read_item-returns-then-not-has : goal.read_item-returns-then-not-has
-read_item-returns-then-not-has t c =
-    let stands : command c.allowed-allowed.result.items c.args.self.now.s.now c.args.here.at ≡ Moved c.in-Moved.code c.in-Moved.next = sym c.item_command-d.ensures ∙ c.in-Moved.is in
-    let ruled : member c.args.self.now.declared (byte c.args.self.now.s.now (c.args.here.at + 1)) ≡ c.has.result = rw (← c.operand.ensures) (sym c.has.ensures) in
-    item_missing _ c.allowed-allowed.result.items c.allowed-allowed.ensures.items _ _ _ _ _ _ stands c.if-code-ne35.false (ruled ∙ c.if-not-has.true)
+read_item-returns-then-not-has t c = search item_missing
+
+pub read_item-returns-then-allowed-depth : goal.read_item-returns-then-allowed-depth
+read_item-returns-then-allowed-depth t c = search item_deep
 
 pub read_item-returns-in_err-inside : goal.read_item-returns-in_err-inside
-read_item-returns-in_err-inside t c =
-    let stands : command c.allowed-allowed.result.items c.args.self.now.s.now c.args.here.at ≡ Moved c.in-Moved.code c.in-Moved.next = sym c.item_command-d.ensures ∙ c.in-Moved.is in
-    let ruled : member c.args.self.now.declared (byte c.args.self.now.s.now (c.args.here.at + 1)) ≡ c.has.result = rw (← c.operand.ensures) (sym c.has.ensures) in
-    let up : c.from_residual.result ≡ Err c.in_err-inside.field-0.0 = search rules in
-    rw up (item_attributes_refused _ c.allowed-allowed.result.items c.allowed-allowed.ensures.items _ _ _ _ _ _ stands c.if-code-ne35.false (ruled ∙ c.if-not-has.false) (rw (← c.allowed-allowed.ensures.nesting) c.if-allowed-depth.false) _ c.read_attributes.ensures _ c.in_err-inside.was)
+read_item-returns-in_err-inside t c = search (rules, item_attributes_refused)
 
 pub read_item-overflow_add-depth : goal.read_item-overflow_add-depth
 read_item-overflow_add-depth t c =
@@ -63,9 +47,7 @@ read_item-read_items-requires t c =
 
 pub read_item-returns : goal.read_item-returns
 read_item-returns t c =
-    let stands : command c.allowed-allowed.result.items c.args.self.now.s.now c.args.here.at ≡ Moved c.in-Moved.code c.in-Moved.next = sym c.item_command-d.ensures ∙ c.in-Moved.is in
-    let ruled : member c.args.self.now.declared (byte c.args.self.now.s.now (c.args.here.at + 1)) ≡ c.has.result = rw (← c.operand.ensures) (sym c.has.ensures) in
-    item_element _ c.allowed-allowed.result.items c.allowed-allowed.ensures.items _ _ _ _ _ _ stands c.if-code-ne35.false (ruled ∙ c.if-not-has.false) (rw (← c.allowed-allowed.ensures.nesting) c.if-allowed-depth.false) _ c.read_attributes.ensures _ _ c.in_ok-inside.was c.read_items.ensures
+    item_element _ _ c.allowed-allowed.ensures.items _ _ _ _ _ c.item_command-d.ensures _ _ c.in-Moved.is c.if-code-ne35.false _ c.operand.ensures _ c.has.ensures _ c.allowed-allowed.ensures.nesting c.if-not-has.false c.if-allowed-depth.false _ c.read_attributes.ensures _ _ c.in_ok-inside.was c.read_items.ensures
 
 pub read_items-loop-next-init : goal.read_items-loop-next-init
 read_items-loop-next-init t c =
