@@ -111,8 +111,8 @@ module _ (r : Scheme) (fs : List Fact) (h : StandsForFacts r fs) where
           let is : get_or fs place (present 0) ≡ present c = is_content (get_or fs place (present 0)) (sym p.found ∙ h.contents.stands place l) in
           (l, sym (place_at fs h.distinct place l) ∙ ap (λ (f : Fact). place_of f fs) is)
       go false e =
-          let n : get_or r.contents place 0 ≡ 64 = h.contents.past place (ltb-false place (length fs) e) b in
-          let q : get_or r.contents place 0 ≡ c = p.found b in
+          let n : get_or r.contents place 0 ≡ 64 = h.contents.past place (ltb-false place (length fs) e) p.within in
+          let q : get_or r.contents place 0 ≡ c = p.found in
           absurd (omega arith)
 
   pub single_flag : (c place : ℕ) → c < 64 → FirstAt r.contents c place → (1 * 2 ^ place) % 2 ^ 8 ≡ pattern_of fs [] (c ∷ [])

@@ -1,26 +1,23 @@
 -- The search for a content's place, and the places of pairs.
-use Rattle.std.specs.Prelude.{Option, Some, None, min, unwrap_or, position}
-use Rattle.std.proofs.lemmas.List.{position-Some}
-use Prim.Native.Nat.{ℕ, ◌+◌, ◌%◌, ◌<◌, ◌≤◌}
+use Rattle.std.specs.Prelude.{Some, None, min}
+use Prim.Native.Nat.{ℕ, ◌+◌, ◌<◌, ◌≤◌}
 use mathlib.Core.Path.{◌≡◌, refl, sym, ap, ◌∙◌}
 use mathlib.Core.List.{List}
-use mathlib.Core.Bool.{Bool, true, false, cond, false≢true}
+use mathlib.Core.Bool.{Bool, true, false, false≢true}
 use native.Mathlib.Nat.{le_antisymm}
 use native.Mathlib.Omega.{arith}
 use native.Mathlib.Decide.{ℕ_discrete}
 use lib.ListN.{length, get_or, set, replicate, length-set, get_or-replicate}
-use lib.Dec.{eqb, ltb}
-use borrow.Author.Tests.{eqb-true, eqb-false, ltb-true, ltb-false}
+use lib.Dec.{ltb}
+use borrow.Author.Tests.{ltb-true, ltb-false}
 use lib.Seq.{get_or-set_same, get_or-set_other}
-use Rattle.strings.specs.declared.StringSet.{StringSet}
 use Rattle.vocabularies.specs.declared.Fact as Kept
-use Rattle.vocabularies.specs.declared.Fact.TheVariants.{Carried, Present, Ordered, Valued}
 use Rattle.vocabularies.specs.declared.Facts.{Facts}
 use Rattle.vocabularies.specs.Facts.{Fact, present, same_fact}
 use Rattle.vocabularies.specs.Inner.Promises.{meaning_of, kept_at, Represents}
 use Rattle.patterns.proofs.Facts.{same_fact_lem, fact_same}
 use Rattle.schemes.specs.Inner.Schemes.{place_of, Lists}
-use Rattle.schemes.specs.Inner.Promises.{OfFacts, Places, PlacesPair, FirstPlace}
+use Rattle.schemes.specs.Inner.Promises.{OfFacts, Places}
 use Rattle.schemes.proofs.FactPlaces.{place_le, place_first, fact_placed}
 
 -- A table that keeps at most eight facts keeps as many as it says.
@@ -63,26 +60,6 @@ module _ (t : Facts) (x : Fact) where
         let low : i ≤ place_of x fs = before fs h few in
         let ne : place_of x fs ≡ i → ⊥ = not_here fs h few e in
         omega arith
-
--- ---- pairs
-
-module _ (t : Facts) (in_first : Bool) (y : Kept.Fact) where
-  pub no_pair_attribute : (a : ℕ) → y ≡ Carried a → PlacesPair in_first t (meaning_of y) 8
-  no_pair_attribute a e fs h few = rw e
-
-  pub no_pair_content : (c : ℕ) → y ≡ Present c → PlacesPair in_first t (meaning_of y) 8
-  no_pair_content c e fs h few = rw e
-
-  -- The place of one of its contents; or the number of facts, where that is not there.
-  pub pair_at : (c d content r : ℕ) → y ≡ Ordered c d → content ≡ cond in_first d c → (o : Option ℕ) → Places t (present content) o
-      → r ≡ unwrap_or o (t.count % 256) → PlacesPair in_first t (meaning_of y) r
-  pair_at c d content r e q (Some i) p is fs h few = is ∙ rw (e, ← q) ((p fs h few).1)
-  pair_at c d content r e q None p is fs h few =
-      let n : t.count ≡ length fs = few_count t fs h few in
-      is ∙ rw (e, ← q, p fs h few) (omega arith)
-
-  pub no_pair_value : (a : ℕ) (m : StringSet) → y ≡ Valued a m → PlacesPair in_first t (meaning_of y) 8
-  no_pair_value a m e fs h few = rw e
 
 -- ---- a table with a number for each fact
 
@@ -132,12 +109,3 @@ module _ (t : Facts) (of : List Fact → Fact → ℕ) (none : ℕ) where
 
       n : t.count ≡ length fs
       n = few_count t fs h few
-
--- ---- the place of a content
-
--- The first at which it stands.
-pub first_place : (contents : List ℕ) (c : ℕ) (r : Option ℕ) → length contents ≡ 8 → r ≡ position (λ x. eqb x c) contents → FirstPlace contents c r
-first_place contents c (Some i) long e =
-    let p = position-Some (λ x. eqb x c) contents i 0 (sym e) in
-    record { within = omega (arith, p.0); found = eqb-true (get_or contents i 0) c p.1; first = λ j l. eqb-false (get_or contents j 0) c (p.2 j l) }
-first_place contents c None long e j l is = ?

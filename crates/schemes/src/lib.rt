@@ -82,7 +82,7 @@ fn pair_place(facts: Facts, fact: Fact, in_first: bool) -> u8
         Fact::Present(_) => NOWHERE,
         Fact::Ordered(c, d) => {
             let content = if in_first { d } else { c };
-            place_of(facts, Fact::Present(content)).unwrap_or(facts.count as u8)
+            place_of(facts, Fact::Present(content)).unwrap_or(facts.count.min(MOST_FACTS) as u8)
         }
         Fact::Valued(_, _) => NOWHERE,
     }

@@ -1,10 +1,7 @@
 use mathlib.Core.Path.{refl}
 use native.Mathlib.Omega.{arith}
-use Rattle.schemes.proofs.Placing.{filling_none, filling_more, filled_all}
+use Rattle.schemes.proofs.Placing.{filling_more, filled_all}
 use Rattle.schemes.proofs.pair_places.Goals as goal
-
-pub loop-i-init : goal.loop-i-init
-loop-i-init c = filling_none _ _ _
 
 pub loop-i-preserved : goal.loop-i-preserved
 loop-i-preserved c = filling_more _ _ _ c.loop-i.i c.loop-i.places _ _ c.loop-i.invariant (omega arith) (omega arith) refl c.pair_place.ensures

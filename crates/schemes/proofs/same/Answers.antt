@@ -1,2 +1,0 @@
--- What is the same stands for the same.
-use Rattle.schemes.proofs.same.Goals as goal
