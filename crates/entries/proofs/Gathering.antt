@@ -1,6 +1,6 @@
 -- Comparing the items under a head one by one, and gathering the strings that they say.
 use Prim.Native.Nat.{ℕ, ◌%◌, ◌<◌}
-use mathlib.Core.Path.{◌≡◌, ◌∙◌}
+use mathlib.Core.Path.{◌≡◌, refl, ◌∙◌}
 use mathlib.Core.List.{List, [], ◌∷◌}
 use mathlib.Core.Bool.{Bool, true, false, not, ◌||◌, or-false, or_comm}
 use native.Mathlib.Omega.{arith}
@@ -11,10 +11,10 @@ use Rattle.commands.specs.declared.Context.{Context}
 use Rattle.commands.specs.declared.Context.TheVariants.{TemplateHoldings, StringHoldings}
 use Rattle.commands.specs.declared.Position.{Position}
 use Rattle.summaries.specs.Proposal.{root, Holding, claim}
-use Rattle.summaries.specs.Summaries.{Summary, says_claim, says_string, held}
+use Rattle.summaries.specs.Summaries.{Summary, same_code, says_claim, says_string, held}
 use Rattle.summaries.specs.Inner.Listed.{Listed, meaning_of, string_meaning_of, string_here}
 use Rattle.summaries.specs.declared.Claim.{Claim}
-use Rattle.summaries.specs.declared.Claim.TheVariants.{Root}
+use Rattle.summaries.specs.declared.Claim.TheVariants.{Root, Edge, String, AnyString, GapFrom, AttributeGapFrom}
 use Rattle.summaries.specs.declared.StringClaim.{StringClaim}
 use Rattle.summaries.specs.declared.StringClaim.TheVariants.{One, Any}
 use Rattle.std.specs.Prelude.{Option, Some}
@@ -110,5 +110,14 @@ module _ (item : Claim) (found : ℕ) where
       let q : n % 64 ≡ n = omega arith in
       rw (e, root_says n k, ← q) (h k)
 
-  pub no_root : (other : Claim) → item ≡ other → ((k : ℕ) → says_claim (meaning_of other) (root k) ≡ false) → WithRoot found (meaning_of item) found
-  no_root other e h f k = rw (e, h k)
+  pub no_root : ((n : ℕ) → item ≡ Root n → ⊥) → WithRoot found (meaning_of item) found
+  unfolding same_code
+  no_root not_root = go item not_root
+    where
+      go : (other : Claim) → ((n : ℕ) → other ≡ Root n → ⊥) → WithRoot found (meaning_of other) found
+      go (Root n) not_root f k = absurd (not_root n refl)
+      go (Edge n g m) not_root f k = refl
+      go (String n h s) not_root f k = refl
+      go (AnyString n h) not_root f k = refl
+      go (GapFrom g n) not_root f k = refl
+      go (AttributeGapFrom h n) not_root f k = refl

@@ -86,10 +86,10 @@ taken_once s at [] [] t u = refl
 taken_once s at [] (y ∷ ys) t u = absurd (none-some (u.item, u.next) (sym t ∙ u.is))
 taken_once s at (x ∷ xs) [] t u = absurd (none-some (t.item, t.next) (sym u ∙ t.is))
 taken_once s at (x ∷ xs) (y ∷ ys) t u =
-    let q : (t.item, t.next) ≡ (u.item, u.next) = same_Some (t.item, t.next) (u.item, u.next) (sym t.is ∙ u.is) in
+    let q : ◌≡◌ {A = Declared.Claim × Position} (t.item, t.next) (u.item, u.next) = same_Some (t.item, t.next) (u.item, u.next) (sym t.is ∙ u.is) in
     let same : t.item ≡ u.item = ap (λ (p : Declared.Claim × Position). p.0) q in
     let same_next : t.next ≡ u.next = ap (λ (p : Declared.Claim × Position). p.1) q in
-    let rest = taken_once s t.next.at xs ys t.more (rw same_next u.more) in
+    let rest : xs ≡ ys = taken_once s t.next.at xs ys t.more (rw same_next u.more) in
     let m = t.means in
     let n = u.means in
     cc

@@ -142,11 +142,7 @@ fn with_root(found: u64, item: Claim) -> u64
 {
     match item {
         Claim::Root(n) => sets::with(found, n % 64),
-        Claim::Edge(_, _, _) => found,
-        Claim::String(_, _, _) => found,
-        Claim::AnyString(_, _) => found,
-        Claim::GapFrom(_, _) => found,
-        Claim::AttributeGapFrom(_, _) => found,
+        _ => found,
     }
 }
 
@@ -282,15 +278,11 @@ pub fn fill_within(
     ensures empty { Keeps graph.new nothing }
 {
     load(s, there, graph);
-    let holds = items_hold(
-        s,
-        from,
-        graph,
-        Passing::Filling {
-            gap: attribute,
-            strings,
-        },
-    );
+    let how = Passing::Filling {
+        gap: attribute,
+        strings,
+    };
+    let holds = items_hold(s, from, graph, how);
     unload(s, there, graph);
     holds
 }

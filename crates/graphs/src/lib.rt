@@ -153,10 +153,7 @@ fn other_word(item: Claim, own: usize) -> usize
     match item {
         Claim::String(_, h, _) => ANY_STRINGS + (h % 8) as usize,
         Claim::AnyString(n, h) => word_at(STRINGS, n, h),
-        Claim::Root(_) => own,
-        Claim::Edge(_, _, _) => own,
-        Claim::GapFrom(_, _) => own,
-        Claim::AttributeGapFrom(_, _) => own,
+        _ => own,
     }
 }
 

@@ -5,10 +5,10 @@ use mathlib.Core.Bool.{Bool, true, false, ◌&&◌, ◌||◌, false≢true}
 use mathlib.Core.Logic.{◌⊎◌, inl, inr}
 use native.Mathlib.Omega.{arith}
 use lib.Dec.{eqb, ltb}
-use borrow.Author.Tests.{eqb-true, eqb-false, eq-eqb, ne_eqb, ltb-true, ltb-false, lt-ltb, le-ltb}
+use borrow.Author.Tests.{eqb-true, eqb-false, ltb-true, ltb-false, lt-ltb}
 use Rattle.std.specs.Prelude.{Option, Some, None}
 use Rattle.sets.specs.Sets.{member}
-use Rattle.sets.specs.Inner.Promises.{NextMember, MemberFrom}
+use Rattle.sets.specs.Inner.Promises.{NextMember}
 
 -- The measure of such a loop: how far the next member is from the end.
 abbrev pub steps_left : Option ℕ → ℕ

@@ -5,7 +5,6 @@ use Rattle.std.specs.Prelude.{ℕ, Bool, true, false, not, ◌&&◌, ◌||◌, e
 use Rattle.sets.specs.Sets.{member}
 use Rattle.summaries.specs.Proposal.{Claim, root, edge, string, gap_from, attribute_gap_from}
 use Rattle.summaries.specs.Summaries.{Summary}
-use Rattle.strings.specs.declared.Values.{Values}
 use Rattle.strings.specs.Inner.Promises.{holds_value}
 use Rattle.entries.specs.declared.Passing.{Passing}
 use Rattle.entries.specs.declared.Passing.TheVariants.{Wholly, WithoutRoots, Plugging, Filling}

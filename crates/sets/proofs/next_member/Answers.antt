@@ -1,5 +1,4 @@
 -- The zeros below the lowest bit that is left count the places skipped.
-use mathlib.Core.Path.{sym}
 use native.Mathlib.Omega.{arith}
 use Rattle.sets.proofs.Laws.{member_high}
 use Rattle.sets.proofs.Members.{no_rest, rest_from}
