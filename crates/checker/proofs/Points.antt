@@ -33,6 +33,10 @@ use Rattle.checker.specs.Inner.Promises.{fault_at, ReadAt, RightGraph, IsSame}
 abbrev closed : Job → ℕ → Source → Summary
 closed j p source = closed_summary (made_from j p source)
 
+-- The graph that was found right last, if any was.
+pub record RightLast (j : Job) (right : Option (List ℕ)) : Type 0 where
+  pub is_right : (graph : List ℕ) → right ≡ Some graph → RightGraph j graph
+
 -- A point whose statement stands at an offset.
 module _ (s heads gaps : List ℕ) (place p : ℕ) (j : Job) (stands : PointStands s heads gaps place p j) (what : Option Source) (tells : ShowsAt s place what) where
   pub shows_nothing : what ≡ None → ShowHolds j.script (entries j.proposal) p
@@ -48,6 +52,14 @@ module _ (s heads gaps : List ℕ) (place p : ℕ) (j : Job) (stands : PointStan
     -- It shows a graph that was found right.
     pub same_graph : (last : List ℕ) → RightGraph j last → SameGraph last graph → ShowHolds j.script (entries j.proposal) p
     same_graph last right same = right p (closed j p source) shown.1 (λ c w. keeps.same c w ∙ sym (same c w))
+
+    -- It shows the graph that was found right last.
+    pub right_again : (right : Option (List ℕ)) → RightLast j right → (b : Bool) → b ≡ true → IsSame right graph b → ShowHolds j.script (entries j.proposal) p
+    right_again right R b e h = go right R.is_right (subst (IsSame right graph) e h)
+      where
+        go : (x : Option (List ℕ)) → ((last : List ℕ) → x ≡ Some last → RightGraph j last) → IsSame x graph true → ShowHolds j.script (entries j.proposal) p
+        go None f same = absurd same
+        go (Some last) f same = same_graph last (f last refl) same
 
 -- The place of a point, as code looks it up.
 place_is : (points p : ℕ) (places : List ℕ) → points ≤ 32 → p < points → get_or places (p % 32) 0 ≡ get_or places p 0
@@ -103,10 +115,6 @@ module _ (s : List ℕ) (rules : Vocabularies.Tables) (templates : TemplateTable
 past_nothing : (π : Script) (E : ℕ → Environment) (q : ℕ) → length π.program ≤ q → graph_shown π.templates π.program E q ≡ none
 unfolding graph_shown
 past_nothing π E q h = rw (past_stops π.program q h)
-
--- The graph that was found right last, if any was.
-pub record RightLast (j : Job) (right : Option (List ℕ)) : Type 0 where
-  pub is_right : (graph : List ℕ) → right ≡ Some graph → RightGraph j graph
 
 -- The shows of the points below p hold.
 module _ (π : Script) (E : ℕ → Environment) where

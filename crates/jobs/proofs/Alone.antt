@@ -2,6 +2,8 @@
 use Prim.Native.Nat.{ℕ}
 use mathlib.Core.Path.{◌≡◌, refl, sym, subst, ◌∙◌}
 use Rattle.std.specs.Prelude.{Result, Ok, Err, MatchResult, IsErrAnd}
+use Rattle.verdicts.specs.declared.Refusal.{Refusal}
+use Rattle.verdicts.specs.Printed.{unreadable}
 use Rattle.commands.specs.declared.ReadError.{ReadError}
 use Rattle.commands.specs.Reading.{Read, whole, refused, unfinished}
 use Rattle.jobs.specs.Inner.Promises.{AgreesAlone}
@@ -37,11 +39,18 @@ module _ {A B : Type 0} (P : A → B → Type 0) where
   refusal_alone r e q = rw q (refl, refl)
 
 -- An answer whose errors are told as other errors.
+abbrev pub TellsAs : {T E D : Type 0} → (E → D) → Result T E → Result T D → Type 0
+TellsAs f x y = MatchResult x (λ v. y ≡ Ok v) (λ e. IsErrAnd y (λ d. d ≡ f e))
+
 module _ {T E D : Type 0} (f : E → D) where
-  pub told_err : (x : Result T E) (y : Result T D) → MatchResult x (λ v. y ≡ Ok v) (λ e. IsErrAnd y (λ d. d ≡ f e)) → (d : D) → y ≡ Err d → (e : E) × (x ≡ Err e) × (d ≡ f e)
+  pub told_err : (x : Result T E) (y : Result T D) → TellsAs f x y → (d : D) → y ≡ Err d → (e : E) × (x ≡ Err e) × (d ≡ f e)
   told_err (Ok v) y h d q = absurd (let z : ◌≡◌ {A = Result T D} (Ok v) (Err d) = sym h ∙ q in cc)
   told_err (Err e) y h d q = (e, refl, subst (λ (r : Result T D). IsErrAnd r (λ d. d ≡ f e)) q h)
 
-  pub told_ok : (x : Result T E) (y : Result T D) → MatchResult x (λ v. y ≡ Ok v) (λ e. IsErrAnd y (λ d. d ≡ f e)) → (v : T) → y ≡ Ok v → x ≡ Ok v
+  pub told_ok : (x : Result T E) (y : Result T D) → TellsAs f x y → (v : T) → y ≡ Ok v → x ≡ Ok v
   told_ok (Ok w) y h v q = let z : ◌≡◌ {A = Result T D} (Ok w) (Ok v) = sym h ∙ q in cc
   told_ok (Err e) y h v q = absurd (subst (λ (r : Result T D). IsErrAnd r (λ d. d ≡ f e)) q h)
+
+-- Why bytes cannot be read, as the refusal of a slice.
+abbrev pub unreadable_at : ℕ → ReadError → Refusal
+unreadable_at slice e = unreadable e.form e.at slice

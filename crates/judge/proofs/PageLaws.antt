@@ -4,13 +4,13 @@ use mathlib.Core.Path.{◌≡◌, refl, sym, ap, fun_ext, subst, ◌∙◌}
 use mathlib.Core.List.{List}
 use mathlib.Core.Logic.{inl, inr}
 use mathlib.Core.Bool.{Bool, true, false, cond, false≢true}
-use Rattle.std.specs.Prelude.{Result, Ok, Err, MatchResult, IsErrAnd}
+use Rattle.std.specs.Prelude.{Result, Ok, Err}
 use lib.Dec.{eqb}
 use borrow.Author.Tests.{eq-eqb, ne_eqb, eqb-true}
 use Rattle.verdicts.specs.declared.Refusal.{Refusal}
 use Rattle.verdicts.specs.declared.Verdict.{Verdict}
 use Rattle.verdicts.specs.declared.Verdict.TheVariants.{Accepted, Refused}
-use Rattle.verdicts.specs.Printed.{unreadable, numbers_of}
+use Rattle.verdicts.specs.Printed.{numbers_of}
 use Rattle.verdicts.specs.TheVerdict.{TheVerdict}
 use Rattle.commands.specs.declared.Position.{Position}
 use Rattle.commands.specs.declared.ReadError.{ReadError}
@@ -38,7 +38,7 @@ use Rattle.judging.proofs.AttributeLaws.{no_template}
 use Rattle.judging.proofs.ItemLaws.{or_none}
 use Rattle.judge.specs.Inner.Answers.{not_root, Solid, AfterBlank, JudgesRead, VocabularyReads, PageReads}
 use Rattle.jobs.specs.Inner.Promises.{AgreesAlone}
-use Rattle.jobs.proofs.Alone.{WholeAlone, kept_alone, refused_alone, told_err, told_ok}
+use Rattle.jobs.proofs.Alone.{WholeAlone, kept_alone, refused_alone, TellsAs, told_err, told_ok, unreadable_at}
 use Rattle.jobs.proofs.Tables.{alone_whole}
 use Rattle.judge.proofs.BlankLaws.{none_left}
 
@@ -138,14 +138,7 @@ is_alone_then false r w h q = cc
 
 -- ---- any vocabulary and any page
 
-abbrev pub unreadable_at : ℕ → ReadError → Refusal
-unreadable_at slice e = unreadable e.form e.at slice
-
--- The refusal of a slice, by the error that its reading gave.
-abbrev pub TellsSlice : {A : Type 0} → ℕ → Result A ReadError → Result A Refusal → Type 0
-TellsSlice slice x y = MatchResult x (λ a. y ≡ Ok a) (λ e. IsErrAnd y (λ r. r ≡ unreadable_at slice e))
-
-module _ (v p : List ℕ) (x : Result Tables ReadError) (A : VocabularyReads v x) (x' : Result Tables Refusal) (tells : TellsSlice 0 x x') where
+module _ (v p : List ℕ) (x : Result Tables ReadError) (A : VocabularyReads v x) (x' : Result Tables Refusal) (tells : TellsAs (unreadable_at 0) x x') where
   pub vocabulary_refused : (f : Refusal) → x' ≡ Err f → Refused f ≡ page_verdict v p
   unfolding page_verdict vocabulary_slice
   vocabulary_refused f q =
@@ -164,7 +157,7 @@ module _ (v p : List ℕ) (x : Result Tables ReadError) (A : VocabularyReads v x
     unfolding page_verdict
     under = rw read.reads
 
-    module _ (y : Result (Unit {0}) ReadError) (B : PageReads t.declared p y) (y' : Result (Unit {0}) Refusal) (tells_page : TellsSlice 1 y y') where
+    module _ (y : Result (Unit {0}) ReadError) (B : PageReads t.declared p y) (y' : Result (Unit {0}) Refusal) (tells_page : TellsAs (unreadable_at 1) y y') where
       page_reads : AgreesAlone (λ (φ : Items) u. Unit {0}) (page_slice D p) y
       unfolding page_slice
       page_reads = subst (λ (ruled : ℕ → Bool). AgreesAlone (λ (φ : Items) (u : Unit {0}). Unit {0}) (alone p (items (enough p) Page ruled p 0 0)) y) (fun_ext read.holds.declares) B

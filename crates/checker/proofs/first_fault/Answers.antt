@@ -1,36 +1,48 @@
-use mathlib.Core.Path.{refl, sym, subst, ◌∙◌}
+use mathlib.Core.Path.{◌≡◌, refl, subst}
 use native.Mathlib.Omega.{arith}
+use Rattle.std.proofs.Common.{Ok, Err, rules}
 use Rattle.summaries.specs.Summaries.{entries}
+use Rattle.jobs.proofs.Alone.{TellsAs, told_err, told_ok}
 use Rattle.shows.specs.Inner.Promises.{ShowFound}
-use Rattle.checker.proofs.Points.{point_stands, shows_nothing, shows_graph, right_graph, accepts_right, shows_go, shows_pass, shows_fail, shows_end}
+use Rattle.checker.specs.Inner.Promises.{fault_at, RightGraph}
+use Rattle.checker.proofs.Points.{point_stands, shows_nothing, right_again, shows_graph, right_graph, shows_go, shows_fail, shows_end}
 use Rattle.checker.proofs.first_fault.Goals as goal
 
 pub loop-p-init : goal.loop-p-init
-loop-p-init c j R q l = absurd (omega arith)
+loop-p-init c j R = (λ q l. absurd (omega arith), record { is_right = λ g e. absurd (cc) })
 
 pub loop-p-preserved-in_default : goal.loop-p-preserved-in_default
-loop-p-preserved-in_default c j R =
-    shows_go j.script (entries j.proposal) c.loop-p.p (c.loop-p.invariant j R) (shows_nothing _ _ _ _ c.loop-p.p j (point_stands _ _ _ _ _ _ _ _ j R c.loop-p.p c.loop-p-test.true) c.showing_at-showing.result c.showing_at-showing.ensures c.in_default.is)
+loop-p-preserved-in_default c j R = (
+  shows_go j.script (entries j.proposal) c.loop-p.p (c.loop-p.invariant j R).0
+      (shows_nothing _ _ _ _ c.loop-p.p j (point_stands _ _ _ _ _ _ _ _ j R c.loop-p.p (omega arith)) c.showing_at.result c.showing_at.ensures c.in_default.is),
+  (c.loop-p.invariant j R).1,
+)
 
-pub returns-then-not-is_accepted : goal.returns-then-not-is_accepted
-returns-then-not-is_accepted c j R covered =
-    shows_fail j.script (entries j.proposal) c.loop-p.p (c.loop-p.invariant j R) c.decide-found.result
-    (shows_graph _ _ _ _ _ _ _ _ j R c.loop-p.p c.loop-p-test.true c.showing_at-showing.result c.showing_at-showing.ensures _ c.in-Page.is _ c.none-graph.ensures _ c.shown_graph.ensures c.decide-found.result c.decide-found.ensures)
-    c.fault_at-verdict.result c.fault_at-verdict.ensures (sym c.is_accepted.ensures ∙ c.if-not-is_accepted.true) covered
+pub loop-p-preserved-then-is_right : goal.loop-p-preserved-then-is_right
+loop-p-preserved-then-is_right c j R = (
+  shows_go j.script (entries j.proposal) c.loop-p.p (c.loop-p.invariant j R).0
+      (right_again _ _ _ _ c.loop-p.p j (point_stands _ _ _ _ _ _ _ _ j R c.loop-p.p (omega arith)) c.showing_at.result c.showing_at.ensures _ c.in-Some.is _ c.none-graph.ensures _ c.shown_graph.ensures
+      _ (c.loop-p.invariant j R).1 c.is_right.result c.if-is_right.true c.is_right.ensures),
+  (c.loop-p.invariant j R).1,
+)
 
-pub loop-p-smaller : goal.loop-p-smaller
-loop-p-smaller c = omega (arith, c.other_show-p.ensures.forward, c.loop-p-test.true)
+pub returns-in_err-map_err : goal.returns-in_err-map_err
+returns-in_err-map_err c j R covered =
+    let tells : TellsAs (fault_at c.loop-p.p) c.decide.result c.map_err.result = search rules in
+    let up : c.from_residual.result ≡ Err c.in_err-map_err.field-0.0 = search rules in
+    let (w, is, told) = told_err (fault_at c.loop-p.p) c.decide.result c.map_err.result tells _ c.in_err-map_err.was in
+    let found = shows_graph _ _ _ _ _ _ _ _ j R c.loop-p.p (omega arith) c.showing_at.result c.showing_at.ensures _ c.in-Some.is _ c.none-graph.ensures _ c.shown_graph.ensures c.decide.result c.decide.ensures in
+    rw up (shows_fail j.script (entries j.proposal) c.loop-p.p (c.loop-p.invariant j R).0 w (subst (ShowFound j.script (entries j.proposal) c.loop-p.p) is found) _ told covered)
 
 pub loop-p-preserved : goal.loop-p-preserved
 loop-p-preserved c j R =
-    let h = c.loop-p-test.true in
-    let e = c.in-Page.is in
-    let loads = c.shown_graph.ensures in
-    let right = accepts_right c.loop-p.p c.decide-found.result c.fault_at-verdict.result c.fault_at-verdict.ensures (sym c.is_accepted.ensures ∙ c.if-not-is_accepted.false) in
-    shows_pass j.script (entries j.proposal) c.loop-p.p (c.loop-p.invariant j R)
-    (subst (ShowFound j.script (entries j.proposal) c.loop-p.p) right (shows_graph _ _ _ _ _ _ _ _ j R c.loop-p.p h c.showing_at-showing.result c.showing_at-showing.ensures _ e _ c.none-graph.ensures _ loads c.decide-found.result c.decide-found.ensures))
-    c.other_show-p.result
-    (c.other_show-p.ensures.hold _ _ _ _ j refl R (right_graph _ _ _ _ _ _ _ _ j R c.loop-p.p h c.showing_at-showing.result c.showing_at-showing.ensures _ e _ c.none-graph.ensures _ loads c.decide-found.result c.decide-found.ensures right))
+    let tells : TellsAs (fault_at c.loop-p.p) c.decide.result c.map_err.result = search rules in
+    let is = told_ok (fault_at c.loop-p.p) c.decide.result c.map_err.result tells _ c.in_ok-map_err.was in
+    let found = shows_graph _ _ _ _ _ _ _ _ j R c.loop-p.p (omega arith) c.showing_at.result c.showing_at.ensures _ c.in-Some.is _ c.none-graph.ensures _ c.shown_graph.ensures c.decide.result c.decide.ensures in
+    let right = right_graph _ _ _ _ _ _ _ _ j R c.loop-p.p (omega arith) c.showing_at.result c.showing_at.ensures _ c.in-Some.is _ c.none-graph.ensures _ c.shown_graph.ensures c.decide.result c.decide.ensures _ is in (
+      shows_go j.script (entries j.proposal) c.loop-p.p (c.loop-p.invariant j R).0 (subst (ShowFound j.script (entries j.proposal) c.loop-p.p) is found),
+      record { is_right = λ g e. subst (RightGraph j) (cc) right },
+    )
 
 pub returns : goal.returns
-returns c j R covered = shows_end j.script (entries j.proposal) c.loop-p.p (c.loop-p.invariant j R) c.args.points R.parts.of_script.points_are c.loop-p-test.false covered
+returns c j R covered = shows_end j.script (entries j.proposal) _ (c.loop-p.invariant j R).0 (let e = R.parts.of_script.points_are in omega arith) covered
