@@ -2,12 +2,13 @@
 use Prim.Native.Nat.{ℕ, suc, ◌+◌, ◌≤◌, ◌<◌}
 use native.Mathlib.Omega.{arith}
 use native.Mathlib.Decide.{dec_le}
-use mathlib.Core.Path.{◌≡◌, refl, ap, ◌∙◌}
+use mathlib.Core.Path.{◌≡◌, refl, ap, subst, ◌∙◌}
 use mathlib.Core.List.{List, [], ◌∷◌, ◌++◌}
 use lib.ListN.{length, get_or, take, drop, replicate, length-append, length-drop, length-replicate, get_or-append}
 use lib.Seq.{length-take-le}
-use Rattle.std.specs.Prelude.{Ok, Err}
+use Rattle.std.specs.Prelude.{Result, Ok, Err, MatchResult, IsErrAnd}
 use Rattle.summaries.proofs.Laws as Summaries
+use Rattle.verdicts.specs.declared.Refusal.{Refusal}
 use Rattle.verdicts.specs.declared.Refusal.TheVariants as Refusals
 use Rattle.verdicts.specs.Printed.{Writing}
 use Rattle.verdicts.specs.Printed.{unreadable as unreadable_at}
@@ -58,6 +59,18 @@ are_bytes_lem (b ∷ s) f = (f 0, are_bytes_lem s (λ i. f (suc i)))
 counted : {a b c d : ℕ} (E : ℕ → Environment) → a ≡ b → c ≡ d → written_proposal (proposal_of a c E) ≡ written_proposal (proposal_of b d E)
 counted {a} {b} {c} {d} E e f = ap (λ (k : ℕ). written_proposal (proposal_of k c E)) e ∙ ap (λ (k : ℕ). written_proposal (proposal_of b k E)) f
 
+-- Reading, where a refusal is told with the slice.
+module _ (P : ReadError → Refusal → Type 0) where
+  abbrev pub Told : Result ScriptRead ReadError → Result ScriptRead Refusal → Type 0
+  Told x y = MatchResult x (λ v. y ≡ Ok v) (λ e. IsErrAnd y (P e))
+
+  pub told_read : (s : List ℕ) (x : Result ScriptRead ReadError) (y : Result ScriptRead Refusal) → Told x y → (v : ScriptRead) → y ≡ Ok v → SliceReads s x → SliceReads s (Ok v)
+  told_read s x y cases v q h = go x (subst (Told x) q cases) h
+    where
+      go : (w : Result ScriptRead ReadError) → Told w (Ok v) → SliceReads s w → SliceReads s (Ok v)
+      go (Ok u) e h = let same : u ≡ v = cc in rw (← same) h
+      go (Err u) e h = absurd e
+
 module _ (s work buffer : List ℕ) (place : ℕ) where
   -- What is promised of an answer and of the memory that it leaves.
   abbrev pub Answers : Writing → List ℕ → List ℕ → Type 0
@@ -65,6 +78,14 @@ module _ (s work buffer : List ℕ) (place : ℕ) where
 
   pub unreadable_answers : (e : ReadError) → SliceReads s (Err e) → Answers (Err (unreadable_at e.form e.at 0)) work buffer
   unreadable_answers e h = (the_outcome (unreadable (alone_refuses (ScriptKept s) (script_slice s) e h)), λ n. absurd (form_refuses e.form n))
+
+  pub told_answers : (P : ReadError → Refusal → Type 0) (x : Result ScriptRead ReadError) (y : Result ScriptRead Refusal) → Told P x y → (r : Refusal) → y ≡ Err r
+      → ((e : ReadError) → P e r → r ≡ unreadable_at e.form e.at 0) → SliceReads s x → (z : Writing) → z ≡ Err r → Answers z work buffer
+  told_answers P x y cases r q told h z is = rw is (go x (subst (Told P x) q cases) h)
+    where
+      go : (w : Result ScriptRead ReadError) → Told P w (Err r) → SliceReads s w → Answers (Err r) work buffer
+      go (Ok v) e h = let n : ◌≡◌ {A = ℕ} 0 1 = cc in absurd (omega arith)
+      go (Err u) e h = rw (told u e) (unreadable_answers u h)
 
   module _ (read : ScriptRead) (h : SliceReads s (Ok read)) where
     abbrev pub read_whole : WholeAlone (ScriptKept s) (script_slice s) read
