@@ -4,8 +4,7 @@ use mathlib.Core.Path.{◌≡◌, refl, ap}
 use mathlib.Core.List.{List, [], ◌∷◌, ◌++◌}
 use Rattle.verdicts.specs.declared.Verdict.{Verdict}
 use Rattle.verdicts.specs.declared.Numbers.{Numbers}
-use Rattle.verdicts.specs.declared.Writing.{Writing}
-use Rattle.verdicts.specs.Printed.{numbers_of, verdict_of, bytes_written}
+use Rattle.verdicts.specs.Printed.{Writing, numbers_of, verdict_of, bytes_written}
 use Rattle.verdicts.specs.TheVerdict.{TheVerdict}
 use Rattle.pages.specs.PageVerdict.{PageVerdict}
 use Rattle.jobs.specs.JobVerdict.{JobVerdict}
