@@ -11,7 +11,7 @@ use strings::StringSet;
 use verdicts::Form;
 
 // What reading a vocabulary keeps: for each element that has a rule, the allowed attributes and contents as sets, and the offset
-// where its clauses stand.
+// where its clauses stand. Each array is lent alone: who asks for plainly wrong elements needs no clauses, who walks clauses nothing else.
 #[derive(Clone, Copy)]
 pub struct Tables {
     pub declared: u64,
@@ -22,7 +22,7 @@ pub struct Tables {
 }
 
 // The formula that stands at a position, by its first command: the eight forms in the order of source 000's grammar, each with what the
-// command names and the position after it; or no formula.
+// command names and the position after it; or no formula, a case beside them, so that one match takes a formula that was read apart.
 #[derive(Clone, Copy)]
 pub enum FormulaHere {
     Conj(Position),
@@ -46,7 +46,7 @@ pub enum Fact {
 }
 
 // The facts of a clause so far, in the order of their definition. `count` is 9 where there are more than 8, of which only the first
-// 8 are kept.
+// 8 are kept. There is no heap: the array has room for all that are kept.
 #[derive(Clone, Copy)]
 pub struct Facts {
     pub kept: [Fact; 8],
