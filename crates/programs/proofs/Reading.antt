@@ -1,5 +1,5 @@
 -- What reading the statements from a point on gives, from what is read at that point.
-use Prim.Native.Nat.{ℕ, zero, suc, ◌+◌, ◌≤◌, ◌<◌}
+use Prim.Native.Nat.{ℕ, zero, suc, ◌+◌, ◌-◌, ◌≤◌, ◌<◌}
 use mathlib.Core.Path.{◌≡◌, refl, sym, ap, ◌∙◌}
 use mathlib.Core.List.{List, [], ◌∷◌}
 use mathlib.Core.Bool.{Bool, true, false, cond, ◌||◌, or-false, or_assoc}
@@ -24,7 +24,7 @@ use Rattle.programs.specs.declared.Points.{Points}
 use Rattle.programs.specs.declared.Statement as Declared
 use Rattle.programs.specs.Program.{statement_names, named}
 use Rattle.programs.specs.ProgramReading.{Placed, statement_read, templates_there, most_points, statement_context, statements}
-use Rattle.programs.proofs.Agreement.{enough_after, Stay, stay_below}
+use Rattle.programs.proofs.Agreement.{enough_after, fewer_left, Stay, stay_below}
 use Rattle.programs.proofs.Statements.{next_place}
 use Rattle.programs.proofs.Decoding.{statement_fits}
 use Rattle.programs.specs.Inner.Promises.{as_statement, statement_here, StatementFits, tested_here, tested_statement, number_of, Names, placed_at, placed, Stands, Kept, StatementsRead}
@@ -51,7 +51,7 @@ agrees_where_stay n places P Q g (refused f at) (Err e) says st h = h
 agrees_where_stay n places P Q g unfinished r says st h = h
 
 -- What it tells that a statement may stand here.
-pub record MayStand (count : ℕ) (s : List ℕ) (before at code : ℕ) (next : Position) : Type 0 where
+record MayStand (count : ℕ) (s : List ℕ) (before at code : ℕ) (next : Position) : Type 0 where
   pub read : command (statement_context before) s at ≡ Moved code next
   pub template_there : templates_there count (statement_read s at code) ≡ true
   pub few : before < most_points
@@ -104,7 +104,7 @@ module _ (count : ℕ) (s : List ℕ) (before at : ℕ) where
   stands_by_tests code code' next next' false true false e₁ e₂ e₃ e on r = never_ends _ _ _ _ e
   stands_by_tests code code' next next' false false b₃ e₁ e₂ e₃ e on r = never_ends _ _ _ _ e
 
-  pub may_stand : (d : Decoded) (code : ℕ) (next : Position) → d ≡ tested_statement count s before at → d ≡ Moved code next → (code ≡ 0x3F → ⊥) → MayStand count s before at code next
+  may_stand : (d : Decoded) (code : ℕ) (next : Position) → d ≡ tested_statement count s before at → d ≡ Moved code next → (code ≡ 0x3F → ⊥) → MayStand count s before at code next
   may_stand d code next d_is e on = by_decoded (command (statement_context before) s at) refl (sym d_is ∙ e)
     where
       by_decoded : (d : Decoded) → command (statement_context before) s at ≡ d → tested_here count s before at d ≡ Moved code next → MayStand count s before at code next
@@ -136,7 +136,16 @@ module _ (count : ℕ) (s : List ℕ) (before at : ℕ) where
   )
 
 -- A statement here stands before those that follow.
-module _ (count : ℕ) (s : List ℕ) (before at code : ℕ) (next : Position) (m : MayStand count s before at code next) where
+module _ (count : ℕ) (s : List ℕ) (before at : ℕ) (d : Decoded) (d_is : d ≡ tested_statement count s before at) (code : ℕ) (next : Position) (d_moves : d ≡ Moved code next) (on : code ≡ 0x3F → ⊥) where
+  m : MayStand count s before at code next
+  m = may_stand count s before at d code next d_is d_moves on
+
+  pub few_before : before < most_points
+  few_before = m.few
+
+  pub fewer_left_here : length s - next.at < length s - at
+  fewer_left_here = fewer_left (statement_context before) s at code next m.read
+
   over : MovedOver (statement_context before) s at code next
   over = moved (statement_context before) s at code next m.read
 
@@ -182,12 +191,12 @@ module _ (count : ℕ) (s : List ℕ) (before at code : ℕ) (next : Position) (
       names = record { holds = λ v l. K.names.holds v l ∙ rw (joined (number_of v), names_here.holds v l, t_is, ← over.first) (or_assoc (member now (number_of v)) _ _) };
     }
 
-  pub goes_on : (now new now' : ℕ) (d : Decoded) (places : List ℕ) → d ≡ tested_statement count s before at → d ≡ Moved code next → (code ≡ 0x3F → ⊥)
-      → (t : Declared.Statement) → as_statement t ≡ statement_here s at → Names (statement_names (as_statement t)) new → ((k : ℕ) → member now' k ≡ (member now k || member new k)) → length places ≡ most_points
+  pub goes_on : (now new now' : ℕ) (places : List ℕ) (t : Declared.Statement) → as_statement t ≡ statement_here s at → Names (statement_names (as_statement t)) new
+      → ((k : ℕ) → member now' k ≡ (member now k || member new k)) → length places ≡ most_points
       → (r : Result (Points × Position) ReadError) → PlacesStay (before + 1) (set places before at) r → StatementsRead s count (before + 1) now' next.at r
       → StatementsRead s count before now at r
-  goes_on now new now' d places d_is d_moves on t t_is n j w r st later zero h = absurd (omega arith)
-  goes_on now new now' d places d_is d_moves on t t_is n j w r st later (suc f) h =
+  goes_on now new now' places t t_is n j w r st later zero h = absurd (omega arith)
+  goes_on now new now' places t t_is n j w r st later (suc f) h =
       rw (reads_here count s before at f, ← d_is, d_moves, ne_eqb code 0x3F on)
       (agrees_where_stay (before + 1) (set places before at) (λ ts points. Kept s count (before + 1) now' points ts) (λ ts points. Kept s count before now points ts)
       (λ ts. record { at = at; statement = statement_read s at code } ∷ ts) (statements f count s (before + 1) next.at) r

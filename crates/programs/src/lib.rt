@@ -130,7 +130,7 @@ fn statement_here(s: &[u8], here: Position, templates: usize, before: usize) -> 
     d
 }
 
-// A set with a template variable, and one with a string variable.
+// A set with a template variable, and one with a string variable. One function for both would be told the sort beside the number.
 fn with_template(x: u8, set: u64) -> u64
     requires { x < 4 }
     ensures { Adds (is_template x) set result }
