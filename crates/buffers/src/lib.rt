@@ -1,5 +1,6 @@
 // The answers for what was read into a buffer (document 01, "Verdicts"). Buffers of input are lent as `&`: `untouched` holds
-// by their type. They hold a byte more than a job or a slice may have, so that what fills one is too long, whatever follows.
+// by their type. They hold a byte more than a job or a slice may have, so that what fills one is too long, whatever follows: `verdict`
+// speaks of the whole buffer and of how many bytes were read into it, which the slice of those bytes would not tell.
 #![tactic(auto)]
 
 ghost use Rattle.std.specs.Prelude.{ℕ, ◌≤◌, ◌≡◌, List, length};

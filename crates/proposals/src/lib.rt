@@ -85,6 +85,10 @@ fn put_item(out: &mut [u8], at: usize, prefix: Prefix, k: u8) -> usize
     memory::put(out, n, &[k])
 }
 
+// The bytes are counted before any is written, so a function that counts stands beside each that writes. They are no twins: members are
+// counted in one step and written one by one, and only a buffer has an end. One walk for both would go over a trait of sinks, with laws of
+// room in each contract, and be no plainer.
+
 // How many members of a set are below a limit.
 fn count_members(set: u64, below: u8) -> usize
     requires { below ≤ 64 }

@@ -1,5 +1,5 @@
 -- What the bytes that came from standard input make of a record.
-use Rattle.std.specs.Prelude.{ℕ, zero, suc, ◌+◌, ◌*◌, List, [], ◌∷◌, Bool, false, cond, ◌&&◌, ℤ, pos, negsuc, eqb, ltb, Result, Ok, Err}
+use Rattle.std.specs.Prelude.{ℕ, zero, suc, ◌+◌, ◌*◌, List, [], ◌∷◌, Bool, false, cond, ◌&&◌, ℤ, pos, negsuc, eqb, ltb, Option, Some, None, Result, Ok, Err}
 use Rattle.records.specs.declared.Attempt.{Attempt}
 use Rattle.records.specs.declared.Attempt.TheVariants as Attempts
 use Rattle.records.specs.declared.ReadFailed.{ReadFailed}
@@ -7,12 +7,13 @@ use Rattle.records.specs.declared.NoSlice.{NoSlice}
 use Rattle.records.specs.declared.NoSlice.TheVariants as NoSlices
 
 -- EINTR: a signal interrupted the call.
-abbrev pub interrupted : ℤ → Bool
-interrupted (pos e) = eqb e 4
-interrupted (negsuc e) = false
+abbrev pub interrupted : Option ℤ → Bool
+interrupted (Some (pos e)) = eqb e 4
+interrupted (Some (negsuc e)) = false
+interrupted None = false
 
 -- Only a `read` that answers 0 is the end of the input; one that was interrupted is tried again; any other failure is one.
-abbrev pub attempt_of : Result ℕ ℤ → Attempt
+abbrev pub attempt_of : Result ℕ (Option ℤ) → Attempt
 attempt_of (Ok n) = cond (eqb n 0) Attempts.Ended (Attempts.Got n)
 attempt_of (Err error) = cond (interrupted error) Attempts.Interrupted Attempts.Failed
 

@@ -50,14 +50,14 @@ impl From<ReadFailed> for NoSlice {
     }
 }
 
-// By what `read` answers: how many bytes came, or the error number.
-fn attempt_of(answer: Result<usize, i32>) -> Attempt
+// By what `read` answers: how many bytes came, or the error number, where the error has one.
+fn attempt_of(answer: Result<usize, Option<i32>>) -> Attempt
     ensures { result ≡ attempt_of answer }
 {
     match answer {
         Ok(0) => Attempt::Ended,
         Ok(n) => Attempt::Got(n),
-        Err(EINTR) => Attempt::Interrupted,
+        Err(Some(EINTR)) => Attempt::Interrupted,
         Err(_) => Attempt::Failed,
     }
 }
@@ -121,7 +121,7 @@ fn tell_failure(rt: &HostRuntime, error: io::Error) -> io::Result<()> {
 fn failure_of(rt: &HostRuntime, error: io::Error) -> Attempt
     ensures { (most : ℕ) → GotIn result most }
 {
-    let attempt = attempt_of(Err(error.raw_os_error().unwrap_or(0)));
+    let attempt = attempt_of(Err(error.raw_os_error()));
     if attempt == Attempt::Failed {
         tell_failure(rt, error).ok();
     }

@@ -1,5 +1,5 @@
 // The outcome for a script that was read into a buffer (document 02, F-1); apart from the verdicts of buffers, so that the check does not
-// stand on the inference.
+// stand on the inference. As there, `outcome` speaks of the whole buffer and of how many bytes were read into it.
 #![tactic(auto)]
 
 ghost use Rattle.std.specs.Prelude.{ℕ, ◌≤◌, ◌≡◌, List, length};
