@@ -3,7 +3,7 @@ use native.Mathlib.Omega.{arith}
 use Rattle.programs.specs.Inner.Promises.{as_act}
 use Rattle.summaries.specs.Summaries.{entries}
 use Rattle.covering.proofs.Steps.{variable_template, variable_string}
-use Rattle.covering.proofs.variable_holds.Goals as goal
+use Rattle.covering.proofs.Compared.variable_holds.Goals as goal
 
 pub returns-then-v-lt4 : goal.returns-then-v-lt4
 returns-then-v-lt4 c = let args = c.args in
@@ -19,6 +19,6 @@ returns c = let args = c.args in
     let pre = c.requires in
     let step = args.step in record {
       decides = λ j S.
-          variable_string j.script.templates (as_act step.act) (entries j.proposal step.point) (entries j.proposal step.next) args.v c.string_holds.result c.if-v-lt4.false (c.string_holds.ensures j args.gaps.now S (omega (arith, pre.v_bound)));
+          variable_string j.script.templates (as_act step.act) (entries j.proposal step.point) (entries j.proposal step.next) args.v c.string_holds.result c.if-v-lt4.false (c.string_holds.ensures j args.self.now.gaps.now S (omega (arith, pre.v_bound)));
       empty = pre.keeps;
     }

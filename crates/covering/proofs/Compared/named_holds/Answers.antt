@@ -2,7 +2,7 @@
 use mathlib.Core.Path.{ap, ◌∙◌}
 use mathlib.Core.Bool.{true, not}
 use Rattle.covering.proofs.Steps.{not_named, named_decides}
-use Rattle.covering.proofs.named_holds.Goals as goal
+use Rattle.covering.proofs.Compared.named_holds.Goals as goal
 
 pub returns-then-not-has : goal.returns-then-not-has
 returns-then-not-has c = let pre = c.requires in

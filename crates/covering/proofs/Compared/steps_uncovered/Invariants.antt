@@ -7,10 +7,10 @@ use Rattle.graphs.specs.Inner.Graphs.{Keeps, nothing}
 use Rattle.pages.specs.Inner.Gaps.{GapsTable}
 use Rattle.covering.specs.Inner.Tables.{Tables}
 use Rattle.covering.proofs.Whole.{Below}
-use Rattle.covering.proofs.steps_uncovered.Given as goal
+use Rattle.covering.proofs.Compared.steps_uncovered.Given as goal
 
 abbrev pub invariant-loop-p : goal.invariant-loop-p
 invariant-loop-p l = record {
-  covered : (j : Job) (count : ℕ) (starts : List ℕ) → Tables j l.s count starts l.points.count l.points.places l.points.named l.heads → GapsTable l.gaps j.script.templates → Below j.script (entries j.proposal) l.p;
+  covered : (j : Job) (count : ℕ) (starts : List ℕ) → Tables j l.self.s.now count starts l.self.points.now.count l.self.points.now.places l.self.points.now.named l.self.heads.now → GapsTable l.self.gaps.now j.script.templates → Below j.script (entries j.proposal) l.p;
   empty : Keeps l.graph nothing;
 }

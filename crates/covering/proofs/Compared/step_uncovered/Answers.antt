@@ -3,7 +3,7 @@ use borrow.Author.Count.{below_more}
 use borrow.Author.Rules.{rules}
 use Rattle.entries.proofs.Tests.{decided_true, decided_false}
 use Rattle.covering.proofs.Whole.{fails_there, all_there}
-use Rattle.covering.proofs.step_uncovered.Goals as goal
+use Rattle.covering.proofs.Compared.step_uncovered.Goals as goal
 
 pub loop-v-init : goal.loop-v-init
 loop-v-init c = record { covered = λ j S N u h. absurd (omega arith); empty = c.requires }

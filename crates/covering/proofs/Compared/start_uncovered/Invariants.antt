@@ -5,7 +5,7 @@ use Rattle.jobs.specs.Job.{Job}
 use Rattle.jobs.specs.JobVerdict.{StartHolds}
 use Rattle.jobs.specs.Inner.ScriptTables.{NamesAre}
 use Rattle.covering.specs.Inner.Tables.{EntriesAt}
-use Rattle.covering.proofs.start_uncovered.Given as goal
+use Rattle.covering.proofs.Compared.start_uncovered.Given as goal
 
 abbrev pub invariant-loop-v : goal.invariant-loop-v
-invariant-loop-v l = (j : Job) → EntriesAt l.s l.heads j.proposal 0 → NamesAre j.script l.names → (u : ℕ) → u < l.v → StartHolds j.script (entries j.proposal) u
+invariant-loop-v l = (j : Job) → EntriesAt l.self.s.now l.self.heads.now j.proposal 0 → NamesAre j.script l.self.points.now.named → (u : ℕ) → u < l.v → StartHolds j.script (entries j.proposal) u
