@@ -1,5 +1,5 @@
 -- The laws of this crate that others cite.
-pub use Rattle.vocabularies.proofs.Parts.{agrees_whole, agrees_refused, agrees_with_whole, agrees_with_refused, agrees_itself, last_agrees, last_agrees_as, last_agrees_with, last_whole, and_then_same}
+pub use Rattle.vocabularies.proofs.Parts.{agrees_whole, agrees_refused, agrees_with_whole, agrees_with_refused, last_agrees, last_agrees_with, last_whole, and_then_same}
 pub use Rattle.vocabularies.proofs.Parts.{plenty, is_plenty, Finished, last_finishes, and_then_finishes, when_finishes, command_turns, command_falls}
 pub use Rattle.vocabularies.proofs.Formulas.{formula_ends, formula_finishes, formula_whole, formula_moved}
 pub use Rattle.vocabularies.proofs.Walks.{told, onward, two_walk, one_walk, leaf_walk, no_walk}

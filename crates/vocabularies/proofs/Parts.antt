@@ -38,15 +38,6 @@ module _ {A B : Type 0} (P : A → B → Type 0) where
   agrees_with_refused (refused f n) e h = rw (h.0, h.1)
   agrees_with_refused unfinished e h = absurd h
 
-module _ {A : Type 0} where
-  -- What is read whole is what is read.
-  pub agrees_itself : (x : Read A) (r : Result Position ReadError) → Agrees x r → AgreesAs (λ a end. x ≡ whole a end) x r
-  agrees_itself (whole a end) (Ok p) h = (h.0, refl)
-  agrees_itself (whole a end) (Err e) h = h
-  agrees_itself (refused f n) (Ok p) h = h
-  agrees_itself (refused f n) (Err e) h = h
-  agrees_itself unfinished r h = h
-
 module _ {A B : Type 0} where
   pub and_then_same : (x x' : Read A) (k k' : A → ℕ → Read B) → x ≡ x' → ((a : A) (end : ℕ) → x' ≡ whole a end → k a end ≡ k' a end) → and_then x k ≡ and_then x' k'
   and_then_same x (whole a end) k k' e h = rw e (h a end refl)
@@ -60,14 +51,6 @@ module _ {A B : Type 0} where
   last_agrees (refused f n) k (Ok p) h = h
   last_agrees (refused f n) k (Err e) h = h
   last_agrees unfinished k r h = h
-
-  pub last_agrees_as : (P : A → ℕ → Type 0) (Q : B → ℕ → Type 0) (x : Read A) (k : A → B) (r : Result Position ReadError) → ((a : A) (end : ℕ) → P a end → Q (k a) end) → AgreesAs P x r
-      → AgreesAs Q (and_then x (λ a end. whole (k a) end)) r
-  last_agrees_as P Q (whole a end) k (Ok p) q h = (h.0, q a end h.1)
-  last_agrees_as P Q (whole a end) k (Err e) q h = h
-  last_agrees_as P Q (refused f n) k (Ok p) q h = h
-  last_agrees_as P Q (refused f n) k (Err e) q h = h
-  last_agrees_as P Q unfinished k r q h = h
 
   pub last_agrees_with : {C : Type 0} (P : A → C → Type 0) (Q : B → C → Type 0) (x : Read A) (k : A → B) (r : Result (C × Position) ReadError)
       → ((a : A) (c : C) → P a c → Q (k a) c) → AgreesWith P x r → AgreesWith Q (and_then x (λ a end. whole (k a) end)) r
