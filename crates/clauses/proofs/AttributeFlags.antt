@@ -1,17 +1,19 @@
 -- The flags that one attribute gives: only to the facts about its name.
-use Prim.Native.Nat.{ℕ, suc, ◌+◌, ◌-◌, ◌*◌, ◌^◌, ◌<◌, ◌≤◌}
+use Rattle.std.specs.Prelude.{min, bit_or}
+use Rattle.std.proofs.Math.Facts.{Fits-or}
+use Prim.Native.Nat.{ℕ, suc, ◌+◌, ◌-◌, ◌*◌, ◌%◌, ◌^◌, ◌<◌, ◌≤◌}
 use mathlib.Core.Path.{◌≡◌, refl, sym, ap, subst, ◌∙◌}
 use mathlib.Core.List.{List, [], ◌∷◌}
-use mathlib.Core.Bool.{Bool, true, false, cond, not, ◌||◌, or-false}
-use mathlib.Core.Logic.{◌⊎◌, ⊎_elim}
+use mathlib.Core.Bool.{Bool, true, false, cond, not, ◌||◌, or-true, or-false}
 use native.Mathlib.Decide.{ℕ_discrete}
 use native.Mathlib.Omega.{arith}
-use lib.ListN.{length, get_or, drop}
-use lib.Seq.{drop-cons, drop-length}
-use lib.Dec.{eqb}
-use lib.Pow.{pow_pos, pow_mono}
+use lib.ListN.{length, get_or}
+use lib.Dec.{eqb, ltb, lit<}
+use lib.Pow.{shl_exact}
+use mir.Syntax.{w8}
 use borrow.Author.Tests.{eq-eqb, ne_eqb}
 use Rattle.sets.specs.Sets.{member}
+use Rattle.sets.proofs.Laws.{member_zero, member_or, member_single}
 use Rattle.strings.specs.declared.StringSet.{StringSet}
 use Rattle.strings.specs.Inner.Promises.{has_string}
 use Rattle.vocabularies.specs.Vocabulary.{is_in}
@@ -19,21 +21,15 @@ use Rattle.vocabularies.specs.declared.Fact as Kept
 use Rattle.vocabularies.specs.declared.Fact.TheVariants.{Carried, Present, Ordered, Valued}
 use Rattle.vocabularies.specs.declared.Facts.{Facts}
 use Rattle.vocabularies.specs.Facts.{Fact, present}
-use Rattle.vocabularies.specs.Inner.Promises.{meaning_of, kept_at, Stored}
+use Rattle.vocabularies.specs.Inner.Promises.{meaning_of, kept_at, Stored, Represents}
 use Rattle.judging.specs.Inner.Judgement.{precedes}
 use Rattle.patterns.specs.Inner.Patterns.{breaks_value, flagged, numbered, pattern_of}
 use Rattle.sets.proofs.Booleans.{or_neither}
 use Rattle.patterns.proofs.Tests.{eqb_sym}
 use Rattle.schemes.specs.Inner.Promises.{OfFacts}
 use Rattle.schemes.proofs.Placing.{few_count}
+use Rattle.schemes.proofs.Numbers.{numbered_is}
 use Rattle.clauses.specs.Inner.Promises.{alone, TellsApart, IsPattern, WithName, WithAttribute, AttributesOf}
-
--- A number doubled, and the next one, as the definition writes them.
-pub odd : (n : ℕ) → n * 2 + 1 ≡ 1 + 2 * n
-odd n = omega arith
-
-pub even : (n : ℕ) → n * 2 ≡ 0 + 2 * n
-even n = omega arith
 
 -- The flag that attribute a with string s alone gives to a fact.
 module _ (a s : ℕ) (y : Kept.Fact) where
@@ -90,71 +86,59 @@ module _ (a : ℕ) (y : Kept.Fact) (set : StringSet) where
 pub apart_at : (t : Facts) (i a : ℕ) (y : Kept.Fact) (set : StringSet) → y ≡ kept_at t i → TellsApart (meaning_of y) a set → (f : Fact) → Stored t i f → TellsApart f a set
 apart_at t i a y set e tells f w = subst (λ (g : Fact). TellsApart g a set) (ap meaning_of e ∙ w) tells
 
--- ---- the pattern, fact by fact from the last
+-- ---- the pattern, fact by fact
 
 module _ (t : Facts) (a s : ℕ) where
-  -- The flags of the facts from a place on.
+  -- The flags of the facts before a place.
   pub record Numbering (i p : ℕ) : Type 0 where
     pub within : i ≤ t.count
-    pub few : t.count ≤ 8
-    pub small : p < 2 ^ (8 - i)
-    pub number : OfFacts t (λ fs. p ≡ numbered (drop i fs) (flagged (alone a s) []))
+    pub small : p < 2 ^ 8
+    pub flags : OfFacts t (λ fs. (j : ℕ) → j < i → j < length fs → member p j ≡ flagged (alone a s) [] (get_or fs j (present 0)))
+    pub rest : (j : ℕ) → i ≤ j → member p j ≡ false
 
-  pub numbering_none : t.count ≤ 8 → Numbering t.count 0
-  unfolding numbered
-  numbering_none few = record {
-    within = omega arith;
-    few = few;
-    small = pow_pos (8 - t.count);
-    number = λ fs h few.
-        sym (ap (λ (n : ℕ). numbered (drop n fs) (flagged (alone a s) [])) (few_count t fs h few) ∙ ap (λ (l : List Fact). numbered l (flagged (alone a s) [])) (drop-length fs));
-  }
+  pub numbering_none : Numbering 0 0
+  numbering_none = record { within = omega arith; small = omega arith; flags = λ fs h few j l. absurd (omega arith); rest = λ j l. member_zero j }
 
-  pub too_many : 8 < t.count → IsPattern t a s 0
-  too_many l fs h few = let e = few_count t fs h few in absurd (omega arith)
-
-  pub numbering_all : (i p : ℕ) → i ≤ 0 → Numbering i p → IsPattern t a s p
+  pub numbering_all : (i p : ℕ) → min t.count 8 ≤ i → Numbering i p → IsPattern t a s p
   unfolding pattern_of
   numbering_all i p l n fs h few =
-      let z : i ≡ 0 = omega arith in
-      n.number fs h few ∙ ap (λ (k : ℕ). numbered (drop k fs) (flagged (alone a s) [])) z
+      let e : t.count ≡ length fs = few_count t fs h few in
+      numbered_is fs (flagged (alone a s) []) p few n.small (λ j b. n.flags fs h few j (omega arith) b) (λ j b. n.rest j (let w = n.within in omega arith))
 
-  module _ (i p : ℕ) (n : Numbering i p) (l : 0 < i) where
-    pub numbering_room : p < 128
-    numbering_room =
-        let m : 8 - i ≤ 7 = omega arith in
-        let q : 2 ^ (8 - i) ≤ 2 ^ 7 = pow_mono m in
-        omega (arith, n.small)
+  module _ (i p : ℕ) (n : Numbering i p) (b : i < 8) (here : i < t.count) where
+    one : (j : ℕ) → member (bit_or p ((1 * 2 ^ i) % 2 ^ 8)) j ≡ (member p j || eqb j i)
+    one j = member_or p ((1 * 2 ^ i) % 2 ^ 8) j
+        ∙ ap (λ (q : ℕ). member p j || member q j) (shl_exact {a = 1} 1 i 8 (lit< tt) (omega arith)) ∙ ap (λ (q : Bool). member p j || q) (member_single i j)
 
-    pub numbering_more : (b : Bool) → FlagAt t (i - 1) a s b → Numbering (i - 1) (cond b 1 0 + 2 * p)
-    unfolding numbered
-    numbering_more b told = record {
-      within = omega (arith, n.within);
-      few = n.few;
-      small = smaller b;
-      number = next;
+    told_here : {b : Bool} → FlagAt t i a s b → (fs : List Fact) → Represents t fs → length fs ≤ 8 → b ≡ flagged (alone a s) [] (get_or fs i (present 0))
+    told_here told fs h few = let e : t.count ≡ length fs = few_count t fs h few in told (get_or fs i (present 0)) (h.stores i b (omega arith))
+
+    pub numbering_with : FlagAt t i a s true → Numbering (i + 1) (bit_or p ((1 * 2 ^ i) % 2 ^ 8))
+    numbering_with told = record {
+      within = omega arith;
+      small = (Fits-or {w8} (record { fits = n.small }) (record { fits = omega arith })).fits;
+      flags = λ fs h few j l c. one j ∙ go fs h few j l c (ℕ_discrete j i);
+      rest = λ j l. one j ∙ rw (n.rest j (omega arith), ne_eqb j i (λ q. omega arith)) refl;
     }
       where
-        up : 8 - (i - 1) ≡ suc (8 - i)
-        up = omega (arith, n.within, n.few)
+        go : (fs : List Fact) → Represents t fs → length fs ≤ 8 → (j : ℕ) → j < i + 1 → j < length fs → Dec (j ≡ i)
+            → (member p j || eqb j i) ≡ flagged (alone a s) [] (get_or fs j (present 0))
+        go fs h few j l c (yes q) = ap (λ (x : Bool). member p j || x) (eq-eqb j i q) ∙ or-true (member p j) ∙ told_here told fs h few
+            ∙ ap (λ (k : ℕ). flagged (alone a s) [] (get_or fs k (present 0))) (sym q)
+        go fs h few j l c (no m) = ap (λ (x : Bool). member p j || x) (ne_eqb j i m) ∙ or-false (member p j) ∙ n.flags fs h few j (omega arith) c
 
-        twice : 2 * 2 ^ (8 - i) ≡ 2 ^ (8 - (i - 1))
-        twice = sym (ap (λ (k : ℕ). 2 ^ k) up ∙ (let q : 2 ^ suc (8 - i) ≡ 2 * 2 ^ (8 - i) = omega arith in q))
-
-        smaller : (b : Bool) → cond b 1 0 + 2 * p < 2 ^ (8 - (i - 1))
-        smaller true = omega (arith, n.small, twice)
-        smaller false = omega (arith, n.small, twice)
-
-        next : OfFacts t (λ fs. cond b 1 0 + 2 * p ≡ numbered (drop (i - 1) fs) (flagged (alone a s) []))
-        next fs h few =
-            let e : t.count ≡ length fs = few_count t fs h few in
-            let inside : i - 1 < length fs = omega (arith, n.within) in
-            let above : suc (i - 1) ≡ i = omega arith in
-            let split : drop (i - 1) fs ≡ get_or fs (i - 1) (present 0) ∷ drop i fs =
-            drop-cons fs (i - 1) (present 0) inside ∙ ap (λ (k : ℕ). get_or fs (i - 1) (present 0) ∷ drop k fs) above in
-            let here : b ≡ flagged (alone a s) [] (get_or fs (i - 1) (present 0)) =
-            told (get_or fs (i - 1) (present 0)) (h.stores (i - 1) (omega (arith, n.within, n.few)) inside) in
-            rw (split, ← here, ← (n.number fs h few))
+    pub numbering_without : FlagAt t i a s false → Numbering (i + 1) p
+    numbering_without told = record {
+      within = omega arith;
+      small = n.small;
+      flags = λ fs h few j l c. go fs h few j l c (ℕ_discrete j i);
+      rest = λ j l. n.rest j (omega arith);
+    }
+      where
+        go : (fs : List Fact) → Represents t fs → length fs ≤ 8 → (j : ℕ) → j < i + 1 → j < length fs → Dec (j ≡ i)
+            → member p j ≡ flagged (alone a s) [] (get_or fs j (present 0))
+        go fs h few j l c (yes q) = n.rest j (omega arith) ∙ told_here told fs h few ∙ ap (λ (k : ℕ). flagged (alone a s) [] (get_or fs k (present 0))) (sym q)
+        go fs h few j l c (no m) = n.flags fs h few j (omega arith) c
 
 -- ---- attributes that no fact is about
 
@@ -205,7 +189,7 @@ module _ (t : Facts) where
           rw (e, ← is) (W.others a s l n)
       go (no m) = before fs h few a s j l (W.keeps a n) (omega arith)
 
-  pub named_all : (i names : ℕ) → (t.count ≤ i) ⊎ (8 ≤ i) → NamedTo i names → AttributesOf t names
+  pub named_all : (i names : ℕ) → min t.count 8 ≤ i → NamedTo i names → AttributesOf t names
   unfolding pattern_of
   named_all i names end before fs h few a s l n = numbered_none fs (flagged (alone a s) [])
-      (λ j k. before fs h few a s j l n (let c : t.count ≡ length fs = few_count t fs h few in ⊎_elim (λ p. omega arith) (λ p. omega arith) end))
+      (λ j k. before fs h few a s j l n (let c : t.count ≡ length fs = few_count t fs h few in omega arith))

@@ -1,4 +1,5 @@
 -- Stepping through strings: strings alike have one pattern, and all patterns are met.
+use Rattle.std.specs.Prelude.{None, min}
 use Prim.Native.Nat.{ℕ, suc, ◌+◌, ◌^◌, ◌<◌, ◌≤◌}
 use mathlib.Core.Path.{◌≡◌, refl, sym, ap, subst, ◌∙◌}
 use mathlib.Core.List.{List, [], ◌∷◌}
@@ -12,7 +13,8 @@ use lib.Dec.{eqb, ltb}
 use borrow.Author.Tests.{eq-eqb, eqb-true, ltb-true, ltb-false, lt-ltb}
 use Rattle.strings.specs.declared.StringSet.{StringSet}
 use Rattle.strings.specs.Strings.{strings}
-use Rattle.strings.specs.Inner.Promises.{has_string, FirstString}
+use Rattle.sets.specs.Inner.Promises.{NextMember, MemberFrom}
+use Rattle.strings.specs.Inner.Promises.{has_string}
 use Rattle.strings.proofs.Laws.{outside}
 use Rattle.vocabularies.specs.declared.Facts.{Facts}
 use Rattle.vocabularies.specs.Facts.{Fact, present}
@@ -94,90 +96,69 @@ module _ (t : Facts) (a s : ℕ) where
           flag_at fs h few k older (agreed (has_string told s) (has_string told k) newer) j l c (ℕ_discrete j i);
     }
 
-  pub alike_all : (i : ℕ) (set : StringSet) → (t.count ≤ i) ⊎ (8 ≤ i) → AlikeTo i set → Alike t a s set
+  pub alike_all : (i : ℕ) (set : StringSet) → min t.count 8 ≤ i → AlikeTo i set → Alike t a s set
   unfolding pattern_of
   alike_all i set end so_far = record {
     itself = so_far.itself;
-    patterns = λ fs h few k m. same_numbers fs (flagged (alone a k) []) (flagged (alone a s) []) (λ j l. so_far.flags fs h few k m j (past fs h few j l end) l);
+    patterns = λ fs h few k m. same_numbers fs (flagged (alone a k) []) (flagged (alone a s) [])
+        (λ j l. so_far.flags fs h few k m j (let n : t.count ≡ length fs = few_count t fs h few in omega arith) l);
   }
-    where
-      past : (fs : List Fact) → Represents t fs → length fs ≤ 8 → (j : ℕ) → j < length fs → (t.count ≤ i) ⊎ (8 ≤ i) → j < i
-      past fs h few j l (inl e) = let n : t.count ≡ length fs = few_count t fs h few in omega arith
-      past fs h few j l (inr e) = omega arith
 
 -- ---- the patterns over strings
 
 module _ (fs : List Fact) (set : List ℕ) (a : ℕ) (named : StringSet) where
-  -- What a loop that has come to string s has put in, and which strings are left.
-  pub record PatternsTo (s : ℕ) (left : StringSet) (r : List ℕ) : Type 0 where
+  -- What a loop that has come to a place has put in, and which strings are left.
+  pub record PatternsTo (from : ℕ) (left : StringSet) (r : List ℕ) : Type 0 where
     pub keeps : (x : ℕ) → holds set x ≡ true → holds r x ≡ true
     pub inside : (k : ℕ) → has_string left k ≡ true → has_string named k ≡ true
     pub done : (k : ℕ) → k < strings → has_string named k ≡ true
-        → (holds r (attribute_pattern fs a k) ≡ true) ⊎ ((has_string left k ≡ true) × (s ≤ k))
+        → (holds r (attribute_pattern fs a k) ≡ true) ⊎ ((has_string left k ≡ true) × (from ≤ k))
     pub sound : (x : ℕ) → holds r x ≡ true
         → (holds set x ≡ true) ⊎ ((k : ℕ) × (k < strings) × (has_string named k ≡ true) × (attribute_pattern fs a k ≡ x))
 
-  -- The first string of those left is not after one of them.
-  not_after : (left : StringSet) (from first : ℕ) → FirstString left from first → (k : ℕ) → has_string left k ≡ true → from ≤ k → first ≤ k
-  not_after left from first f k m l = go (ltb k first) refl
-    where
-      go : (t : Bool) → ltb k first ≡ t → first ≤ k
-      go true e = absurd (false≢true (sym (f.skips k l (ltb-true k first e)) ∙ m))
-      go false e = ltb-false k first e
+  pub patterns_none : PatternsTo 0 named set
+  patterns_none = record { keeps = λ x h. h; inside = λ k m. m; done = λ k l m. inr (m, omega arith); sound = λ x h. inl h }
 
-  pub patterns_none : (s : ℕ) → FirstString named 0 s → PatternsTo s named set
-  patterns_none s f = record {
-    keeps = λ x h. h;
-    inside = λ k m. m;
-    done = λ k l m. inr (m, not_after named 0 s f k m (omega arith));
-    sound = λ x h. inl h;
-  }
-
-  module _ (s p onto : ℕ) (left alike less : StringSet) (r more : List ℕ) (here : s < strings) (is_left : has_string left s ≡ true)
+  module _ (from s p : ℕ) (left alike less : StringSet) (r more : List ℕ) (f : MemberFrom left.word from s)
       (is_pattern : p ≡ attribute_pattern fs a s) (with_it : (y : ℕ) → holds more y ≡ (eqb y p || holds r y))
       (itself : has_string alike s ≡ true) (patterns : (k : ℕ) → has_string alike k ≡ true → attribute_pattern fs a k ≡ attribute_pattern fs a s)
-      (without : (k : ℕ) → has_string less k ≡ (has_string left k && not (has_string alike k))) (f : FirstString less (s + 1) onto)
-      (so_far : PatternsTo s left r) where
+      (without : (k : ℕ) → has_string less k ≡ (has_string left k && not (has_string alike k)))
+      (so_far : PatternsTo from left r) where
     old : (x : ℕ) → holds r x ≡ true → holds more x ≡ true
     old x h = with_it x ∙ or_right (eqb x p) (holds r x) h
 
     new : (x : ℕ) → x ≡ p → holds more x ≡ true
     new x e = with_it x ∙ or_left (eqb x p) (holds r x) (eq-eqb x p e)
 
-    later : (k : ℕ) → has_string left k ≡ true → s ≤ k → (t : Bool) → has_string alike k ≡ t
-        → (holds more (attribute_pattern fs a k) ≡ true) ⊎ ((has_string less k ≡ true) × (onto ≤ k))
+    later : (k : ℕ) → has_string left k ≡ true → from ≤ k → (t : Bool) → has_string alike k ≡ t
+        → (holds more (attribute_pattern fs a k) ≡ true) ⊎ ((has_string less k ≡ true) × (s + 1 ≤ k))
     later k m l true e = inl (new (attribute_pattern fs a k) (patterns k e ∙ sym is_pattern))
-    later k m l false e = inr (still, not_after less (s + 1) onto f k still beyond)
+    later k m l false e = inr (without k ∙ and_both _ _ m (ap not e), beyond (ltb k s) refl (ℕ_discrete k s))
       where
-        still : has_string less k ≡ true
-        still = without k ∙ and_both _ _ m (ap not e)
+        beyond : (t : Bool) → ltb k s ≡ t → Dec (k ≡ s) → s + 1 ≤ k
+        beyond true q d = absurd (false≢true (sym (f.skips k l (ltb-true k s q)) ∙ m))
+        beyond false q (yes d) = absurd (false≢true (sym e ∙ ap (has_string alike) d ∙ itself))
+        beyond false q (no n) = let g : s ≤ k = ltb-false k s q in omega arith
 
-        beyond : s + 1 ≤ k
-        beyond = go (ℕ_discrete k s)
-          where
-            go : Dec (k ≡ s) → s + 1 ≤ k
-            go (yes q) = absurd (false≢true (sym e ∙ ap (has_string alike) q ∙ itself))
-            go (no n) = omega arith
-
-    pub patterns_more : PatternsTo onto less more
+    pub patterns_more : PatternsTo (s + 1) less more
     patterns_more = record {
       keeps = λ x h. old x (so_far.keeps x h);
       inside = λ k m. so_far.inside k (and_left (has_string left k) (not (has_string alike k)) (sym (without k) ∙ m));
       done = λ k l m. ⊎_elim
           (λ (h : holds r (attribute_pattern fs a k) ≡ true). inl (old (attribute_pattern fs a k) h))
-          (λ (h : (has_string left k ≡ true) × (s ≤ k)). later k h.0 h.1 (has_string alike k) refl)
+          (λ (h : (has_string left k ≡ true) × (from ≤ k)). later k h.0 h.1 (has_string alike k) refl)
           (so_far.done k l m);
       sound = λ x h. ⊎_elim
-          (λ (e : eqb x p ≡ true). inr (s, here, so_far.inside s is_left, sym is_pattern ∙ sym (eqb-true x p e)))
+          (λ (e : eqb x p ≡ true). inr (s, f.within, so_far.inside s f.is_held, sym is_pattern ∙ sym (eqb-true x p e)))
           (λ (e : holds r x ≡ true). so_far.sound x e)
           (or_cases (eqb x p) (holds r x) (sym (with_it x) ∙ h));
     }
 
-  pub patterns_all : (s : ℕ) (left : StringSet) (r : List ℕ) → strings ≤ s → PatternsTo s left r → WithPatterns fs set a named r
-  patterns_all s left r end so_far = record {
+  pub patterns_all : (from : ℕ) (left : StringSet) (r : List ℕ) → NextMember left.word from None → PatternsTo from left r → WithPatterns fs set a named r
+  patterns_all from left r none so_far = record {
     keeps = so_far.keeps;
     complete = λ k l m. ⊎_elim (λ (h : holds r (attribute_pattern fs a k) ≡ true). h)
-        (λ (h : (has_string left k ≡ true) × (s ≤ k)). let late : s ≤ k = h.1 in absurd (omega arith))
+        (λ (h : (has_string left k ≡ true) × (from ≤ k)). absurd (false≢true (sym (none k h.1) ∙ h.0)))
         (so_far.done k l m);
     sound = so_far.sound;
   }

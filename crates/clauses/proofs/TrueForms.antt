@@ -1,4 +1,5 @@
 -- The patterns under which a formula is true, form by form: at each pattern the formula is judged as at an element.
+use Rattle.std.specs.Prelude.{Some, None}
 use Prim.Native.Nat.{ℕ, ◌^◌, ◌<◌, ◌≤◌}
 use mathlib.Core.Path.{◌≡◌, refl, sym, ap, ap₂, ◌∙◌}
 use mathlib.Core.List.{List, [], ◌∷◌}
@@ -9,6 +10,7 @@ use lib.Dec.{ltb}
 use lib.Pow.{pow_pos, pow_mono}
 use borrow.Author.Tests.{ltb-true, ltb-false}
 use Rattle.sets.specs.Sets.{member}
+use Rattle.sets.proofs.Laws.{member_high}
 use Rattle.vocabularies.specs.declared.FormulaHere.TheVariants.{Nothing}
 use Rattle.vocabularies.specs.Vocabulary.{conj, disj, neg, truth, attr, content, order, value}
 use Rattle.vocabularies.specs.VocabularyReading.{binary, unary, leaf}
@@ -44,9 +46,14 @@ pub small : (fs : List Fact) → length fs ≤ 8 → (x : ℕ) → x < 2 ^ lengt
 small fs few x h = let p : 2 ^ length fs ≤ 2 ^ 8 = pow_mono few in omega arith
 
 module _ (t : Facts) where
-  pub flagged_placed : (f : Fact) (place : ℕ) (r : List ℕ) → Places t f place → AllFlagged place r → FlaggedBy t f r
+  pub flagged_placed : (f : Fact) (place : ℕ) (r : List ℕ) → Places t f (Some place) → AllFlagged place r → FlaggedBy t f r
   flagged_placed f place r placed all fs h few x b =
-      all x (small fs few x b) ∙ ap (member x) (placed.place fs h few) ∙ sym (flag_placed fs f x b)
+      all x (small fs few x b) ∙ ap (member x) (placed fs h few).1 ∙ sym (flag_placed fs f x b)
+
+  -- A fact that is not there has no flag.
+  pub flagged_nowhere : (f : Fact) (r : List ℕ) → Places t f None → ((x : ℕ) → holds r x ≡ false) → FlaggedBy t f r
+  flagged_nowhere f r absent none fs h few x b =
+      none x ∙ sym (flag_placed fs f x b ∙ ap (member x) (absent fs h few) ∙ member_high (length fs) x (length fs) b (omega arith))
 
   pub is_unbroken : (f : Fact) (broken r : List ℕ) → FlaggedBy t f broken → ((x : ℕ) → x < 256 → holds r x ≡ not (holds broken x)) → UnbrokenBy t f r
   is_unbroken f broken r flags others fs h few x b = others x (small fs few x b) ∙ ap not (flags fs h few x b)

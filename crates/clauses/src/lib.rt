@@ -11,7 +11,7 @@ ghost use Rattle.clauses.specs.Inner.Promises.{alone, agree, TellsApart, IsPatte
 use commands::Position;
 use schemes::EMPTY;
 use strings::{AttributeValues, OUTSIDE, StringSet};
-use vocabularies::{Fact, Facts, FormulaHere};
+use vocabularies::{Fact, Facts, FormulaHere, MOST_FACTS};
 
 // Whether attribute a with string s alone has the flag of a fact.
 fn is_flagged(fact: Fact, a: u8, s: u8) -> bool
@@ -46,20 +46,10 @@ fn told_apart(fact: Fact, a: u8) -> StringSet
 pub fn attribute_pattern(facts: Facts, a: u8, s: u8) -> u8
     ensures { IsPattern facts a s result }
 {
-    let count = facts.count;
-    if 8 < count {
-        return 0;
-    }
-    let mut i = count;
-    let mut pattern: u8 = 0;
-    while 0 < i {
-        i -= 1;
-        let kept = facts.kept[i];
-        let fact = kept.fact;
-        if is_flagged(fact, a, s) {
-            pattern = pattern * 2 + 1;
-        } else {
-            pattern = pattern * 2;
+    let mut pattern = 0;
+    for i in 0..facts.count.min(MOST_FACTS) {
+        if is_flagged(facts.kept[i], a, s) {
+            pattern |= 1 << i;
         }
     }
     pattern
@@ -91,17 +81,9 @@ fn with_attribute(names: u64, fact: Fact) -> u64
 pub fn attributes_of(facts: Facts) -> u64
     ensures { AttributesOf facts result }
 {
-    let count = facts.count;
-    let mut names: u64 = 0;
-    let mut i = 0;
-    while i < 8 {
-        if count <= i {
-            return names;
-        }
-        let kept = facts.kept[i];
-        let fact = kept.fact;
-        names = with_attribute(names, fact);
-        i += 1;
+    let mut names = 0;
+    for i in 0..facts.count.min(MOST_FACTS) {
+        names = with_attribute(names, facts.kept[i]);
     }
     names
 }
@@ -120,18 +102,9 @@ fn with_same_flag(set: StringSet, told: StringSet, s: u8) -> StringSet
 fn alike(facts: Facts, a: u8, s: u8) -> StringSet
     ensures { Alike facts a s result }
 {
-    let count = facts.count;
     let mut set = strings::all();
-    let mut i = 0;
-    while i < 8 {
-        if count <= i {
-            return set;
-        }
-        let kept = facts.kept[i];
-        let fact = kept.fact;
-        let told = told_apart(fact, a);
-        set = with_same_flag(set, told, s);
-        i += 1;
+    for i in 0..facts.count.min(MOST_FACTS) {
+        set = with_same_flag(set, told_apart(facts.kept[i], a), s);
     }
     set
 }
@@ -142,12 +115,12 @@ fn with_patterns(facts: Facts, set: [u64; 4], a: u8, named: StringSet) -> [u64; 
 {
     let mut larger = set;
     let mut left = named;
-    let mut s = strings::next(left, 0);
-    while s < OUTSIDE {
+    let mut from = 0;
+    while let Some(s) = strings::next(left, from) {
         let more = pattern_sets::with(larger, attribute_pattern(facts, a, s));
         larger = more;
         left = strings::without(left, alike(facts, a, s));
-        s = strings::next(left, s + 1);
+        from = s + 1;
     }
     larger
 }
@@ -189,7 +162,10 @@ fn all_if(is_true: bool) -> [u64; 4]
 fn flagged_by(facts: Facts, fact: Fact) -> [u64; 4]
     ensures { FlaggedBy facts (meaning_of fact) result }
 {
-    pattern_sets::flagged(schemes::place_of(facts, fact))
+    match schemes::place_of(facts, fact) {
+        Some(place) => pattern_sets::flagged(place),
+        None => pattern_sets::empty(),
+    }
 }
 
 // The patterns that are not in a set.
@@ -218,32 +194,30 @@ impl Truths {
     fn and(self, second: Truths) -> Truths
         ensures { (result.next ≡ second.next) × ((x : ℕ) → holds result.set x ≡ (holds self.set x && holds second.set x)) }
     {
-        let left = self.set;
-        let right = second.set;
-        let next = second.next;
-        let set = pattern_sets::intersection(left, right);
-        Truths { set, next }
+        Truths {
+            set: pattern_sets::intersection(self.set, second.set),
+            next: second.next,
+        }
     }
 
     // Those under which one of them is true.
     fn or(self, second: Truths) -> Truths
         ensures { (result.next ≡ second.next) × ((x : ℕ) → holds result.set x ≡ (holds self.set x || holds second.set x)) }
     {
-        let left = self.set;
-        let right = second.set;
-        let next = second.next;
-        let set = pattern_sets::union(left, right);
-        Truths { set, next }
+        Truths {
+            set: pattern_sets::union(self.set, second.set),
+            next: second.next,
+        }
     }
 
     // Those under which this formula is not true.
     fn not(self) -> Truths
         ensures { (result.next ≡ self.next) × ((x : ℕ) → x < 256 → holds result.set x ≡ not (holds self.set x)) }
     {
-        let held = self.set;
-        let next = self.next;
-        let set = complement(held);
-        Truths { set, next }
+        Truths {
+            set: complement(self.set),
+            next: self.next,
+        }
     }
 }
 
@@ -308,9 +282,10 @@ pub fn clause_fails(s: &[u8], here: Position, facts: Facts, patterns: [u64; 4]) 
     ensures told { ClauseFails facts patterns s.now here.at result }
 {
     let truths = true_patterns(s, here, facts);
-    let set = truths.set;
-    let next = truths.next;
-    let falsehoods = complement(set);
+    let falsehoods = complement(truths.set);
     let fails = !pattern_sets::is_empty(pattern_sets::intersection(patterns, falsehoods));
-    Tested { fails, next }
+    Tested {
+        fails,
+        next: truths.next,
+    }
 }
