@@ -116,7 +116,7 @@ module _ (t : Facts) (a s : ℕ) where
     pub numbering_with : FlagAt t i a s true → Numbering (i + 1) (bit_or p ((1 * 2 ^ i) % 2 ^ 8))
     numbering_with told = record {
       within = omega arith;
-      small = (Fits-or {w8} (record { fits = n.small }) (record { fits = omega arith })).fits;
+      small = (Fits-or {w = w8} (record { fits = n.small }) (record { fits = omega arith })).fits;
       flags = λ fs h few j l c. one j ∙ go fs h few j l c (ℕ_discrete j i);
       rest = λ j l. one j ∙ rw (n.rest j (omega arith), ne_eqb j i (λ q. omega arith)) refl;
     }

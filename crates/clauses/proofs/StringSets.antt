@@ -155,10 +155,10 @@ module _ (fs : List Fact) (set : List ℕ) (a : ℕ) (named : StringSet) where
     }
 
   pub patterns_all : (from : ℕ) (left : StringSet) (r : List ℕ) → NextMember left.word from None → PatternsTo from left r → WithPatterns fs set a named r
-  patterns_all from left r none so_far = record {
+  patterns_all from left r over so_far = record {
     keeps = so_far.keeps;
     complete = λ k l m. ⊎_elim (λ (h : holds r (attribute_pattern fs a k) ≡ true). h)
-        (λ (h : (has_string left k ≡ true) × (from ≤ k)). absurd (false≢true (sym (none k h.1) ∙ h.0)))
+        (λ (h : (has_string left k ≡ true) × (from ≤ k)). absurd (false≢true (sym (over k h.1) ∙ h.0)))
         (so_far.done k l m);
     sound = so_far.sound;
   }
