@@ -26,15 +26,15 @@ enum Prefix {
     Two(u8, u8, u8),
 }
 
-// The sorts of items of a template variable: `41` to `46`.
+// The sorts of items of a template variable, by their commands.
 #[derive(Clone, Copy)]
 enum Sort {
-    Roots,
-    Edges,
-    Listed,
-    Any,
-    Origins,
-    AttributeOrigins,
+    Roots = 0x41,
+    Edges = 0x42,
+    Listed = 0x43,
+    Any = 0x44,
+    Origins = 0x45,
+    AttributeOrigins = 0x46,
 }
 
 // The commands of a string variable's items, of a head, and of the end.
@@ -132,11 +132,8 @@ fn firsts_of(sort: Sort, templates: u8) -> u8
 {
     match sort {
         Sort::Roots => 1,
-        Sort::Edges => templates + 1,
-        Sort::Listed => templates + 1,
-        Sort::Any => templates + 1,
-        Sort::Origins => 8,
-        Sort::AttributeOrigins => 8,
+        Sort::Edges | Sort::Listed | Sort::Any => templates + 1,
+        Sort::Origins | Sort::AttributeOrigins => 8,
     }
 }
 
@@ -145,12 +142,8 @@ fn seconds_of(sort: Sort) -> u8
     ensures { result ≡ seconds sort }
 {
     match sort {
-        Sort::Roots => 1,
-        Sort::Edges => 8,
-        Sort::Listed => 8,
-        Sort::Any => 1,
-        Sort::Origins => 1,
-        Sort::AttributeOrigins => 1,
+        Sort::Edges | Sort::Listed => 8,
+        Sort::Roots | Sort::Any | Sort::Origins | Sort::AttributeOrigins => 1,
     }
 }
 
@@ -159,14 +152,10 @@ fn limit_of(sort: Sort, templates: u8) -> u8
     requires { templates < 32 }
     ensures { result ≡ limit templates sort }
 {
-    let count = templates + 1;
     match sort {
-        Sort::Roots => count,
-        Sort::Edges => count,
+        Sort::Roots | Sort::Edges | Sort::Origins | Sort::AttributeOrigins => templates + 1,
         Sort::Listed => strings::OUTSIDE,
         Sort::Any => 8,
-        Sort::Origins => count,
-        Sort::AttributeOrigins => count,
     }
 }
 
@@ -175,12 +164,9 @@ fn prefix_of(sort: Sort, a: u8, b: u8) -> Prefix
     ensures { result ≡ prefix_of sort a b }
 {
     match sort {
-        Sort::Roots => Prefix::Bare(0x41),
-        Sort::Edges => Prefix::Two(0x42, a, b),
-        Sort::Listed => Prefix::Two(0x43, a, b),
-        Sort::Any => Prefix::One(0x44, a),
-        Sort::Origins => Prefix::One(0x45, a),
-        Sort::AttributeOrigins => Prefix::One(0x46, a),
+        Sort::Roots => Prefix::Bare(sort as u8),
+        Sort::Any | Sort::Origins | Sort::AttributeOrigins => Prefix::One(sort as u8, a),
+        Sort::Edges | Sort::Listed => Prefix::Two(sort as u8, a, b),
     }
 }
 
