@@ -1,14 +1,14 @@
 -- The flags that one attribute gives: only to the facts about its name.
 use Rattle.std.specs.Prelude.{min, bit_or}
 use Rattle.std.proofs.Math.Facts.{Fits-or}
-use Prim.Native.Nat.{ℕ, suc, ◌+◌, ◌-◌, ◌*◌, ◌%◌, ◌^◌, ◌<◌, ◌≤◌}
-use mathlib.Core.Path.{◌≡◌, refl, sym, ap, subst, ◌∙◌}
+use Prim.Native.Nat.{ℕ, suc, ◌+◌, ◌*◌, ◌%◌, ◌^◌, ◌<◌, ◌≤◌}
+use mathlib.Core.Path.{◌≡◌, refl, sym, ap, ◌∙◌}
 use mathlib.Core.List.{List, [], ◌∷◌}
-use mathlib.Core.Bool.{Bool, true, false, cond, not, ◌||◌, or-true, or-false}
+use mathlib.Core.Bool.{Bool, true, false, not, ◌||◌, or-true, or-false}
 use native.Mathlib.Decide.{ℕ_discrete}
 use native.Mathlib.Omega.{arith}
 use lib.ListN.{length, get_or}
-use lib.Dec.{eqb, ltb, lit<}
+use lib.Dec.{eqb, lit<}
 use lib.Pow.{shl_exact}
 use mir.Syntax.{w8}
 use borrow.Author.Tests.{eq-eqb, ne_eqb}
@@ -24,7 +24,6 @@ use Rattle.vocabularies.specs.Facts.{Fact, present}
 use Rattle.vocabularies.specs.Inner.Promises.{meaning_of, kept_at, Stored, Represents}
 use Rattle.judging.specs.Inner.Judgement.{precedes}
 use Rattle.patterns.specs.Inner.Patterns.{breaks_value, flagged, numbered, pattern_of}
-use Rattle.sets.proofs.Booleans.{or_neither}
 use Rattle.patterns.proofs.Tests.{eqb_sym}
 use Rattle.schemes.specs.Inner.Promises.{OfFacts}
 use Rattle.schemes.proofs.Placing.{few_count}
@@ -63,18 +62,6 @@ flag_at t i a s y b e told f w = told ∙ ap (λ (z : Kept.Fact). flagged (alone
 
 -- Only the set of a fact about the attribute tells strings apart.
 module _ (a : ℕ) (y : Kept.Fact) (set : StringSet) where
-  pub apart_attribute : (b : ℕ) → y ≡ Carried b → TellsApart (meaning_of y) a set
-  unfolding is_in
-  apart_attribute b e s k same = rw e
-
-  pub apart_content : (c : ℕ) → y ≡ Present c → TellsApart (meaning_of y) a set
-  unfolding is_in
-  apart_content c e s k same = rw e
-
-  pub apart_pair : (c d : ℕ) → y ≡ Ordered c d → TellsApart (meaning_of y) a set
-  unfolding precedes
-  apart_pair c d e s k same = rw e
-
   pub apart_other : (b : ℕ) (other : StringSet) → y ≡ Valued b other → (b ≡ a → ⊥) → TellsApart (meaning_of y) a set
   unfolding breaks_value
   apart_other b other e n s k same = rw (e, ne_eqb a b (λ q. n (sym q)))
@@ -82,9 +69,6 @@ module _ (a : ℕ) (y : Kept.Fact) (set : StringSet) where
   pub apart_own : (b : ℕ) → y ≡ Valued b set → TellsApart (meaning_of y) a set
   unfolding breaks_value
   apart_own b e s k same = rw (e, same)
-
-pub apart_at : (t : Facts) (i a : ℕ) (y : Kept.Fact) (set : StringSet) → y ≡ kept_at t i → TellsApart (meaning_of y) a set → (f : Fact) → Stored t i f → TellsApart f a set
-apart_at t i a y set e tells f w = subst (λ (g : Fact). TellsApart g a set) (ap meaning_of e ∙ w) tells
 
 -- ---- the pattern, fact by fact
 
@@ -147,16 +131,6 @@ unfolding numbered
 numbered_none [] flag none = refl
 numbered_none (f ∷ fs) flag none = rw (none 0 (omega arith), numbered_none fs flag (λ j l. none (suc j) (omega arith)))
 
-module _ (names a : ℕ) where
-  pub name_high : 64 ≤ a → WithName names a names
-  name_high h = record { keeps = λ k n. n; others = λ k l n. ne_eqb k a (λ q. omega arith) }
-
-  pub name_more : (r : ℕ) → ((k : ℕ) → member r k ≡ (eqb k a || member names k)) → WithName names a r
-  name_more r is = record {
-    keeps = λ k h. (or_neither (eqb k a) (member names k) (sym (is k) ∙ h)).1;
-    others = λ k l h. (or_neither (eqb k a) (member names k) (sym (is k) ∙ h)).0;
-  }
-
 module _ (names : ℕ) (y : Kept.Fact) where
   pub about_attribute : (b r : ℕ) → y ≡ Carried b → WithName names b r → WithAttribute names (meaning_of y) r
   unfolding is_in
@@ -178,16 +152,6 @@ module _ (t : Facts) where
   -- An attribute that is not among the names has no flag of a fact before a place.
   abbrev pub NamedTo : ℕ → ℕ → Type 0
   NamedTo i names = OfFacts t (λ fs. (a s j : ℕ) → a < 64 → member names a ≡ false → j < i → flagged (alone a s) [] (get_or fs j (present 0)) ≡ false)
-
-  pub named_more : (i names : ℕ) (y : Kept.Fact) (r : ℕ) → i < 8 → i < t.count → y ≡ kept_at t i → WithAttribute names (meaning_of y) r → NamedTo i names → NamedTo (i + 1) r
-  named_more i names y r b here at W before fs h few a s j l n k = go (ℕ_discrete j i)
-    where
-      go : Dec (j ≡ i) → flagged (alone a s) [] (get_or fs j (present 0)) ≡ false
-      go (yes e) =
-          let c : t.count ≡ length fs = few_count t fs h few in
-          let is : meaning_of y ≡ get_or fs i (present 0) = ap meaning_of at ∙ h.stores i b (omega arith) in
-          rw (e, ← is) (W.others a s l n)
-      go (no m) = before fs h few a s j l (W.keeps a n) (omega arith)
 
   pub named_all : (i names : ℕ) → min t.count 8 ≤ i → NamedTo i names → AttributesOf t names
   unfolding pattern_of

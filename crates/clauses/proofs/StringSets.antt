@@ -1,9 +1,9 @@
 -- Stepping through strings: strings alike have one pattern, and all patterns are met.
-use Rattle.std.specs.Prelude.{None, min}
-use Prim.Native.Nat.{ℕ, suc, ◌+◌, ◌^◌, ◌<◌, ◌≤◌}
-use mathlib.Core.Path.{◌≡◌, refl, sym, ap, subst, ◌∙◌}
+use Rattle.std.specs.Prelude.{min}
+use Prim.Native.Nat.{ℕ, suc, ◌^◌, ◌<◌, ◌≤◌}
+use mathlib.Core.Path.{◌≡◌, refl, sym, ap, ◌∙◌}
 use mathlib.Core.List.{List, [], ◌∷◌}
-use mathlib.Core.Bool.{Bool, true, false, not, ◌&&◌, ◌||◌, false≢true}
+use mathlib.Core.Bool.{Bool, true, false, ◌&&◌, ◌||◌, false≢true}
 use mathlib.Core.Option.{Option, some, none}
 use mathlib.Core.Logic.{◌⊎◌, inl, inr, ⊎_elim}
 use native.Mathlib.Decide.{ℕ_discrete}
@@ -13,12 +13,10 @@ use lib.Dec.{eqb, ltb}
 use borrow.Author.Tests.{eq-eqb, eqb-true, ltb-true, ltb-false, lt-ltb}
 use Rattle.strings.specs.declared.StringSet.{StringSet}
 use Rattle.strings.specs.Strings.{strings}
-use Rattle.sets.specs.Inner.Promises.{NextMember, MemberFrom}
 use Rattle.strings.specs.Inner.Promises.{has_string}
 use Rattle.strings.proofs.Laws.{outside}
 use Rattle.vocabularies.specs.declared.Facts.{Facts}
 use Rattle.vocabularies.specs.Facts.{Fact, present}
-use Rattle.vocabularies.specs.Inner.Promises.{Stored, Represents}
 use Rattle.patterns.specs.Inner.Patterns.{flagged, numbered, pattern_of}
 use Rattle.patterns.specs.Inner.Morphisms.{fact_morphism}
 use Rattle.patterns.specs.Inner.Elements.{attribute_pattern, absence_pattern, taken_patterns}
@@ -30,28 +28,9 @@ use Rattle.pattern_sets.specs.Inner.PatternSets.{holds}
 use Rattle.schemes.specs.Inner.Schemes.{Is}
 use Rattle.schemes.specs.Inner.Promises.{OfFacts}
 use Rattle.schemes.proofs.Placing.{few_count}
-use Rattle.clauses.specs.Inner.Promises.{alone, agree, TellsApart, Alike, WithPatterns}
+use Rattle.clauses.specs.Inner.Promises.{alone, Alike, WithPatterns}
 
 -- ---- strings alike
-
-agrees_itself : (b : Bool) → agree b b ≡ true
-agrees_itself true = refl
-agrees_itself false = refl
-
-agreed : (a b : Bool) → agree a b ≡ true → b ≡ a
-agreed true b e = e
-agreed false true e = absurd (false≢true e)
-agreed false false e = refl
-
--- Of a set the strings that have the flag of s, as the told ones give it.
-module _ (set told r : StringSet) (s : ℕ) where
-  pub common_same : has_string told s ≡ true → ((k : ℕ) → has_string r k ≡ (has_string set k && has_string told k))
-      → (k : ℕ) → has_string r k ≡ (has_string set k && agree (has_string told s) (has_string told k))
-  common_same e common k = rw e (common k)
-
-  pub without_same : has_string told s ≡ false → ((k : ℕ) → has_string r k ≡ (has_string set k && not (has_string told k)))
-      → (k : ℕ) → has_string r k ≡ (has_string set k && agree (has_string told s) (has_string told k))
-  without_same e without k = rw e (without k)
 
 same_numbers : (fs : List Fact) (flag flag' : Fact → Bool) → ((i : ℕ) → i < length fs → flag (get_or fs i (present 0)) ≡ flag' (get_or fs i (present 0)))
     → numbered fs flag ≡ numbered fs flag'
@@ -65,36 +44,6 @@ module _ (t : Facts) (a s : ℕ) where
     pub itself : OfFacts t (λ fs. s < strings → has_string set s ≡ true)
     pub flags : OfFacts t (λ fs. (k : ℕ) → has_string set k ≡ true → (j : ℕ) → j < i → j < length fs
         → flagged (alone a k) [] (get_or fs j (present 0)) ≡ flagged (alone a s) [] (get_or fs j (present 0)))
-
-  pub alike_none : (set : StringSet) → ((k : ℕ) → has_string set k ≡ ltb k strings) → AlikeTo 0 set
-  alike_none set all = record {
-    itself = λ fs h few l. all s ∙ lt-ltb s strings l;
-    flags = λ fs h few k m j l b. absurd (omega arith);
-  }
-
-  module _ (i : ℕ) (set told more : StringSet) (b : i < 8) (here : i < t.count) (tells : (f : Fact) → Stored t i f → TellsApart f a told)
-      (narrows : (k : ℕ) → has_string more k ≡ (has_string set k && agree (has_string told s) (has_string told k))) (so_far : AlikeTo i set) where
-    -- The fact at the place.
-    tells_here : (fs : List Fact) → Represents t fs → length fs ≤ 8 → TellsApart (get_or fs i (present 0)) a told
-    tells_here fs h few = let e : t.count ≡ length fs = few_count t fs h few in tells (get_or fs i (present 0)) (h.stores i b (omega arith))
-
-    flag_at : (fs : List Fact) → Represents t fs → length fs ≤ 8 → (k : ℕ) → has_string set k ≡ true → has_string told k ≡ has_string told s
-        → (j : ℕ) → j < i + 1 → j < length fs → Dec (j ≡ i)
-        → flagged (alone a k) [] (get_or fs j (present 0)) ≡ flagged (alone a s) [] (get_or fs j (present 0))
-    flag_at fs h few k m e j l c (yes q) =
-        subst (λ (v : ℕ). flagged (alone a k) [] (get_or fs v (present 0)) ≡ flagged (alone a s) [] (get_or fs v (present 0))) (sym q)
-        (tells_here fs h few s k e)
-    flag_at fs h few k m e j l c (no n) = so_far.flags fs h few k m j (omega arith) c
-
-    pub alike_more : AlikeTo (i + 1) more
-    alike_more = record {
-      itself = λ fs h few l. narrows s ∙ and_both _ _ (so_far.itself fs h few l) (agrees_itself (has_string told s));
-      flags = λ fs h few k m j l c.
-          let kept = sym (narrows k) ∙ m in
-          let older = and_left (has_string set k) (agree (has_string told s) (has_string told k)) kept in
-          let newer = and_right (has_string set k) (agree (has_string told s) (has_string told k)) kept in
-          flag_at fs h few k older (agreed (has_string told s) (has_string told k) newer) j l c (ℕ_discrete j i);
-    }
 
   pub alike_all : (i : ℕ) (set : StringSet) → min t.count 8 ≤ i → AlikeTo i set → Alike t a s set
   unfolding pattern_of
@@ -115,53 +64,6 @@ module _ (fs : List Fact) (set : List ℕ) (a : ℕ) (named : StringSet) where
         → (holds r (attribute_pattern fs a k) ≡ true) ⊎ ((has_string left k ≡ true) × (from ≤ k))
     pub sound : (x : ℕ) → holds r x ≡ true
         → (holds set x ≡ true) ⊎ ((k : ℕ) × (k < strings) × (has_string named k ≡ true) × (attribute_pattern fs a k ≡ x))
-
-  pub patterns_none : PatternsTo 0 named set
-  patterns_none = record { keeps = λ x h. h; inside = λ k m. m; done = λ k l m. inr (m, omega arith); sound = λ x h. inl h }
-
-  module _ (from s p : ℕ) (left alike less : StringSet) (r more : List ℕ) (f : MemberFrom left.word from s)
-      (is_pattern : p ≡ attribute_pattern fs a s) (with_it : (y : ℕ) → holds more y ≡ (eqb y p || holds r y))
-      (itself : has_string alike s ≡ true) (patterns : (k : ℕ) → has_string alike k ≡ true → attribute_pattern fs a k ≡ attribute_pattern fs a s)
-      (without : (k : ℕ) → has_string less k ≡ (has_string left k && not (has_string alike k)))
-      (so_far : PatternsTo from left r) where
-    old : (x : ℕ) → holds r x ≡ true → holds more x ≡ true
-    old x h = with_it x ∙ or_right (eqb x p) (holds r x) h
-
-    new : (x : ℕ) → x ≡ p → holds more x ≡ true
-    new x e = with_it x ∙ or_left (eqb x p) (holds r x) (eq-eqb x p e)
-
-    later : (k : ℕ) → has_string left k ≡ true → from ≤ k → (t : Bool) → has_string alike k ≡ t
-        → (holds more (attribute_pattern fs a k) ≡ true) ⊎ ((has_string less k ≡ true) × (s + 1 ≤ k))
-    later k m l true e = inl (new (attribute_pattern fs a k) (patterns k e ∙ sym is_pattern))
-    later k m l false e = inr (without k ∙ and_both _ _ m (ap not e), beyond (ltb k s) refl (ℕ_discrete k s))
-      where
-        beyond : (t : Bool) → ltb k s ≡ t → Dec (k ≡ s) → s + 1 ≤ k
-        beyond true q d = absurd (false≢true (sym (f.skips k l (ltb-true k s q)) ∙ m))
-        beyond false q (yes d) = absurd (false≢true (sym e ∙ ap (has_string alike) d ∙ itself))
-        beyond false q (no n) = let g : s ≤ k = ltb-false k s q in omega arith
-
-    pub patterns_more : PatternsTo (s + 1) less more
-    patterns_more = record {
-      keeps = λ x h. old x (so_far.keeps x h);
-      inside = λ k m. so_far.inside k (and_left (has_string left k) (not (has_string alike k)) (sym (without k) ∙ m));
-      done = λ k l m. ⊎_elim
-          (λ (h : holds r (attribute_pattern fs a k) ≡ true). inl (old (attribute_pattern fs a k) h))
-          (λ (h : (has_string left k ≡ true) × (from ≤ k)). later k h.0 h.1 (has_string alike k) refl)
-          (so_far.done k l m);
-      sound = λ x h. ⊎_elim
-          (λ (e : eqb x p ≡ true). inr (s, f.within, so_far.inside s f.is_held, sym is_pattern ∙ sym (eqb-true x p e)))
-          (λ (e : holds r x ≡ true). so_far.sound x e)
-          (or_cases (eqb x p) (holds r x) (sym (with_it x) ∙ h));
-    }
-
-  pub patterns_all : (from : ℕ) (left : StringSet) (r : List ℕ) → NextMember left.word from None → PatternsTo from left r → WithPatterns fs set a named r
-  patterns_all from left r over so_far = record {
-    keeps = so_far.keeps;
-    complete = λ k l m. ⊎_elim (λ (h : holds r (attribute_pattern fs a k) ≡ true). h)
-        (λ (h : (has_string left k ≡ true) × (from ≤ k)). absurd (false≢true (sym (over k h.1) ∙ h.0)))
-        (so_far.done k l m);
-    sound = so_far.sound;
-  }
 
 -- ---- value patterns
 

@@ -11,11 +11,9 @@ use lib.Pow.{pow_pos, pow_mono}
 use borrow.Author.Tests.{ltb-true, ltb-false}
 use Rattle.sets.specs.Sets.{member}
 use Rattle.sets.proofs.Laws.{member_high}
-use Rattle.vocabularies.specs.declared.FormulaHere.TheVariants.{Nothing}
 use Rattle.vocabularies.specs.Vocabulary.{conj, disj, neg, truth, attr, content, order, value}
 use Rattle.vocabularies.specs.VocabularyReading.{binary, unary, leaf}
-use Rattle.vocabularies.specs.Inner.Promises.{Begins, Stands}
-use Rattle.vocabularies.proofs.Laws.{no_walk}
+use Rattle.vocabularies.specs.Inner.Promises.{Begins}
 use Rattle.vocabularies.specs.declared.Facts.{Facts}
 use Rattle.vocabularies.specs.Facts.{Fact, carried, present, ordered, valued}
 use Rattle.judging.specs.Inner.Judgement.{truth_of}
@@ -55,9 +53,6 @@ module _ (t : Facts) where
   flagged_nowhere f r absent none fs h few x b =
       none x ∙ sym (flag_placed fs f x b ∙ ap (member x) (absent fs h few) ∙ member_high (length fs) x (length fs) b (omega arith))
 
-  pub is_unbroken : (f : Fact) (broken r : List ℕ) → FlaggedBy t f broken → ((x : ℕ) → x < 256 → holds r x ≡ not (holds broken x)) → UnbrokenBy t f r
-  is_unbroken f broken r flags others fs h few x b = others x (small fs few x b) ∙ ap not (flags fs h few x b)
-
 -- ---- the forms, in the order of source 000's grammar
 
 module _ (t : Facts) {v : List ℕ} {at : ℕ} where
@@ -96,9 +91,6 @@ module _ (t : Facts) {v : List ℕ} {at : ℕ} where
     pub true_value : {a m : ℕ} → Begins v at (leaf (value a m)) r.next.at → UnbrokenBy t (valued a m) r.set → TruePatterns t v at r
     unfolding atoms_by
     true_value B unbroken fs h few x b = value_held (atoms_by fs x) B (unbroken fs h few x b)
-
-pub true_none : (t : Facts) (v : List ℕ) (at : ℕ) → Stands v at Nothing → (r : Truths) → TruePatterns t v at r
-true_none t v at none r fs h few x b = no_walk v at none _ _
 
 -- ---- a clause that fails
 

@@ -2,23 +2,8 @@ use mathlib.Core.Path.{ap}
 use native.Mathlib.Omega.{arith}
 use Rattle.commands.specs.declared.Position.{Position}
 use Rattle.vocabularies.proofs.Laws.{told, onward}
-use Rattle.clauses.proofs.TrueForms.{true_conj, true_disj, true_neg, true_truth, true_attr, true_content, true_order, true_value, true_none}
+use Rattle.clauses.proofs.TrueForms.{true_conj, true_disj, true_neg, true_truth, true_attr, true_content, true_order, true_value}
 use Rattle.clauses.proofs.+true_patterns.Goals as goal
-
-pub true_patterns-first-requires : goal.true_patterns-first-requires
-true_patterns-first-requires t c = let o = onward (told _ _ c.formula_here-formula.ensures c.in-Conj.is) in (omega (arith, o.0, o.1), tt)
-
-pub true_patterns-second-requires : goal.true_patterns-second-requires
-true_patterns-second-requires t c = let o = onward (told _ _ c.formula_here-formula.ensures c.in-Conj.is) in (omega (arith, o.0, o.1, c.true_patterns-first.ensures.forward), tt)
-
-pub true_patterns-first-requires-in-Disj : goal.true_patterns-first-requires-in-Disj
-true_patterns-first-requires-in-Disj t c = let o = onward (told _ _ c.formula_here-formula.ensures c.in-Disj.is) in (omega (arith, o.0, o.1), tt)
-
-pub true_patterns-second-requires-in-Disj : goal.true_patterns-second-requires-in-Disj
-true_patterns-second-requires-in-Disj t c = let o = onward (told _ _ c.formula_here-formula.ensures c.in-Disj.is) in (omega (arith, o.0, o.1, c.true_patterns-first-in-Disj.ensures.forward), tt)
-
-pub true_patterns-only-requires : goal.true_patterns-only-requires
-true_patterns-only-requires t c = let o = onward (told _ _ c.formula_here-formula.ensures c.in-Neg.is) in (omega (arith, o.0, o.1), tt)
 
 pub returns-in-Conj : goal.returns-in-Conj
 returns-in-Conj t c = let B = told _ _ c.formula_here-formula.ensures c.in-Conj.is in record {
@@ -66,10 +51,4 @@ pub returns-in-Value : goal.returns-in-Value
 returns-in-Value t c = let B = told _ _ c.formula_here-formula.ensures c.in-Value.is in record {
   forward = omega (arith, (onward B).1);
   truths = true_value _ _ B c.unbroken_by-in-Value.ensures;
-}
-
-pub returns-in-Nothing : goal.returns-in-Nothing
-returns-in-Nothing t c = record {
-  forward = omega arith;
-  truths = true_none _ _ _ (told _ _ c.formula_here-formula.ensures c.in-Nothing.is) _;
 }

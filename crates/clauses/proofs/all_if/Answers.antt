@@ -5,6 +5,3 @@ use Rattle.clauses.proofs.all_if.Goals as goal
 
 pub returns-then-is_true : goal.returns-then-is_true
 returns-then-is_true c = λ x h. all_held x h ∙ sym c.if-is_true.true
-
-pub returns : goal.returns
-returns c = λ x h. c.empty.ensures x ∙ sym c.if-is_true.false
