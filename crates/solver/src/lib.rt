@@ -92,46 +92,6 @@ fn made_values(work: &[u64], way: MadeString, p: usize) -> Values
     }
 }
 
-// Template variable x gets at the next point what the act makes of it.
-fn flow_template(work: &mut [u64], gaps: &[u64; 32], act: Act, p: usize, next: usize, x: u8) -> bool
-    requires { HasPoint work.old p × HasPoint work.old next × (x < 4) }
-    ensures { VariableFlows work.old gaps.now (as_act act) p next (template_variable x) work.new result }
-{
-    let way = transfers::template_made(act, x);
-    let Made::Value(z) = way else {
-        let made = made_graph(work, gaps, way, p);
-        return states::join_graph(work, next, x as usize, &made);
-    };
-    states::join_entry(work, next, x as usize, p, (z % 4) as usize)
-}
-
-// String variable y gets at the next point what the act makes of it.
-fn flow_string(work: &mut [u64], gaps: &[u64; 32], act: Act, p: usize, next: usize, y: u8) -> bool
-    requires { HasPoint work.old p × HasPoint work.old next × (y < 4) }
-    ensures { VariableFlows work.old gaps.now (as_act act) p next (string_variable y) work.new result }
-{
-    let made = made_values(work, transfers::string_made(act, y), p);
-    states::join_values(work, next, y as usize, made)
-}
-
-// A variable, as `40` numbers it, gets at the next point what the act makes of it.
-fn flow_variable(
-    work: &mut [u64],
-    gaps: &[u64; 32],
-    act: Act,
-    p: usize,
-    next: usize,
-    v: usize,
-) -> bool
-    requires { HasPoint work.old p × HasPoint work.old next × (v < 8) }
-    ensures { VariableFlows work.old gaps.now (as_act act) p next (variable_of v) work.new result }
-{
-    if v < 4 {
-        return flow_template(work, gaps, act, p, next, v as u8);
-    }
-    flow_string(work, gaps, act, p, next, (v - 4) as u8)
-}
-
 // Whether the act makes a variable, as `40` numbers it, from a fresh one: one whose entry has changed since the step was last taken.
 fn made_from(act: Act, v: usize, fresh: u64) -> bool
     requires { v < 8 }
@@ -145,97 +105,6 @@ fn made_from(act: Act, v: usize, fresh: u64) -> bool
     transfers::string_made_from(transfers::string_made(act, y), y, fresh)
 }
 
-// The variable flows if some statement names it and the act makes it from a fresh one; no other is looked at.
-fn flow_needed(
-    work: &mut [u64],
-    gaps: &[u64; 32],
-    names: u64,
-    act: Act,
-    p: usize,
-    next: usize,
-    fresh: u64,
-    v: usize,
-) -> bool
-    requires { HasPoint work.old p × HasPoint work.old next × (v < 8) }
-    ensures { NeededFlows work.old gaps.now names fresh (as_act act) p next v work.new result }
-{
-    let needed = sets::has(names, v as u8) & made_from(act, v, fresh);
-    if !needed {
-        return false;
-    }
-    flow_variable(work, gaps, act, p, next, v)
-}
-
-// The step of a point over its act to a next point is taken, at all variables. The answer is the set of those whose entries have changed.
-fn flow(
-    work: &mut [u64],
-    gaps: &[u64; 32],
-    names: u64,
-    act: Act,
-    p: usize,
-    next: usize,
-    fresh: u64,
-) -> u64
-    requires { HasPoint work.old p × HasPoint work.old next }
-    ensures { Flowed 8 work.old gaps.now names fresh (as_act act) p next work.new result }
-{
-    let mut changed: u64 = 0;
-    for v in 0..8 {
-        let rises = flow_needed(work, gaps, names, act, p, next, fresh, v);
-        changed = sets::with_if(changed, v as u8, rises);
-    }
-    changed
-}
-
-// The step is taken, and what has changed waits at the next point.
-fn take_step(
-    work: &mut [u64],
-    gaps: &[u64; 32],
-    names: u64,
-    act: Act,
-    p: usize,
-    next: usize,
-    fresh: u64,
-    waiting: &mut [u64; 32],
-)
-    requires { HasPoint work.old p × HasPoint work.old next × (length waiting.old ≡ 32) × (next < 32) }
-    ensures { StepTaken work.old gaps.now names fresh (as_act act) p next waiting.old work.new waiting.new }
-{
-    let changed = flow(work, gaps, names, act, p, next, fresh);
-    if changed == 0 {
-        return;
-    }
-    waiting[next] = sets::union(waiting[next], changed);
-}
-
-// The steps of a point are taken. At a point those variables wait whose entries have changed since.
-fn settle_point(
-    s: &[u8],
-    work: &mut [u64],
-    gaps: &[u64; 32],
-    names: u64,
-    place: usize,
-    p: usize,
-    waiting: &mut [u64; 32],
-)
-    requires { HasPoints work.old × (length waiting.old ≡ 32) × (p < 32) }
-    ensures { Settles s.now work.old gaps.now names place p waiting.old work.new waiting.new }
-{
-    let fresh = waiting[p];
-    waiting[p] = 0;
-    let statement = programs::statement_at(s, Position::new(place));
-    let Statement::Step { act, first, second } = statement else {
-        return;
-    };
-    let near = first % MOST_POINTS;
-    let far = second % MOST_POINTS;
-    take_step(work, gaps, names, act, p, near, fresh, waiting);
-    if far == near {
-        return;
-    }
-    take_step(work, gaps, names, act, p, far, fresh, waiting);
-}
-
 // The point that a sweep visits at a turn.
 fn point_of_turn(upwards: bool, turn: usize) -> usize
     requires { turn < 32 }
@@ -247,39 +116,141 @@ fn point_of_turn(upwards: bool, turn: usize) -> usize
     MOST_POINTS - 1 - turn
 }
 
-// The steps of a point are taken, if some variable waits there.
-fn visit_point(
-    s: &[u8],
-    work: &mut [u64],
-    gaps: &[u64; 32],
-    points: &Points,
-    p: usize,
-    waiting: &mut [u64; 32],
-)
-    requires { HasPoints work.old × (length waiting.old ≡ 32) × (p < 32) }
-    ensures { Visited (λ q. q ≡ p) s.now gaps.now points.now.places points.now.named work.old waiting.old work.new waiting.new }
-{
-    if waiting[p] == 0 {
-        return;
-    }
-    settle_point(s, work, gaps, points.named, points.places[p], p, waiting);
+// The step of a point over its act to a next point, with the set of the variables that are fresh at the point: those whose entries
+// have changed since the step was last taken.
+#[derive(Clone, Copy)]
+struct Step {
+    act: Act,
+    point: usize,
+    next: usize,
+    fresh: u64,
 }
 
-// All points are visited, one after the other, upwards or downwards.
-fn sweep(
-    s: &[u8],
-    work: &mut [u64],
-    gaps: &[u64; 32],
-    points: &Points,
-    upwards: bool,
-    waiting: &mut [u64; 32],
-)
-    requires { HasPoints work.old × (length waiting.old ≡ 32) }
-    ensures { Visited (λ q. q < most_points) s.now gaps.now points.now.places points.now.named work.old waiting.old work.new waiting.new }
-{
-    for turn in 0..MOST_POINTS {
-        let p = point_of_turn(upwards, turn);
-        visit_point(s, work, gaps, points, p, waiting);
+// A script that was read, as it is solved: its bytes, the gaps of its templates, and its points.
+#[derive(Clone, Copy)]
+struct Solved<'a> {
+    s: &'a [u8],
+    gaps: &'a [u64; 32],
+    points: &'a Points,
+}
+
+impl Solved<'_> {
+    // Template variable x gets at the next point what the act makes of it.
+    fn flow_template(&self, work: &mut [u64], step: Step, x: u8) -> bool
+        requires { HasPoint work.old step.point × HasPoint work.old step.next × (x < 4) }
+        ensures { VariableFlows work.old self.now.gaps.now (as_act step.act) step.point step.next (template_variable x) work.new result }
+    {
+        let way = transfers::template_made(step.act, x);
+        let Made::Value(z) = way else {
+            let made = made_graph(work, self.gaps, way, step.point);
+            return states::join_graph(work, step.next, x as usize, &made);
+        };
+        states::join_entry(work, step.next, x as usize, step.point, (z % 4) as usize)
+    }
+
+    // String variable y gets at the next point what the act makes of it.
+    fn flow_string(&self, work: &mut [u64], step: Step, y: u8) -> bool
+        requires { HasPoint work.old step.point × HasPoint work.old step.next × (y < 4) }
+        ensures { VariableFlows work.old self.now.gaps.now (as_act step.act) step.point step.next (string_variable y) work.new result }
+    {
+        let made = made_values(work, transfers::string_made(step.act, y), step.point);
+        states::join_values(work, step.next, y as usize, made)
+    }
+
+    // A variable, as `40` numbers it, gets at the next point what the act makes of it.
+    fn flow_variable(&self, work: &mut [u64], step: Step, v: usize) -> bool
+        requires { HasPoint work.old step.point × HasPoint work.old step.next × (v < 8) }
+        ensures { VariableFlows work.old self.now.gaps.now (as_act step.act) step.point step.next (variable_of v) work.new result }
+    {
+        if v < 4 {
+            return self.flow_template(work, step, v as u8);
+        }
+        self.flow_string(work, step, (v - 4) as u8)
+    }
+
+    // The variable flows if some statement names it and the act makes it from a fresh one; no other is looked at.
+    fn flow_needed(&self, work: &mut [u64], step: Step, v: usize) -> bool
+        requires { HasPoint work.old step.point × HasPoint work.old step.next × (v < 8) }
+        ensures { NeededFlows work.old self.now.gaps.now self.now.points.now.named step.fresh (as_act step.act) step.point step.next v work.new result }
+    {
+        let needed = sets::has(self.points.named, v as u8) & made_from(step.act, v, step.fresh);
+        if !needed {
+            return false;
+        }
+        self.flow_variable(work, step, v)
+    }
+
+    // The step is taken, at all variables. The answer is the set of those whose entries have changed.
+    fn flow(&self, work: &mut [u64], step: Step) -> u64
+        requires { HasPoint work.old step.point × HasPoint work.old step.next }
+        ensures { Flowed 8 work.old self.now.gaps.now self.now.points.now.named step.fresh (as_act step.act) step.point step.next work.new result }
+    {
+        let mut changed: u64 = 0;
+        for v in 0..8 {
+            let rises = self.flow_needed(work, step, v);
+            changed = sets::with_if(changed, v as u8, rises);
+        }
+        changed
+    }
+
+    // The step is taken, and what has changed waits at the next point.
+    fn take_step(&self, work: &mut [u64], step: Step, waiting: &mut [u64; 32])
+        requires { HasPoint work.old step.point × HasPoint work.old step.next × (length waiting.old ≡ 32) × (step.next < 32) }
+        ensures { StepTaken work.old self.now.gaps.now self.now.points.now.named step.fresh (as_act step.act) step.point step.next waiting.old work.new waiting.new }
+    {
+        let changed = self.flow(work, step);
+        if changed == 0 {
+            return;
+        }
+        waiting[step.next] = sets::union(waiting[step.next], changed);
+    }
+
+    // The steps of a point are taken. At a point those variables wait whose entries have changed since.
+    fn settle_point(&self, work: &mut [u64], p: usize, waiting: &mut [u64; 32])
+        requires { HasPoints work.old × (length waiting.old ≡ 32) × (p < 32) }
+        ensures { Settles self.now.s.now work.old self.now.gaps.now self.now.points.now.named (get_or self.now.points.now.places p 0) p waiting.old work.new waiting.new }
+    {
+        let fresh = waiting[p];
+        waiting[p] = 0;
+        let statement = programs::statement_at(self.s, Position::new(self.points.places[p]));
+        let Statement::Step { act, first, second } = statement else {
+            return;
+        };
+        let near = first % MOST_POINTS;
+        let far = second % MOST_POINTS;
+        let step = Step {
+            act,
+            point: p,
+            next: near,
+            fresh,
+        };
+        self.take_step(work, step, waiting);
+        if far == near {
+            return;
+        }
+        self.take_step(work, Step { next: far, ..step }, waiting);
+    }
+
+    // The steps of a point are taken, if some variable waits there.
+    fn visit_point(&self, work: &mut [u64], p: usize, waiting: &mut [u64; 32])
+        requires { HasPoints work.old × (length waiting.old ≡ 32) × (p < 32) }
+        ensures { Visited (λ q. q ≡ p) self.now.s.now self.now.gaps.now self.now.points.now.places self.now.points.now.named work.old waiting.old work.new waiting.new }
+    {
+        if waiting[p] == 0 {
+            return;
+        }
+        self.settle_point(work, p, waiting);
+    }
+
+    // All points are visited, one after the other, upwards or downwards.
+    fn sweep(&self, work: &mut [u64], upwards: bool, waiting: &mut [u64; 32])
+        requires { HasPoints work.old × (length waiting.old ≡ 32) }
+        ensures { Visited (λ q. q < most_points) self.now.s.now self.now.gaps.now self.now.points.now.places self.now.points.now.named work.old waiting.old work.new waiting.new }
+    {
+        for turn in 0..MOST_POINTS {
+            let p = point_of_turn(upwards, turn);
+            self.visit_point(work, p, waiting);
+        }
     }
 }
 
@@ -341,9 +312,10 @@ pub fn solve(s: &[u8], gaps: &[u64; 32], points: &Points, work: &mut [u64])
 {
     start(work, points.named);
     let mut waiting = all_waiting(points.count);
+    let script = Solved { s, gaps, points };
     let mut upwards = true;
     while !none_waits(&waiting) {
-        sweep(s, work, gaps, points, upwards, &mut waiting);
+        script.sweep(work, upwards, &mut waiting);
         upwards = !upwards;
     }
 }

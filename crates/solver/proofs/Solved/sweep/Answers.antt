@@ -2,7 +2,7 @@ use mathlib.Core.Path.{◌≡◌, ◌∙◌}
 use native.Mathlib.Omega.{arith}
 use Rattle.solver.proofs.Sweeping.{turned_low, sweep_begins, sweep_goes, sweep_ends}
 use borrow.Author.Rules.{rules}
-use Rattle.solver.proofs.sweep.Goals as goal
+use Rattle.solver.proofs.Solved.sweep.Goals as goal
 
 pub loop-turn-init : goal.loop-turn-init
 loop-turn-init c = record { same_length = search rules; visited = sweep_begins _ _ _ _ c.args.upwards _ _ }

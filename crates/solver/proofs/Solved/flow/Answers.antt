@@ -2,7 +2,7 @@ use mathlib.Core.Path.{◌≡◌, ◌∙◌}
 use native.Mathlib.Omega.{arith}
 use Rattle.solver.proofs.Flowing.{flowing_begins, flowing_goes}
 use borrow.Author.Rules.{rules}
-use Rattle.solver.proofs.flow.Goals as goal
+use Rattle.solver.proofs.Solved.flow.Goals as goal
 
 pub loop-v-init : goal.loop-v-init
 loop-v-init c = record { same_length = search rules; flowed = flowing_begins _ _ _ _ _ _ _ }

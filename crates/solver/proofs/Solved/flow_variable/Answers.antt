@@ -1,6 +1,6 @@
 -- A template variable below 4, a string variable from 4 on.
 use Rattle.solver.proofs.Flowing.{flows_template, flows_string}
-use Rattle.solver.proofs.flow_variable.Goals as goal
+use Rattle.solver.proofs.Solved.flow_variable.Goals as goal
 
 pub returns-then-v-lt4 : goal.returns-then-v-lt4
 returns-then-v-lt4 c = flows_template _ _ _ _ _ _ _ _ c.if-v-lt4.true c.flow_template.ensures
