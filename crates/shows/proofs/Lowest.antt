@@ -3,14 +3,11 @@ use Prim.Native.Nat.{ℕ, ◌+◌, ◌≤◌, ◌<◌}
 use native.Mathlib.Omega.{arith}
 use mathlib.Core.Path.{◌≡◌, refl, sym, ◌∙◌}
 use mathlib.Core.List.{List, []}
-use mathlib.Core.Bool.{Bool, true, false, not, false≢true}
+use mathlib.Core.Bool.{Bool, true, false, false≢true}
 use Rattle.std.specs.Prelude.{Some, None}
 use lib.ListN.{get_or}
 use lib.Dec.{eqb, ltb}
 use borrow.Author.Tests.{eqb-true, eqb-false, ltb-true, ltb-false}
-use Rattle.sets.specs.Sets.{member}
-use Rattle.pattern_sets.specs.Inner.PatternSets.{holds}
-use Rattle.patterns.specs.Inner.Morphisms.{empty, other}
 use Rattle.patterns.specs.Inner.Shows.{nowhere, least}
 use Rattle.shows.specs.Inner.Promises.{is_other, LowestRoot}
 

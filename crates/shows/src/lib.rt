@@ -129,10 +129,12 @@ pub fn tables_of(s: &[u8], gaps: [u64; 32], templates: &Templates) -> TemplateTa
 {
     let mut standing = [0u64; 64];
     let outlines = occurrences::of_templates(s, templates, &mut standing);
+    let contents = outlines.contents;
+    let outer = outlines.gaps;
     TemplateTables {
         gaps,
-        contents: outlines.contents,
-        outer: outlines.gaps,
+        contents,
+        outer,
         standing,
     }
 }

@@ -11,14 +11,14 @@ returns-in-Some c = λ j p A.
     let bytes = c.type_inv.s in
     root_found _ _ _ _ _ _ j p A (λ i. (bytes i).fits) c.root_scheme-root.result c.root_scheme-root.ensures c.settle.result _ c.settle.ensures c.roots.result c.roots.ensures c.lowest_root.result c.lowest_root.ensures _ c.in-Some.is
 
-pub returns-in-Some-2 : goal.returns-in-Some-2
-returns-in-Some-2 c = λ j p A.
+pub returns-in-Some-wrong_elements : goal.returns-in-Some-wrong_elements
+returns-in-Some-wrong_elements c = λ j p A.
     let bytes = c.type_inv.s in
     element_found _ _ _ _ _ _ j p A (λ i. (bytes i).fits) c.root_scheme-root.result c.root_scheme-root.ensures c.settle.result _ c.settle.ensures c.roots.result c.roots.ensures c.lowest_root.result c.lowest_root.ensures c.in_default.is
-    c.wrong_elements.result c.wrong_elements.ensures _ c.in-Some-2.is
+    c.wrong_elements.result c.wrong_elements.ensures _ c.in-Some-wrong_elements.is
 
 pub returns : goal.returns
 returns c = λ j p A.
     let bytes = c.type_inv.s in
     nothing_found _ _ _ _ _ _ j p A (λ i. (bytes i).fits) c.root_scheme-root.result c.root_scheme-root.ensures c.settle.result _ c.settle.ensures c.roots.result c.roots.ensures c.lowest_root.result c.lowest_root.ensures c.in_default.is
-    c.wrong_elements.result c.wrong_elements.ensures c.in_default-2.is
+    c.wrong_elements.result c.wrong_elements.ensures c.in_default-wrong_elements.is
