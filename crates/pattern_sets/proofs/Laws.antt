@@ -15,7 +15,7 @@ use borrow.Author.Tests.{eq-eqb, ne_eqb, ltb-true, ltb-false}
 use Rattle.sets.specs.Sets.{member}
 use Rattle.sets.specs.Inner.Promises.{NextMember, MemberFrom}
 use Rattle.sets.proofs.Laws.{member_zero, same_members}
-use Rattle.pattern_sets.specs.Inner.PatternSets.{holds, First, NextPattern, IsEmpty, Same}
+use Rattle.pattern_sets.specs.Inner.PatternSets.{holds, First, NextPattern, Same}
 use Rattle.pattern_sets.proofs.Members.{find}
 use Rattle.sets.proofs.Booleans.{or_absent}
 
@@ -83,9 +83,6 @@ module _ (s : List ℕ) (from : ℕ) where
     pub after : from ≤ at
     pub skips : (x : ℕ) → from ≤ x → x < at → holds s x ≡ false
 
-  pub passed_none : (at : ℕ) → at ≡ from → Passed at
-  passed_none at e = record { after = omega arith; skips = λ x l m. absurd (omega arith) }
-
   pub passed_all : length s ≡ 4 → (at : ℕ) → 256 ≤ at → Passed at → NextPattern s from None
   passed_all four at h p x l = go (ltb x 256) refl
     where
@@ -144,14 +141,6 @@ only_pattern x w e i low q y =
     subst (λ (j : ℕ). holds (set (0 ∷ 0 ∷ 0 ∷ 0 ∷ []) j w) y ≡ eqb y x) q
     (with_pattern (0 ∷ 0 ∷ 0 ∷ 0 ∷ []) x w (omega arith) (λ k. e k ∙ ap (λ (n : ℕ). eqb k (x % 64) || member n k) (sym (no_word (x / 64)))) y
     ∙ or_absent (eqb y x) (holds_empty y))
-
-pub tells_empty : (s none : List ℕ) → ((x : ℕ) → holds none x ≡ false) → (t : Bool) → Same s none t → IsEmpty s t
-tells_empty s none empty true same = λ x. same x ∙ empty x
-tells_empty s none empty false (x, l, differs) = (x, l, go (holds s x) refl)
-  where
-    go : (t : Bool) → holds s x ≡ t → holds s x ≡ true
-    go true e = e
-    go false e = absurd (differs (e ∙ sym (empty x)))
 
 -- Sets of four words are the same, or there is a pattern that one alone has.
 module _ (a b : List ℕ) (la : length a ≡ 4) (lb : length b ≡ 4) (fits : (i : ℕ) → i < 4 → (get_or a i 0 < 2 ^ 64) × (get_or b i 0 < 2 ^ 64)) where

@@ -1,4 +1,4 @@
-use mathlib.Core.Path.{◌≡◌, sym, ◌∙◌}
+use mathlib.Core.Path.{sym, ◌∙◌}
 use native.Mathlib.Omega.{arith}
 use borrow.Author.Rules.{rules}
 use Rattle.pattern_sets.proofs.Imaging.{cross_start, cross_turn, cross_pass}
@@ -18,6 +18,3 @@ loop-i-preserved c = let args = c.args in (
         (sym w.if-has.false ∙ c.has.ensures) (c.loop-i.invariant.1 apart))
   ],
 )
-
-pub returns : goal.returns
-returns c = λ apart. let last : c.loop-i.i ≡ 8 = omega arith in rw last at (c.loop-i.invariant.1 apart)

@@ -1,4 +1,4 @@
-use mathlib.Core.Path.{◌≡◌, sym, ◌∙◌}
+use mathlib.Core.Path.{sym, ◌∙◌}
 use native.Mathlib.Omega.{arith}
 use borrow.Author.Rules.{rules}
 use Rattle.pattern_sets.proofs.Imaging.{raise_start, raise_turn, raise_pass}
@@ -17,6 +17,3 @@ loop-i-preserved c = let args = c.args in (
     | else-has w ↦ rw w.image-is (raise_pass args.x args.set (search rules) c.loop-i.i c.loop-i.image (sym w.if-has.false ∙ c.has.ensures) c.loop-i.invariant.1)
   ],
 )
-
-pub returns : goal.returns
-returns c = let last : c.loop-i.i ≡ 8 = omega arith in rw last at c.loop-i.invariant.1
