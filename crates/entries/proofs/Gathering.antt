@@ -38,9 +38,6 @@ module _ (how : Passing) (R : Summary) where
     pub forth : AllPass how R xs → AllPass how R rest
 
   module _ (s : List ℕ) (from : ℕ) where
-    pub pass_begins : Walked TemplateHoldings s from from SamePass
-    pass_begins = walk_begins TemplateHoldings s from SamePass λ xs. record { back = λ h. h; forth = λ h. h }
-
     module _ (at : ℕ) (h : Walked TemplateHoldings s from at SamePass) where
       pub pass_ends : ((ys : List Holding) → Listed TemplateHoldings s at ys → ys ≡ []) → (xs : List Holding) → Listed TemplateHoldings s from xs → AllPass how R xs
       pass_ends e xs l = (walk_ends TemplateHoldings s from at SamePass h e xs l).back (none_pass how R)

@@ -48,9 +48,6 @@ says_attribute k t h m = alike _ _
 
 -- An origin of one gap.
 module _ (k n gaps : ℕ) (R : Summary) (graph : List ℕ) where
-  pub origin_absent : member gaps k ≡ false → Keeps graph R → Keeps graph (with_origin k n gaps R)
-  origin_absent e K = keeps_same graph _ _ (λ c w. rw e) K
-
   pub origin_of_gap : member gaps k ≡ true → k < 8 → Keeps graph (adding (claim (gap_from k n)) R) → Keeps graph (with_origin k n gaps R)
   origin_of_gap e l K = keeps_same graph _ _ (λ c w. rw (e, lt-ltb k 8 l)) K
 

@@ -49,6 +49,3 @@ module _ (x : Context) (s : List ℕ) (from : ℕ) where
 module _ (s : List ℕ) (at : ℕ) where
   pub claim_moves : (r : Option (Claim × Position)) → ClaimMoves s at r → (item : Claim) (next : Position) → r ≡ Some (item, next) → Moves s at (meaning_of item) next
   claim_moves r m item next e = rw e at m
-
-  pub string_moves : (r : Option (StringClaim × Position)) → StringMoves s at r → (item : StringClaim) (next : Position) → r ≡ Some (item, next) → Moves s at (string_meaning_of item) next
-  string_moves r m item next e = rw e at m

@@ -38,21 +38,6 @@ module _ (attribute : Bool) (g : ℕ) (more : ℕ → Bool) (templates : ℕ) (g
   abbrev pub AddedTo : ℕ → Type 0
   AddedTo m = Keeps graph (added_at attribute g more (before m templates) R)
 
-  unset : (r a b p : Bool) → p ≡ false → (r || (a && (b && p))) ≡ r
-  unset r a b p e = rw (e, and-false b, and-false a) (or-false r)
-
-  begins_same : (attribute' : Bool) (c : Claim) → added_at attribute' g more (before 0 templates) R c ≡ R c
-  begins_same a (root n) = refl
-  begins_same true (edge n k l) = or-false (R (edge n k l))
-  begins_same false (edge n k l) = unset (R (edge n k l)) (eqb k g) (more l) (before 0 templates n) (rw (le-ltb n 0 (omega arith)))
-  begins_same true (string n k s) = unset (R (string n k s)) (eqb k g) (more s) (before 0 templates n) (rw (le-ltb n 0 (omega arith)))
-  begins_same false (string n k s) = or-false (R (string n k s))
-  begins_same a (gap_from k n) = refl
-  begins_same a (attribute_gap_from k n) = refl
-
-  pub adding_begins : Keeps graph R → AddedTo 0
-  adding_begins K = keeps_same graph R _ (λ c g. begins_same attribute c) K
-
   ends_same : (m : ℕ) → 32 ≤ m → (attribute' : Bool) (c : Claim) → InWords c → added_at attribute' g more (member templates) R c ≡ added_at attribute' g more (before m templates) R c
   ends_same m l a (root n) w = refl
   ends_same m l true (edge n k o) w = refl

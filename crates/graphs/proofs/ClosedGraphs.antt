@@ -44,16 +44,6 @@ below_next r z o k g here is = go (ltb k g) refl (eqb k g) refl
         rw (le-ltb k (g + 1) (omega arith)) (or-false (r || false))
 
 module _ (R : Summary) where
-  pub below_begins : (graph : List ℕ) → Keeps graph R → Keeps graph (closed_below 0 R)
-  below_begins graph K = keeps_same graph R _ same K
-    where
-      same : (c : Claim) → InWords c → closed_below 0 R c ≡ R c
-      same (root n) w = refl
-      same (edge n k m) w = rw (le-ltb k 0 (omega arith)) (or-false (R (edge n k m)))
-      same (string n h s) w = refl
-      same (gap_from k n) w = refl
-      same (attribute_gap_from h n) w = refl
-
   pub below_ends : (graph : List ℕ) (g : ℕ) → 8 ≤ g → Keeps graph (closed_below g R) → Keeps graph (closed_summary R)
   below_ends graph g l K = keeps_same graph _ _ same K
     where

@@ -1,5 +1,5 @@
 -- A graph while items are taken from it.
-use Prim.Native.Nat.{ℕ, ◌+◌, ◌*◌, ◌%◌, ◌^◌, ◌<◌}
+use Prim.Native.Nat.{ℕ, ◌+◌, ◌*◌, ◌^◌, ◌<◌}
 use mathlib.Core.Path.{◌≡◌, refl, sym, subst, ◌∙◌}
 use mathlib.Core.List.{List}
 use mathlib.Core.Logic.{◌⊎◌, inl, inr}
@@ -21,25 +21,6 @@ use Rattle.graphs.specs.Inner.Graphs.{claim_word, is_kept, holds, Keeps, Forgott
 use Rattle.graphs.specs.Inner.Promises.{SlotOf, OtherWord}
 use Rattle.sets.proofs.Booleans.{or_left, or_right, or_cases, and_both, and_left, and_right, alike, refuted}
 use Rattle.graphs.proofs.Claims.{says_alone}
-
--- The other word of a string, and of any string at a place.
-module _ (item : Declared.Claim) where
-  pub word_of_any : (n h s : ℕ) → item ≡ String n h s → (17 + h % 8 < 544) × OtherWord item (17 + h % 8)
-  word_of_any n h s e = (omega arith, rw e (λ l. omega arith))
-
-  pub word_of_string : (n h w : ℕ) → item ≡ AnyString n h → (w < 544) × (n < 32 → h < 8 → w ≡ 288 + n * 8 + h) → (w < 544) × OtherWord item w
-  word_of_string n h w e f = (f.0, rw e f.1)
-
-  pub own_word : ((n h s : ℕ) → item ≡ String n h s → ⊥) → ((n h : ℕ) → item ≡ AnyString n h → ⊥) → (w : ℕ) → OtherWord item w
-  own_word not_string not_any w = go item not_string not_any
-    where
-      go : (other : Declared.Claim) → ((n h s : ℕ) → other ≡ String n h s → ⊥) → ((n h : ℕ) → other ≡ AnyString n h → ⊥) → OtherWord other w
-      go (Root n) a b = tt
-      go (Edge n g m) a b = tt
-      go (String n h s) a b = absurd (a n h s refl)
-      go (AnyString n h) a b = absurd (b n h refl)
-      go (GapFrom g n) a b = tt
-      go (AttributeGapFrom h n) a b = tt
 
 -- A word is emptied.
 module _ (words : List ℕ) (i : ℕ) (inside : i < length words) where

@@ -18,7 +18,7 @@ use Rattle.graphs.specs.Inner.Growth.{Grows}
 use Rattle.graphs.specs.Inner.Promises.{JoinsWord, Joins}
 use Rattle.sets.proofs.Booleans.{or_left, alike, never_lacks, or_within}
 use Rattle.graphs.proofs.Storing.{stored_narrow}
-use Rattle.graphs.proofs.Growth.{members_more, unchanged_grows, grows_gained, word_grows}
+use Rattle.graphs.proofs.Growth.{members_more, grows_gained, word_grows}
 
 -- ---- one word
 
@@ -54,16 +54,6 @@ pub record JoinedTo (before from now : List ℕ) (i gained : ℕ) : Type 0 where
   pub narrow : (k : ℕ) → get_or now k 0 < 2 ^ 64
   pub gained_fits : gained < 2 ^ 64
   pub grows : Grows before now (not (eqb gained 0))
-
-pub joining_begins : (before from : List ℕ) (R : Summary) → Keeps before R → JoinedTo before from before 0 0
-joining_begins before from R K = record {
-  joined = λ k l. absurd (omega arith);
-  rest = λ k l. refl;
-  room = K.room;
-  narrow = K.narrow;
-  gained_fits = omega arith;
-  grows = unchanged_grows before;
-}
 
 pub joining_goes : (before from now after : List ℕ) (i gained more both : ℕ) → i < 544 → JoinedTo before from now i gained → JoinsWord now i (get_or from i 0) after more
     → both < 2 ^ 64 → ((k : ℕ) → member both k ≡ (member gained k || member more k)) → JoinedTo before from after (i + 1) both

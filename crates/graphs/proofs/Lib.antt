@@ -7,4 +7,3 @@ pub mod Joining
 pub mod Adding
 pub mod Forgetting
 pub mod ClosedGraphs
-pub mod SameGraphs

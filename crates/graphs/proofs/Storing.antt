@@ -98,32 +98,6 @@ put_first : (a b c d : Bool) → ((a || b) || (c && d)) ≡ (((d && c) || a) || 
 put_first a b c d = or_comm (a || b) (c && d) ∙ rw (and_comm c d) (sym (or_assoc (d && c) a b))
 
 module _ (words : List ℕ) (R : Summary) (K : Keeps words R) (n g : ℕ) (few : n < 32) (low : g < 8) (v : ℕ) where
-  module _ (to : ℕ → Bool) (either : (k : ℕ) → member v k ≡ (member (get_or words (32 + n * 8 + g) 0) k || to k)) where
-    edges_added : (c : Claim) → InWords c → added_at false g to (λ k. eqb k n) R c ≡ holds (set words (32 + n * 8 + g) v) c
-    edges_added c w = let room = K.room in go c w (omega arith)
-      where
-        go : (c : Claim) → InWords c → 32 + n * 8 + g < length words → added_at false g to (λ k. eqb k n) R c ≡ holds (set words (32 + n * 8 + g) v) c
-        go (root m) w l = K.same (root m) w ∙ sym (other words (32 + n * 8 + g) v l (claim (root m)) (λ e. omega arith))
-        go (edge m k t) w l = by (eqb k g) refl (eqb m n) refl
-          where
-            by : (a : Bool) → eqb k g ≡ a → (b : Bool) → eqb m n ≡ b → (R (edge m k t) || (a && (to t && b))) ≡ holds (set words (32 + n * 8 + g) v) (edge m k t)
-            by true e true q =
-                let p : k ≡ g = eqb-true k g e in
-                let r : m ≡ n = eqb-true m n q in
-                rw (p, r, and-true (to t), K.same (edge n g t) (few, low), get_or-set_same words (32 + n * 8 + g) v 0 l) (sym (either t))
-            by true e false q =
-                rw (and-false (to t), or-false (R (edge m k t)))
-                (K.same (edge m k t) w ∙ sym (other words (32 + n * 8 + g) v l (claim (edge m k t)) (λ z. let h = w.1 in let f = eqb-false m n q in f (omega arith))))
-            by false e b q =
-                rw (or-false (R (edge m k t)))
-                (K.same (edge m k t) w ∙ sym (other words (32 + n * 8 + g) v l (claim (edge m k t)) (λ z. let h = w.1 in let f = eqb-false k g e in f (omega arith))))
-        go (string m k s) w l =
-            let h = w.1 in
-            rw (or-false (R (string m k s)), other words (32 + n * 8 + g) v l (any_at m k) (λ e. omega arith), other words (32 + n * 8 + g) v l (claim (string m k s)) (λ e. omega arith))
-            (K.same (string m k s) w)
-        go (gap_from k m) w l = K.same (gap_from k m) w ∙ sym (other words (32 + n * 8 + g) v l (claim (gap_from k m)) (λ e. omega arith))
-        go (attribute_gap_from k m) w l = K.same (attribute_gap_from k m) w ∙ sym (other words (32 + n * 8 + g) v l (claim (attribute_gap_from k m)) (λ e. omega arith))
-
   module _ (to : ℕ → Bool) (either : (k : ℕ) → member v k ≡ (member (get_or words (288 + n * 8 + g) 0) k || to k)) where
     named_added : (c : Claim) → InWords c → added_at true g to (λ k. eqb k n) R c ≡ holds (set words (288 + n * 8 + g) v) c
     named_added c w = let room = K.room in go c w (omega arith)
@@ -182,11 +156,6 @@ module _ (words : List ℕ) (g : ℕ) (low : g < 8) (i : ℕ) where
   attribute_origins_drop e = rw e (stored_keeps words (9 + g) 0 (omega arith) (omega arith) (without_attribute_gap g) (λ R K. attribute_origins_dropped words R K g low))
 
 module _ (words : List ℕ) (n g : ℕ) (few : n < 32) (low : g < 8) where
-  pub edges_add : (i v : ℕ) → i ≡ 32 + n * 8 + g → v < 2 ^ 64 → (to : ℕ → Bool) → ((k : ℕ) → member v k ≡ (member (get_or words i 0) k || to k))
-      → (R : Summary) → Keeps words R → Keeps (set words i v) (added_at false g to (λ k. eqb k n) R)
-  edges_add i v e l to either =
-      rw e (stored_keeps words (32 + n * 8 + g) v l (omega arith) (added_at false g to (λ k. eqb k n)) (λ R K. edges_added words R K n g few low v to (rw e at either)))
-
   named_add : (i v : ℕ) → i ≡ 288 + n * 8 + g → v < 2 ^ 64 → (to : ℕ → Bool) → ((k : ℕ) → member v k ≡ (member (get_or words i 0) k || to k))
       → (R : Summary) → Keeps words R → Keeps (set words i v) (added_at true g to (λ k. eqb k n) R)
   named_add i v e l to either =

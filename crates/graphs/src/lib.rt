@@ -15,7 +15,8 @@ ghost use Rattle.graphs.specs.Inner.Promises.{SlotOf, OtherWord, JoinsWord, Join
 use strings::{AttributeValues, Values};
 use summaries::Claim;
 
-// The words of a graph, lent as `&Graph` and `&mut Graph`: a struct that holds them could not be lent, and by value they are too dear.
+// The words of a graph, lent as `&Graph` and `&mut Graph`: by value they are too dear. They are no struct: each function tells what they
+// keep of a summary that it names, so a struct would have no invariant of its own.
 pub type Graph = [u64; WORDS];
 
 // Where the words of each sort of item begin: the roots; the origins of each gap, and of each attribute gap; the templates at which

@@ -1,7 +1,7 @@
 -- Laws of sets of strings, and of what an attribute gap can take.
 use Prim.Native.Nat.{ℕ, zero, suc, ◌^◌, ◌≤◌, ◌<◌}
 use mathlib.Core.Path.{◌≡◌, refl, sym, ap, ◌∙◌}
-use mathlib.Core.Bool.{Bool, true, false, not, ◌&&◌, ◌||◌, or-true, false≢true}
+use mathlib.Core.Bool.{Bool, true, false, not, ◌&&◌, ◌||◌, false≢true}
 use mathlib.Core.Logic.{inl, inr}
 use native.Mathlib.Nat.{eq-or-lt_of_le, le_of_suc-le-suc}
 use native.Mathlib.Omega.{arith}
@@ -11,13 +11,12 @@ use Rattle.sets.proofs.Booleans.{and_left, and_right}
 use Rattle.std.specs.Prelude.{Option, Some, None}
 use Rattle.std.specs.Option.{is_some}
 use Rattle.sets.specs.Sets.{member}
-use Rattle.sets.specs.Inner.Promises.{MembersWithin, NextMember}
+use Rattle.sets.specs.Inner.Promises.{NextMember}
 use Rattle.sets.proofs.Laws.{member_high}
 use Rattle.strings.specs.declared.StringSet.{StringSet}
 use Rattle.strings.specs.declared.Values.{Values}
-use Rattle.strings.specs.declared.AttributeValues.{AttributeValues}
 use Rattle.strings.specs.Strings.{strings}
-use Rattle.strings.specs.Inner.Promises.{has_string, StringsWithin, holds_value, ValuesWithin, NoValues, NothingToTake}
+use Rattle.strings.specs.Inner.Promises.{has_string, StringsWithin, holds_value, ValuesWithin, NoValues}
 
 -- The word that has every string.
 unfoldable all_below : ℕ → (ℕ → Bool) → Bool
@@ -44,10 +43,6 @@ all_strings s = go (ltb s strings) refl
 pub outside : (set : StringSet) → set.word < 2 ^ 64 → (s : ℕ) → strings ≤ s → has_string set s ≡ false
 outside set b s l = member_high 64 set.word s b l
 
-pub strings_within : (a b : StringSet) (t : Bool) → MembersWithin a.word b.word t → StringsWithin a b t
-strings_within a b true h = h
-strings_within a b false h = h
-
 -- ---- what an attribute gap can take
 
 any_of : (t u : Bool) → t ≡ true → (t || u) ≡ true
@@ -64,9 +59,6 @@ holds_any v e s = any_of v.any (has_string v.named s) e
 pub holds_named : (v : Values) → v.any ≡ false → (s : ℕ) → holds_value v s ≡ has_string v.named s
 holds_named v e s = named_of v.any (has_string v.named s) e
 
-pub within_any : (a b : Values) → b.any ≡ true → ValuesWithin a b true
-within_any a b e s h = holds_any b e s
-
 pub any_not_within : (a b : Values) → b.named.word < 2 ^ 64 → b.any ≡ false → a.any ≡ true → ValuesWithin a b false
 any_not_within a b l n e = (strings, holds_any a e strings, holds_named b n strings ∙ outside b.named l strings (omega arith))
 
@@ -74,24 +66,9 @@ pub named_within : (a b : Values) → b.any ≡ false → a.any ≡ false → (t
 named_within a b n m true h = λ s e. holds_named b n s ∙ h s (sym (holds_named a m s) ∙ e)
 named_within a b n m false h = (h.0, holds_named a m h.0 ∙ h.2, holds_named b n h.0 ∙ h.3)
 
-pub union_left : (a b : Values) → a.any ≡ true → (s : ℕ) → holds_value a s ≡ (holds_value a s || holds_value b s)
-union_left a b e s = rw (holds_any a e s)
-
-pub union_right : (a b : Values) → b.any ≡ true → (s : ℕ) → holds_value b s ≡ (holds_value a s || holds_value b s)
-union_right a b e s = rw (holds_any b e s) (sym (or-true (holds_value a s)))
-
-pub union_named : (a b : Values) → a.any ≡ false → b.any ≡ false → (u : StringSet) → ((s : ℕ) → has_string u s ≡ (has_string a.named s || has_string b.named s))
-    → (s : ℕ) → has_string u s ≡ (holds_value a s || holds_value b s)
-union_named a b n m u h s = rw (holds_named a n s, holds_named b m s) (h s)
-
 -- The first string of what can be taken decides whether there is one.
 pub first_decides : (v : Values) → v.any ≡ false → (next : Option ℕ) → NextMember v.named.word 0 next → (r : Bool) → is_some next ≡ not r → NoValues v r
 first_decides v n (Some s) is true e = absurd (false≢true (sym e))
 first_decides v n (Some s) is false e = let w : s < 64 = is.within in (s, omega arith, holds_named v n s ∙ is.is_held)
 first_decides v n None is true e = λ s. holds_named v n s ∙ is s (omega arith)
 first_decides v n None is false e = absurd (false≢true e)
-
--- Where absence cannot be taken, the strings decide.
-pub no_absence : (v : AttributeValues) → v.absent ≡ false → (r : Bool) → NoValues v.strings r → NothingToTake v r
-no_absence v e true n = (e, n)
-no_absence v e false n = inr n

@@ -2,9 +2,6 @@
 use Rattle.entries.proofs.Held.{as_item, edge_held, string_held, any_held}
 use Rattle.entries.proofs.item_holds.Goals as goal
 
-pub returns-in-Root : goal.returns-in-Root
-returns-in-Root c = as_item c.args.graph.now c.args.how _ _ c.in-Root.is c.root_holds.result c.root_holds.ensures
-
 pub returns-in-Edge : goal.returns-in-Edge
 returns-in-Edge c = as_item c.args.graph.now c.args.how _ _ c.in-Edge.is c.edge_holds.result (edge_held c.args.graph.now c.args.how _ _ _ c.edges.ensures _ c.edge_holds.result c.edge_holds.ensures)
 
@@ -13,9 +10,3 @@ returns-in-String c = as_item c.args.graph.now c.args.how _ _ c.in-String.is c.s
 
 pub returns-in-AnyString : goal.returns-in-AnyString
 returns-in-AnyString c = as_item c.args.graph.now c.args.how _ _ c.in-AnyString.is c.values_within.result (any_held c.args.graph.now c.args.how _ _ c.strings_at-values.result c.strings_at-values.ensures c.any_value-any.result c.any_value-any.ensures c.values_within.result c.values_within.ensures)
-
-pub returns-in-GapFrom : goal.returns-in-GapFrom
-returns-in-GapFrom c = as_item c.args.graph.now c.args.how _ _ c.in-GapFrom.is c.gap_holds.result c.gap_holds.ensures
-
-pub returns-in-AttributeGapFrom : goal.returns-in-AttributeGapFrom
-returns-in-AttributeGapFrom c = as_item c.args.graph.now c.args.how _ _ c.in-AttributeGapFrom.is c.attribute_holds.result c.attribute_holds.ensures

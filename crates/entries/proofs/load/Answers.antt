@@ -3,12 +3,6 @@ use Rattle.entries.proofs.Walks.{claim_moves}
 use Rattle.entries.proofs.Loading.{load_goes, load_ends}
 use Rattle.entries.proofs.load.Goals as goal
 
-pub loop-item-init : goal.loop-item-init
-loop-item-init c = λ after l. l
-
-pub loop-item-smaller : goal.loop-item-smaller
-loop-item-smaller c = let m = claim_moves c.args.s.now _ _ c.claim_here.ensures.fits _ _ c.in-Some.is in omega arith
-
 pub loop-item-preserved : goal.loop-item-preserved
 loop-item-preserved c = λ after l. c.loop-item.invariant after
     (load_goes c.args.s.now _ c.claim_here.result c.claim_here.ensures.is _ _ c.in-Some.is c.claim_here.ensures.fits _ _ after c.add.ensures l)

@@ -2,9 +2,6 @@
 use Rattle.entries.proofs.PassingOn.{all_pass, roots_stay_out}
 use Rattle.entries.proofs.pass.Goals as goal
 
-pub returns-in-Wholly : goal.returns-in-Wholly
-returns-in-Wholly c = λ S k. all_pass S _ _ c.in-Wholly.is k
-
 pub returns-in-WithoutRoots : goal.returns-in-WithoutRoots
 returns-in-WithoutRoots c = λ S k. roots_stay_out S _ _ c.in-WithoutRoots.is (c.drop_roots.ensures S k)
 

@@ -2,9 +2,6 @@
 use Rattle.entries.proofs.PassingOn.{no_gap, gap_plugged}
 use Rattle.entries.proofs.pass_gap.Goals as goal
 
-pub returns-then-gap-ge-GAPS : goal.returns-then-gap-ge-GAPS
-returns-then-gap-ge-GAPS c = λ S k. no_gap S _ _ _ c.if-gap-ge-GAPS.true k
-
 pub returns : goal.returns
 returns c = λ S k.
     let l = c.if-gap-ge-GAPS.false in

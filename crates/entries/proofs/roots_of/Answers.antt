@@ -16,10 +16,6 @@ pub returns : goal.returns
 returns c = let s = c.args.s.now in
     gather_ends says_claim root TemplateHoldings s _ _ (member c.loop-item.found) c.loop-item.invariant (λ ys m. claims_end s _ ys m _ c.claim_here.ensures.is c.in_default.is)
 
-pub loop-item-smaller : goal.loop-item-smaller
-loop-item-smaller c = let m = claim_moves c.args.s.now _ _ c.claim_here.ensures.fits _ _ c.in-Some.is in
-    omega arith
-
 pub loop-item-preserved : goal.loop-item-preserved
 loop-item-preserved c = let s = c.args.s.now in
     let e = c.in-Some.is in

@@ -1,11 +1,8 @@
 use mathlib.Core.Path.{sym, ◌∙◌}
 use mathlib.Core.Bool.{true}
-use Rattle.graphs.proofs.AddingAt.{adding_begins, adding_goes, adding_skips, adding_ends}
+use Rattle.graphs.proofs.AddingAt.{adding_goes, adding_skips, adding_ends}
 use Rattle.graphs.proofs.add_strings.Goals.{then-has, else-has}
 use Rattle.graphs.proofs.add_strings.Goals as goal
-
-pub loop-n-init : goal.loop-n-init
-loop-n-init c = λ f R k. adding_begins true _ _ _ _ R k
 
 pub loop-n-preserved : goal.loop-n-preserved
 loop-n-preserved c = λ f R k. elim c.if-has.branch [

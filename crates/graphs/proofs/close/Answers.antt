@@ -1,9 +1,6 @@
 use Rattle.sets.proofs.Laws.{member_single}
-use Rattle.graphs.proofs.ClosedGraphs.{below_begins, below_goes, below_ends}
+use Rattle.graphs.proofs.ClosedGraphs.{below_goes, below_ends}
 use Rattle.graphs.proofs.close.Goals as goal
-
-pub loop-g-init : goal.loop-g-init
-loop-g-init c = λ R k. below_begins R _ k
 
 pub loop-g-preserved : goal.loop-g-preserved
 loop-g-preserved c = λ R k. below_goes R _ _ _ (member_single 0) c.loop-g-test.true _ _ (c.loop-g.invariant R k) c.origins-open.ensures c.add_edges.ensures

@@ -1,9 +1,6 @@
 use borrow.Author.Rules.{rules}
-use Rattle.graphs.proofs.Joining.{joining_begins, joining_goes, joining_ends}
+use Rattle.graphs.proofs.Joining.{joining_goes, joining_ends}
 use Rattle.graphs.proofs.join.Goals as goal
-
-pub loop-i-init : goal.loop-i-init
-loop-i-init c = λ R k. joining_begins _ _ R k
 
 pub loop-i-preserved : goal.loop-i-preserved
 loop-i-preserved c = λ R k. joining_goes _ _ c.loop-i.graph _ c.loop-i.i c.loop-i.gained c.join_word.result _ c.loop-i-test.true (c.loop-i.invariant R k) c.join_word.ensures (search rules) c.union-gained.ensures
