@@ -1,7 +1,7 @@
 -- What the statement of a point shows.
 use Prim.Native.Nat.{ℕ, ◌+◌, ◌*◌, ◌%◌, ◌<◌}
 use native.Mathlib.Omega.{arith}
-use mathlib.Core.Path.{◌≡◌, sym, ap, subst, ◌∙◌}
+use mathlib.Core.Path.{◌≡◌, refl, sym, ap, subst, ◌∙◌}
 use mathlib.Core.List.{List}
 use mathlib.Core.Bool.{true, ◌||◌}
 use mathlib.Core.Option.{none}
@@ -12,7 +12,7 @@ use borrow.Author.Tests.{leb-true}
 use Rattle.pages.specs.Items.{Items}
 use Rattle.pages.specs.Inner.Gaps.{GapsAre}
 use Rattle.programs.specs.declared.Act as Acts
-use Rattle.programs.specs.declared.Act.TheVariants.{Show, ShowFramed}
+use Rattle.programs.specs.declared.Act.TheVariants.{CopyTemplate, SetTemplate, CopyString, SetString, AnyString, Plug, PlugString, Show, ShowFramed}
 use Rattle.programs.specs.declared.Statement as Declared
 use Rattle.programs.specs.declared.Statement.TheVariants.{Step, Stop}
 use Rattle.programs.specs.Program.{Statement, template_at}
@@ -40,8 +40,19 @@ module _ (s : List ℕ) (place : ℕ) (t : Declared.Statement) (is : as_statemen
 
   module _ (act : Acts.Act) (first second : ℕ) (e : t ≡ Step act first second) where
     -- An act other than `37` and `39`.
-    pub act_shows_nothing : (a : Acts.Act) → act ≡ a → ((φs : List Items) (E : Environment) → summary_shown φs (as_act a) E ≡ none) → ShowsAt s place None
-    act_shows_nothing a f h heads gaps p j P = shown_by heads gaps p j P ∙ rw (e, f, h j.script.templates (entries j.proposal p))
+    pub other_shows_nothing : ((x : ℕ) → act ≡ Show x → ⊥) → ((x k g : ℕ) → act ≡ ShowFramed x k g → ⊥) → ShowsAt s place None
+    other_shows_nothing no_show no_frame heads gaps p j P = shown_by heads gaps p j P ∙ rw (e, shows_none act refl)
+      where
+        shows_none : (a : Acts.Act) → act ≡ a → summary_shown j.script.templates (as_act a) (entries j.proposal p) ≡ none
+        shows_none (CopyTemplate x y) f = refl
+        shows_none (SetTemplate x k) f = refl
+        shows_none (CopyString x y) f = refl
+        shows_none (SetString x t) f = refl
+        shows_none (AnyString x) f = refl
+        shows_none (Plug x y g z) f = refl
+        shows_none (PlugString x y h z) f = refl
+        shows_none (Show x) f = absurd (no_show x f)
+        shows_none (ShowFramed x k g) f = absurd (no_frame x k g f)
 
     module _ (heads gaps : List ℕ) (p : ℕ) (j : Job) (P : PointStands s heads gaps place p j) where
       fits : StatementFits (as_statement t)

@@ -55,13 +55,7 @@ pub fn showing_at(s: &[u8], place: usize) -> Option<Source>
     match act {
         Act::Show(x) => Some(Source::Variable(x)),
         Act::ShowFramed(x, frame, gap) => Some(Source::Framed { x, frame, gap }),
-        Act::CopyTemplate(_, _) => None,
-        Act::SetTemplate(_, _) => None,
-        Act::CopyString(_, _) => None,
-        Act::SetString(_, _) => None,
-        Act::AnyString(_) => None,
-        Act::Plug(_, _, _, _) => None,
-        Act::PlugString(_, _, _, _) => None,
+        _ => None,
     }
 }
 
