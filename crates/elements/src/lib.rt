@@ -106,25 +106,20 @@ fn attribute_patterns(
 fn can_fail(s: &[u8], clause: Clause, outer: [u64; 4], inner: [u64; 4]) -> bool
     ensures { CanFail s.now clause outer inner result }
 {
-    let scheme = clause.scheme;
-    let patterns = schemes::product(scheme, outer, inner);
-    let formula = clause.formula;
-    let facts = clause.facts;
-    clauses::clause_fails(s, formula, facts, patterns).fails
+    let patterns = schemes::product(clause.scheme, outer, inner);
+    clauses::clause_fails(s, clause.formula, clause.facts, patterns).fails
 }
 
 // The element at an offset of template n, if it fails the clause at a place of its rule.
 fn wrong_if(fails: bool, n: usize, at: usize, place: usize) -> Option<Wrong>
     ensures { result ≡ wrong_at n at (broken_if fails (Breach.Clause place)) }
 {
-    if fails {
-        return Some(Wrong {
-            template: n,
-            at,
-            breach: Breach::Clause(place),
-        });
-    }
-    None
+    let wrong = Wrong {
+        template: n,
+        at,
+        breach: Breach::Clause(place),
+    };
+    fails.then_some(wrong)
 }
 
 // Whether an element has a pattern: its attributes have something to take, and the list inside it has a pattern.
@@ -156,29 +151,20 @@ fn search_element(
     if e != clause.element {
         let filled = languages::attributes_take(s, start, graph, n);
         let list = search_items(s, filled.next, clause, n, graph, takes);
-        let inner = list.set;
-        let wrong = list.wrong;
-        let next = list.next;
         return FoundElement {
-            yields: has_pattern(filled.takes, inner),
-            wrong,
-            next,
+            yields: has_pattern(filled.takes, list.set),
+            wrong: list.wrong,
+            next: list.next,
         };
     }
-    let facts = clause.facts;
-    let scheme = clause.scheme;
-    let attributes = attribute_patterns(s, start, facts, scheme, graph, n);
+    let attributes = attribute_patterns(s, start, clause.facts, clause.scheme, graph, n);
     let list = search_items(s, attributes.next, clause, n, graph, takes);
-    let outer = attributes.set;
-    let inner = list.set;
-    let fails = can_fail(s, clause, outer, inner);
+    let fails = can_fail(s, clause, attributes.set, list.set);
     let own = wrong_if(fails, n, here.at, clause.place);
-    let wrong = list.wrong;
-    let next = list.next;
     FoundElement {
-        yields: has_pattern(attributes.takes, inner),
-        wrong: patterns::lower(own, wrong),
-        next,
+        yields: has_pattern(attributes.takes, list.set),
+        wrong: patterns::lower(own, list.wrong),
+        next: list.next,
     }
 }
 
@@ -219,16 +205,18 @@ fn search_items(
             }
             ItemHere::Element(e, inside) => {
                 let found = search_element(s, here, e, inside, clause, n, graph, takes);
-                let own = found.wrong;
-                wrong = patterns::lower(wrong, own);
+                wrong = patterns::lower(wrong, found.wrong);
                 here = found.next;
                 let longer = languages::with_element(scheme, line, e, found.yields);
                 line = longer;
             }
             ItemHere::Blank(next) => here = next,
             ItemHere::End(next) => {
-                let set = line.set;
-                return FoundItems { set, wrong, next };
+                return FoundItems {
+                    set: line.set,
+                    wrong,
+                    next,
+                };
             }
         }
     }
@@ -247,9 +235,7 @@ fn search_template(
     ensures { SearchesTemplate s.now start.at clause graph.now sets.now n result }
 {
     let takes = languages::gaps_from(graph, sets, n);
-    let found = search_items(s, start, clause, n, graph, &takes);
-    let wrong = found.wrong;
-    wrong
+    search_items(s, start, clause, n, graph, &takes).wrong
 }
 
 // One clause, for the templates of a set, from the sets that are settled by its scheme. Template 0 has no element.

@@ -80,22 +80,15 @@ pub fn attributes_take(s: &[u8], start: Position, graph: &Graph, n: usize) -> Fi
     let mut here = start;
     let mut takes = true;
     loop {
-        let attribute = pages::attribute_here(s, here);
-        match attribute {
-            AttributeHere::Fixed {
-                name: _,
-                string: _,
-                next,
-            } => here = next,
-            AttributeHere::Open { name: _, gap, next } => {
+        match pages::attribute_here(s, here) {
+            AttributeHere::Fixed { next, .. } => here = next,
+            AttributeHere::Open { gap, next, .. } => {
                 here = next;
                 if !takes_something(graph, n, gap) {
                     takes = false;
                 }
             }
-            AttributeHere::Done => {
-                return Filled { takes, next: here };
-            }
+            AttributeHere::Done => return Filled { takes, next: here },
         }
     }
 }
@@ -205,10 +198,9 @@ fn element_patterns(
     if pattern_sets::is_empty(set) {
         return inside;
     }
-    let next = inside.next;
     Patterned {
         set: pattern_sets::only(schemes::single(r, e)),
-        next,
+        next: inside.next,
     }
 }
 
@@ -230,8 +222,7 @@ fn list_patterns(
     let mut line = line_of(pattern_sets::only(EMPTY));
     let mut here = start;
     loop {
-        let item = pages::item_here(s, here);
-        match item {
+        match pages::item_here(s, here) {
             ItemHere::Text(next) => {
                 here = next;
                 if sets::has(line.contents, TEXT) {
@@ -256,8 +247,7 @@ fn list_patterns(
                 if pattern_sets::is_empty(set) {
                     return element;
                 }
-                let next = element.next;
-                here = next;
+                here = element.next;
                 if sets::has(line.contents, e) {
                     let longer = with_content(r, line, e);
                     line = longer;
@@ -288,9 +278,7 @@ fn template_patterns(
         return pattern_sets::only(EMPTY);
     }
     let takes = gaps_from(graph, sets, n);
-    let list = list_patterns(s, Position::new(templates.starts[n]), r, graph, n, &takes);
-    let set = list.set;
-    set
+    list_patterns(s, Position::new(templates.starts[n]), r, graph, n, &takes).set
 }
 
 // Templates are below 32; as a member of those whose sets have changed this stands for a first round.
