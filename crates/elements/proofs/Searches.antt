@@ -7,6 +7,7 @@ use mathlib.Core.Bool.{Bool, true, false, not, ◌&&◌, and-false, false≢true
 use mathlib.Core.Logic.{inl, inr}
 use borrow.Author.Tests.{ne_eqb, eq-eqb}
 use Rattle.std.specs.Prelude.{None}
+use Rattle.std.specs.Bool.{then_some}
 use Rattle.verdicts.specs.declared.Breach.TheVariants as Breaches
 use Rattle.commands.specs.declared.Position.{Position}
 use Rattle.commands.specs.Reading.{whole}
@@ -64,6 +65,11 @@ clause_tested s c outer inner joined tested product fails φs G ψ X C n δ φ i
 pub inside_had : (takes : Bool) (inner : List ℕ) → takes ≡ true → (t : Bool) → IsEmpty inner t → HasPattern takes inner (not t)
 inside_had takes inner fills true none = inr none
 inside_had takes inner fills false some = (fills, some)
+
+-- The element itself, where the clause can fail for it.
+pub told_where : (fails : Bool) (n at place : ℕ) → then_some fails (record { template = n; at = at; breach = Breaches.Clause place }) ≡ wrong_at n at (broken_if fails (Breaches.Clause place))
+told_where true n at place = refl
+told_where false n at place = refl
 
 -- It has a pattern exactly if its attributes and all inside it have something to take.
 pub pattern_had : (φs : List Items) (G : Summary) → Bounded φs G → (ψ : Formula) (X : Sets) (n e mark : ℕ) (δ : List Attribute) (φ : Items) (takes : Bool)

@@ -9,6 +9,8 @@ use native.Mathlib.Decide.{ℕ_discrete}
 use native.Mathlib.Omega.{arith}
 use lib.ListN.{length, get_or}
 use lib.Dec.{eqb}
+use borrow.Author.Tests.{eqb-true}
+use Rattle.std.specs.Prelude.{Option, Some}
 use Rattle.sets.specs.Sets.{member}
 use Rattle.sets.proofs.Laws.{member_zero}
 use Rattle.pages.specs.Items.{Item, text, blank, gap, Items, gap_in, gap_in_item}
@@ -29,7 +31,7 @@ use Rattle.schemes.specs.Inner.Schemes.{Is}
 use Rattle.graphs.specs.Inner.Graphs as Graphs
 use Rattle.languages.specs.declared.Patterned.{Patterned}
 use Rattle.languages.specs.Inner.Tables.{SetsAre, GapSetsAre, Shown}
-use Rattle.languages.specs.Inner.Promises.{ListPatterns, IsRound, Targets, TargetsTable, OnlyChanged, CameOf, Rounds}
+use Rattle.languages.specs.Inner.Promises.{ListPatterns, IsRound, Targets, TargetsTable, KeepsSet, OnlyChanged, CameOf, Rounds}
 use Rattle.languages.proofs.Uses.{lawful, monoid, is_as, product_as, unit_set}
 use Rattle.languages.proofs.GapNumbers.{gaps_low}
 use Rattle.languages.proofs.GapSets.{FilledTo, filled_up}
@@ -97,7 +99,7 @@ module _ (r : Scheme) (s graph starts : List ℕ) (φs : List Items) (G : Summar
     where
       unchanged : (g m x : ℕ) → g < 8 → x < M.size → G (edge n g m) ≡ true → X m x ≡ Y m x
       unchanged g m x lg lx e =
-          only_changed m x (shown.lent.bounded.edges n g m e) lx (apart m (T.has g m lg (sym (shown.lent.keeps.same (edge n g m) (low, lg)) ∙ e)))
+          only_changed m x (shown.lent.bounded.edges n g m e) lx (apart m (T g m lg (sym (shown.lent.keeps.same (edge n g m) (low, lg)) ∙ e)))
 
       taken_too : (g x : ℕ) (A B : Sets) → ((m : ℕ) → G (edge n g m) ≡ true → A m x ≡ B m x)
           → any_below (suc (length φs)) (λ m. G (edge n g m) && A m x) ≡ true → any_below (suc (length φs)) (λ m. G (edge n g m) && B m x) ≡ true
@@ -113,36 +115,29 @@ module _ (r : Scheme) (s graph starts : List ℕ) (φs : List Items) (G : Summar
 -- ---- the targets of templates
 
 -- The gaps before a place have their edges in the set.
-pub record TargetsTo (graph : List ℕ) (n all g : ℕ) : Type 0 where
-  pub within : g ≤ 8
-  pub first : member all 63 ≡ true
-  pub has : (k m : ℕ) → k < g → Graphs.holds graph (edge n k m) ≡ true → member all m ≡ true
-
 module _ (graph : List ℕ) (n : ℕ) where
-  pub targets_none : (all : ℕ) → member all 63 ≡ (eqb 63 63 || member 0 63) → TargetsTo graph n all 0
-  targets_none all e = record { within = omega arith; first = e; has = λ k m h. absurd (omega arith) }
+  abbrev pub TargetsTo : ℕ → ℕ → Type 0
+  TargetsTo all g = (k m : ℕ) → k < g → Graphs.holds graph (edge n k m) ≡ true → member all m ≡ true
 
   pub targets_more : (all g larger own : ℕ) → g < 8 → ((m : ℕ) → member own m ≡ Graphs.holds graph (edge n g m))
-      → ((k : ℕ) → member larger k ≡ (member all k || member own k)) → TargetsTo graph n all g → TargetsTo graph n larger (g + 1)
-  targets_more all g larger own low edges is so_far = record {
-    within = omega arith;
-    first = is 63 ∙ or_left (member all 63) (member own 63) so_far.first;
-    has = λ k m h e. is m ∙ go k m h e (ℕ_discrete k g);
-  }
+      → ((k : ℕ) → member larger k ≡ (member all k || member own k)) → TargetsTo all g → TargetsTo larger (g + 1)
+  targets_more all g larger own low edges is so_far k m h e = is m ∙ go (ℕ_discrete k g)
     where
-      go : (k m : ℕ) → k < g + 1 → Graphs.holds graph (edge n k m) ≡ true → Dec (k ≡ g) → (member all m || member own m) ≡ true
-      go k m h e (yes q) = or_right (member all m) (member own m) (edges m ∙ rw (← q) e)
-      go k m h e (no ne) = or_left (member all m) (member own m) (so_far.has k m (omega arith) e)
-
-  pub targets_all : (all g : ℕ) → 8 ≤ g → TargetsTo graph n all g → Targets graph n all
-  targets_all all g h so_far = record { first = so_far.first; has = λ k m l e. so_far.has k m (omega arith) e }
+      go : Dec (k ≡ g) → (member all m || member own m) ≡ true
+      go (yes q) = or_right (member all m) (member own m) (edges m ∙ rw (← q) e)
+      go (no ne) = or_left (member all m) (member own m) (so_far k m (omega arith) e)
 
 -- ---- a round
 
-none_common : (targets changed common : ℕ) → ((k : ℕ) → member common k ≡ (member targets k && member changed k)) → common ≡ 0 → (k : ℕ) → member targets k ≡ true → member changed k ≡ false
-none_common targets changed common is z k t = refuted (member changed k) (λ c. false≢true (sym (ap (λ (w : ℕ). member w k) z ∙ member_zero k) ∙ (is k ∙ and_both _ _ t c)))
+module _ (targets others common : ℕ) (is : (k : ℕ) → member common k ≡ (member targets k && member others k)) where
+  none_common : common ≡ 0 → (k : ℕ) → member targets k ≡ true → member others k ≡ false
+  none_common z k t = refuted (member others k) (λ c. false≢true (sym (ap (λ (w : ℕ). member w k) z ∙ member_zero k) ∙ (is k ∙ and_both _ _ t c)))
 
-module _ (r : Scheme) (s graph starts targets : List ℕ) (sets : List (List ℕ)) (count changed : ℕ) where
+  pub kept_by : (changed : Option ℕ) → changed ≡ Some others → (t : Bool) → eqb common 0 ≡ t → KeepsSet targets changed t
+  kept_by changed some true e = (others, some, none_common (eqb-true common 0 e))
+  kept_by changed some false e = tt
+
+module _ (r : Scheme) (s graph starts targets : List ℕ) (sets : List (List ℕ)) (count : ℕ) (changed : Option ℕ) where
   -- What a row is to be in the round that is made.
   abbrev pub RowIs : ℕ → List ℕ → Type 0
   RowIs n row = (φs : List Items) (G : Summary) (M : Morphism) (X Y : Sets) → Shown r s graph starts φs G M
@@ -151,13 +146,12 @@ module _ (r : Scheme) (s graph starts targets : List ℕ) (sets : List (List ℕ
   pub row_computed : (n : ℕ) (row : List ℕ) → IsRound r s graph starts sets n row → RowIs n row
   row_computed n row is φs G M X Y shown table counted are came h = is φs G M X shown are h
 
-  pub row_kept : (n common : ℕ) → n < 32 → ((k : ℕ) → member common k ≡ (member (get_or targets n 0) k && member changed k)) → common ≡ 0 → RowIs n (get_or sets n [])
-  row_kept n common low is z φs G M X Y shown table counted are came h =
-      let T : Targets graph n (get_or targets n 0) = table n low (omega arith) in
-      let apart = none_common (get_or targets n 0) changed common is z in
-      let (only_changed, before) = came (apart 63 T.first) in
+  pub row_kept : (n : ℕ) → n < 32 → (t : Bool) → t ≡ true → KeepsSet (get_or targets n 0) changed t → RowIs n (get_or sets n [])
+  row_kept n low false e kept = absurd (false≢true e)
+  row_kept n low true e (others, some, apart) = λ φs G M X Y shown table counted are came h.
+      let (only_changed, before) = came others some in
       is_as (get_or sets n []) (round φs G M Y n) (round φs G M X n) (before n h)
-      (λ x l. sym (round_same r s graph starts φs G M X Y shown changed only_changed n low h (get_or targets n 0) T apart x l))
+      (λ x l. sym (round_same r s graph starts φs G M X Y shown others only_changed n low h (get_or targets n 0) (table n low (omega arith)) apart x l))
 
   pub round_all : (next : List (List ℕ)) (n : ℕ) → (count < n) ⊎ (32 ≤ n) → FilledTo 32 [] RowIs next n → Rounds r s graph starts targets sets count changed next
   round_all next n ended so_far φs G M X Y shown table counted are came k h =

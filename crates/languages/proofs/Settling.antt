@@ -9,6 +9,7 @@ use native.Mathlib.Omega.{arith}
 use lib.ListN.{length, get_or, replicate}
 use lib.Dec.{eqb, leb}
 use borrow.Author.Tests.{eq-eqb, ne_eqb, eqb-false, le-leb, leb-true}
+use Rattle.std.specs.Prelude.{Option, Some, None}
 use Rattle.sets.specs.Sets.{member}
 use Rattle.sets.proofs.Laws.{member_zero}
 use Rattle.pages.specs.Items.{Items}
@@ -49,16 +50,12 @@ within_true a b false e w = absurd (false≢true e)
 module _ (count : ℕ) (before after : List (List ℕ)) where
   -- The sets before a place lie within the next; those that grew are members.
   pub record GrownTo (more n : ℕ) : Type 0 where
-    pub within : n ≤ 32
-    pub high : (k : ℕ) → n ≤ k → member more k ≡ false
     pub grows : (k x : ℕ) → k < n → holds (get_or before k []) x ≡ true → holds (get_or after k []) x ≡ true
     pub others : (k x : ℕ) → k < n → member more k ≡ false → holds (get_or after k []) x ≡ true → holds (get_or before k []) x ≡ true
     pub some : (more ≡ 0 → ⊥) → Lacks count after before
 
   pub grown_none : GrownTo 0 0
   grown_none = record {
-    within = omega arith;
-    high = λ k h. member_zero k;
     grows = λ k x h. absurd (omega arith);
     others = λ k x h. absurd (omega arith);
     some = λ ne. absurd (ne refl);
@@ -72,8 +69,6 @@ module _ (count : ℕ) (before after : List (List ℕ)) where
     -- A set that is the same.
     pub grown_same : (u : Bool) → u ≡ true → WithinSet (get_or after n []) (get_or before n []) u → GrownTo more (n + 1)
     grown_same u q back = record {
-      within = omega arith;
-      high = λ k h. so_far.high k (omega arith);
       grows = λ k x h. up_to k x h (ℕ_discrete k n);
       others = λ k x h m. others_as k x h m (ℕ_discrete k n);
       some = so_far.some;
@@ -88,8 +83,6 @@ module _ (count : ℕ) (before after : List (List ℕ)) where
         → (larger : ℕ) → ((k : ℕ) → member larger k ≡ (eqb k n || member more k)) → GrownTo larger (n + 1)
     grown_more true q back larger is = absurd (false≢true (sym q))
     grown_more false q (y, ly, has, lacks) larger is = record {
-      within = omega arith;
-      high = λ k h. is k ∙ rw (ne_eqb k n (λ p. omega arith)) (so_far.high k (omega arith));
       grows = λ k x h. up_to k x h (ℕ_discrete k n);
       others = λ k x h m. others_as k x h m (ℕ_discrete k n);
       some = λ ne. record { row = n; pattern = y; row_low = low; row_there = there; pattern_there = ly; is_held = has; is_not = lacks };
@@ -106,20 +99,14 @@ module _ (count : ℕ) (before after : List (List ℕ)) where
   -- A set that lacks a pattern that it had.
   pub grown_lost : (n : ℕ) → n < 32 → n ≤ count → (t : Bool) → t ≡ false → WithinSet (get_or before n []) (get_or after n []) t → Grows count before after 0
   grown_lost n low there true e w = absurd (false≢true (sym e))
-  grown_lost n low there false e (x, l, h, k) = record {
-    low = member_zero 63;
-    grown = inr (refl, record { row = n; pattern = x; row_low = low; row_there = there; pattern_there = l; is_held = h; is_not = k });
-  }
+  grown_lost n low there false e (x, l, h, k) = inr (refl, record { row = n; pattern = x; row_low = low; row_there = there; pattern_there = l; is_held = h; is_not = k })
 
   pub grown_all : (more n : ℕ) → (count < n) ⊎ (32 ≤ n) → GrownTo more n → Grows count before after more
-  grown_all more n ended so_far = record {
-    low = so_far.high 63 (omega (arith, so_far.within));
-    grown = inl (record {
-      within = λ k x l h. so_far.grows k x (past k l h);
-      others = λ k x l h m. alike (holds (get_or after k []) x) (holds (get_or before k []) x) (so_far.others k x (past k l h) m) (so_far.grows k x (past k l h));
-      some = so_far.some;
-    });
-  }
+  grown_all more n ended so_far = inl (record {
+    within = λ k x l h. so_far.grows k x (past k l h);
+    others = λ k x l h m. alike (holds (get_or after k []) x) (holds (get_or before k []) x) (so_far.others k x (past k l h) m) (so_far.grows k x (past k l h));
+    some = so_far.some;
+  })
     where
       past : (k : ℕ) → k < 32 → k ≤ count → k < n
       past k l h = ⊎_elim (λ (e : count < n). omega arith) (λ (e : 32 ≤ n). omega arith) ended
@@ -130,52 +117,33 @@ module _ (count : ℕ) (before after : List (List ℕ)) where
 abbrev held_in : ℕ → List (List ℕ) → Sets
 held_in count sets n x = leb n count && holds (get_or sets n []) x
 
--- None where nothing has changed.
-unfoldable pub left : ℕ → List (List ℕ) → ℕ → ℕ
-left count sets changed = cond (eqb changed 0) 0 (8193 - members 32 256 (held_in count sets))
+unfoldable pub left : ℕ → List (List ℕ) → ℕ
+left count sets = 8193 - members 32 256 (held_in count sets)
 
-pub left_most : (count : ℕ) (sets : List (List ℕ)) (changed : ℕ) → left count sets changed ≤ 8193
+pub one_left : (count : ℕ) (sets : List (List ℕ)) → 1 ≤ left count sets
 unfolding left
-left_most count sets changed = go (eqb changed 0)
-  where
-    go : (t : Bool) → cond t 0 (8193 - members 32 256 (held_in count sets)) ≤ 8193
-    go true = omega arith
-    go false = omega arith
+one_left count sets = let most = members_most 32 256 (held_in count sets) in omega arith
 
-pub less_left : (count : ℕ) (before after : List (List ℕ)) (changed more : ℕ) → (changed ≡ 0 → ⊥) → Grows count before after more
-    → left count after more < left count before changed
+pub left_most : (count : ℕ) (sets : List (List ℕ)) → left count sets ≤ 8193
 unfolding left
-less_left count before after changed more ne g = rw (ne_eqb changed 0 ne) (go (eqb more 0) refl)
+left_most count sets = omega arith
+
+pub less_left : (count : ℕ) (before after : List (List ℕ)) (more : ℕ) → (more ≡ 0 → ⊥) → Grows count before after more → left count after < left count before
+unfolding left
+less_left count before after more ne (inr (z, l)) = absurd (ne z)
+less_left count before after more ne (inl w) =
+    let most = members_most 32 256 (held_in count after) in
+    let l = w.some ne in
+    let there = le-leb l.row count l.row_there in
+    let larger = members_more 32 256 (held_in count before) (held_in count after) grows l.row l.pattern l.row_low l.pattern_there
+    (rw there l.is_not) (rw there l.is_held)
+    in
+    omega arith
   where
-    most : members 32 256 (held_in count before) ≤ 8192
-    most = members_most 32 256 (held_in count before)
-
-    most_after : members 32 256 (held_in count after) ≤ 8192
-    most_after = members_most 32 256 (held_in count after)
-
-    larger : Grown count before after more → (more ≡ 0 → ⊥) → members 32 256 (held_in count before) < members 32 256 (held_in count after)
-    larger w ne' =
-        let l = w.some ne' in
-        let there = le-leb l.row count l.row_there in
-        members_more 32 256 (held_in count before) (held_in count after) grows l.row l.pattern l.row_low l.pattern_there
-        (rw there l.is_not) (rw there l.is_held)
-      where
-        grows : (n x : ℕ) → n < 32 → x < 256 → held_in count before n x ≡ true → held_in count after n x ≡ true
-        grows n x hn hx p =
-            let q = and_left (leb n count) (holds (get_or before n []) x) p in
-            and_both _ _ q (w.within n x hn (leb-true n count q) (and_right (leb n count) (holds (get_or before n []) x) p))
-
-    go : (t : Bool) → eqb more 0 ≡ t → cond t 0 (8193 - members 32 256 (held_in count after)) < 8193 - members 32 256 (held_in count before)
-    go true e = let m = most in omega arith
-    go false e =
-        let ne' : more ≡ 0 → ⊥ = eqb-false more 0 e in
-        let l : members 32 256 (held_in count before) < members 32 256 (held_in count after) = ⊎_elim
-        (λ (w : Grown count before after more). larger w ne')
-        (λ (w : (more ≡ 0) × Lacks count before after). absurd (ne' w.0))
-        g.grown
-        in
-        let m = most_after in
-        omega arith
+    grows : (n x : ℕ) → n < 32 → x < 256 → held_in count before n x ≡ true → held_in count after n x ≡ true
+    grows n x hn hx p =
+        let q = and_left (leb n count) (holds (get_or before n []) x) p in
+        and_both _ _ q (w.within n x hn (leb-true n count q) (and_right (leb n count) (holds (get_or before n []) x) p))
 
 -- ---- settling
 
@@ -184,32 +152,35 @@ module _ (φs : List Items) (G : Summary) (M : Morphism) where
   abbrev Rests : ℕ → Type 0
   Rests t = Settled φs G M (rounds φs G M t)
 
-  -- The sets are those of a round, which changed some sets of the round before it; or of none yet. No round that changed something was settled before it.
-  pub record InRound (sets : List (List ℕ)) (changed number : ℕ) : Type 0 where
+  -- The sets are those of a round, which changed some sets of the round before it, if there was one. No round before it is settled.
+  pub record InRound (sets : List (List ℕ)) (changed : Option ℕ) (number : ℕ) : Type 0 where
     pub are : SetsAre φs M (rounds φs G M number) sets
-    pub came : member changed 63 ≡ false → (last : ℕ) × (number ≡ suc last) × OnlyChanged φs M (rounds φs G M number) (rounds φs G M last) changed
-    pub earlier : (t : ℕ) → suc t < number → Rests t → ⊥
-    pub last_too : (changed ≡ 0 → ⊥) → (t : ℕ) → suc t ≡ number → Rests t → ⊥
+    pub came : (others : ℕ) → changed ≡ Some others → (last : ℕ) × (number ≡ suc last) × OnlyChanged φs M (rounds φs G M number) (rounds φs G M last) others
+    pub earlier : (t : ℕ) → t < number → Rests t → ⊥
 
-pub record SettlingTo (r : Scheme) (s graph starts : List ℕ) (count : ℕ) (sets : List (List ℕ)) (changed number : ℕ) : Type 0 where
-  pub bound : number + left count sets changed ≤ 8193
+pub record SettlingTo (r : Scheme) (s graph starts : List ℕ) (count : ℕ) (sets : List (List ℕ)) (changed : Option ℕ) (number : ℕ) : Type 0 where
+  pub bound : number + left count sets ≤ 8193
   pub in_round : (φs : List Items) (G : Summary) (M : Morphism) → Shown r s graph starts φs G M → count ≡ length φs → InRound φs G M sets changed number
 
+same_others : (a b : ℕ) → ◌≡◌ {A = Option ℕ} (Some a) (Some b) → a ≡ b
+same_others a b e = cc
+
+never_some : (n : ℕ) → ◌≡◌ {A = Option ℕ} None (Some n) → ⊥
+never_some n e = let z : ◌≡◌ {A = ℕ} 0 1 = cc in omega arith
+
 module _ (r : Scheme) (s graph starts : List ℕ) (count : ℕ) where
-  pub settling_begins : (sets : List (List ℕ)) (first : ℕ) → ((n x : ℕ) → holds (get_or sets n []) x ≡ false) → member first 63 ≡ true
-      → SettlingTo r s graph starts count sets first 0
+  pub settling_begins : (sets : List (List ℕ)) → ((n x : ℕ) → holds (get_or sets n []) x ≡ false) → SettlingTo r s graph starts count sets None 0
   unfolding rounds iterate
-  settling_begins sets first empty all = record {
-    bound = omega (arith, left_most count sets first);
+  settling_begins sets empty = record {
+    bound = omega (arith, left_most count sets);
     in_round = λ φs G M shown counted. record {
       are = λ n h. record { inside = λ x l. empty n x; outside = λ x l. empty n x };
-      came = λ q. absurd (false≢true (sym q ∙ all));
+      came = λ others q. absurd (never_some others q);
       earlier = λ t h. absurd (omega arith);
-      last_too = λ ne t h. absurd (omega arith);
     };
   }
 
-  module _ (targets : List ℕ) (table : TargetsTable graph count targets) (sets : List (List ℕ)) (changed number : ℕ) (some : changed ≡ 0 → ⊥)
+  module _ (targets : List ℕ) (table : TargetsTable graph count targets) (sets : List (List ℕ)) (changed : Option ℕ) (number : ℕ)
       (so_far : SettlingTo r s graph starts count sets changed number) (next : List (List ℕ)) (rounded : Rounds r s graph starts targets sets count changed next)
       (more : ℕ) (grows : Grows count sets next more) where
     module _ (φs : List Items) (G : Summary) (M : Morphism) (shown : Shown r s graph starts φs G M) (counted : count ≡ length φs) where
@@ -223,10 +194,10 @@ module _ (r : Scheme) (s graph starts : List ℕ) (count : ℕ) where
 
       after_last : CameOf φs G M (rounds φs G M number) changed sets before
       unfolding before rounds iterate
-      after_last q =
-          let (last, number_is, only_changed) = at.came q in
+      after_last others q =
+          let (last, number_is, only_changed) = at.came others q in
           let back : number - 1 ≡ last = omega arith in (
-            subst (λ (k : ℕ). OnlyChanged φs M (rounds φs G M number) (rounds φs G M k) changed) (sym back) only_changed,
+            subst (λ (k : ℕ). OnlyChanged φs M (rounds φs G M number) (rounds φs G M k) others) (sym back) only_changed,
             subst (λ (k : ℕ). SetsAre φs M (round φs G M (rounds φs G M k)) sets) (sym back) (subst (λ (k : ℕ). SetsAre φs M (rounds φs G M k) sets) number_is at.are),
           )
 
@@ -245,6 +216,15 @@ module _ (r : Scheme) (s graph starts : List ℕ) (count : ℕ) where
           in
           false≢true (sym l.is_not ∙ ((next_are l.row there).inside l.pattern below ∙ g))
 
+      grown_is : Grown count sets next more
+      grown_is = ⊎_elim (λ (w : Grown count sets next more). w) (λ (w : (more ≡ 0) × Lacks count sets next). absurd (not_lost w.1)) grows
+
+      -- What the round changed.
+      only_more : OnlyChanged φs M (rounds φs G M (suc number)) (rounds φs G M number) more
+      only_more m x h l c =
+          let few = shown.few in
+          sym ((next_are m h).inside x l) ∙ (grown_is.others m x (omega arith) (omega arith) c ∙ (at.are m h).inside x l)
+
       -- A round that changes something follows on none that is settled.
       moved_on : Lacks count next sets → Rests φs G M number → ⊥
       unfolding rounds iterate
@@ -254,57 +234,40 @@ module _ (r : Scheme) (s graph starts : List ℕ) (count : ℕ) where
           false≢true (sym l.is_not ∙ ((at.are l.row there).inside l.pattern below ∙ (sym (rests l.row l.pattern there below)
           ∙ (sym ((next_are l.row there).inside l.pattern below) ∙ l.is_held))))
 
-      went : Grown count sets next more → InRound φs G M next more (number + 1)
-      went w = subst (InRound φs G M next more) (let e : suc number ≡ number + 1 = omega arith in e) (record {
+      goes : (more ≡ 0 → ⊥) → InRound φs G M next (Some more) (number + 1)
+      goes ne = subst (InRound φs G M next (Some more)) (let e : suc number ≡ number + 1 = omega arith in e) (record {
         are = next_are;
-        came = λ q. (
-          number,
-          refl,
-          λ m x h l c.
-              let few = shown.few in
-              sym ((next_are m h).inside x l) ∙ (w.others m x (omega arith) (omega arith) c ∙ (at.are m h).inside x l),
-        );
-        earlier = λ t h rests. ⊎_elim
-            (λ (q : suc t < number). at.earlier t q rests)
-            (λ (q : suc t ≡ number). at.last_too some t q rests)
-            (below_or_last (suc t) number (omega arith));
-        last_too = λ ne t h rests. moved_on (w.some ne) (subst (Rests φs G M) (let e : t ≡ number = omega arith in e) rests);
+        came = λ others q. (number, refl, subst (OnlyChanged φs M (rounds φs G M (suc number)) (rounds φs G M number)) (same_others more others q) only_more);
+        earlier = λ t h rests. not_before t h rests (ℕ_discrete t number);
       })
         where
-          below_or_last : (a b : ℕ) → a ≤ b → (a < b) ⊎ (a ≡ b)
-          below_or_last a b h = go (ℕ_discrete a b)
-            where
-              go : Dec (a ≡ b) → (a < b) ⊎ (a ≡ b)
-              go (yes q) = inr q
-              go (no ne) = inl (omega arith)
+          not_before : (t : ℕ) → t < suc number → Rests φs G M t → Dec (t ≡ number) → ⊥
+          not_before t h rests (yes q) = moved_on (grown_is.some ne) (subst (Rests φs G M) q rests)
+          not_before t h rests (no q) = at.earlier t (omega arith) rests
 
-      goes : InRound φs G M next more (number + 1)
-      goes = ⊎_elim (λ (w : Grown count sets next more). went w) (λ (w : (more ≡ 0) × Lacks count sets next). absurd (not_lost w.1)) grows.grown
-
-    pub settling_goes : SettlingTo r s graph starts count next more (number + 1)
-    settling_goes = record {
-      bound = let l = less_left count sets next changed more some grows in omega (arith, so_far.bound);
-      in_round = goes;
+    -- A round that changed something is followed by another.
+    pub settling_goes : (more ≡ 0 → ⊥) → SettlingTo r s graph starts count next (Some more) (number + 1)
+    settling_goes ne = record {
+      bound = let l = less_left count sets next more ne grows in omega (arith, so_far.bound);
+      in_round = λ φs G M shown counted. goes φs G M shown counted ne;
     }
 
-  -- Nothing has changed.
-  pub settled_first : (sets : List (List ℕ)) (changed number : ℕ) → changed ≡ 0 → SettlingTo r s graph starts count sets changed number
-      → Settles r s graph starts count number sets
-  unfolding rounds iterate
-  settled_first sets changed number z so_far φs G M shown counted =
-      let at = so_far.in_round φs G M shown counted in
-      let (last, number_is, only_changed) = at.came (rw z (member_zero 63)) in
-      let same : (m x : ℕ) → m ≤ length φs → x < M.size → rounds φs G M (suc last) m x ≡ rounds φs G M last m x =
-      λ m x h l. subst (λ (k : ℕ). rounds φs G M k m x ≡ rounds φs G M last m x) number_is (only_changed m x h l (rw z (member_zero m)))
-      in
-      record {
-        last = last;
-        counts = number_is;
-        most = omega (arith, so_far.bound);
-        are = λ n h. is_as (get_or sets n []) (rounds φs G M (suc last) n) (rounds φs G M last n) (subst (λ (k : ℕ). SetsAre φs M (rounds φs G M k) sets) number_is at.are n h) (λ x l. same n x h l);
-        rests = λ n x h l. same n x h l;
-        no_earlier = λ t h. at.earlier t (omega arith);
-      }
+    -- One that changed nothing is the last.
+    pub settled_first : more ≡ 0 → Settles r s graph starts count (number + 1) next
+    unfolding rounds iterate
+    settled_first z φs G M shown counted =
+        let a : InRound φs G M sets changed number = so_far.in_round φs G M shown counted in
+        let same : (m x : ℕ) → m ≤ length φs → x < M.size → rounds φs G M (suc number) m x ≡ rounds φs G M number m x =
+        λ m x h l. only_more φs G M shown counted m x h l (rw z (member_zero m))
+        in
+        record {
+          last = number;
+          counts = omega arith;
+          most = let one = one_left count sets in omega (arith, so_far.bound);
+          are = λ n h. is_as (get_or next n []) (rounds φs G M (suc number) n) (rounds φs G M number n) (next_are φs G M shown counted n h) (λ x l. same n x h l);
+          rests = λ n x h l. same n x h l;
+          no_earlier = λ t h. a.earlier t h;
+        }
 
 -- The sets of a settled round are exact, as callers use them.
 pub settled_exact : {r : Scheme} {graph : List ℕ} {φs : List Items} {G : Summary} {M : Morphism} → Lent r graph φs G M → (made : ℕ) (sets : List (List ℕ)) → SettlesAt φs G M made sets

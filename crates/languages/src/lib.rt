@@ -10,7 +10,7 @@ ghost use Rattle.patterns.specs.Inner.Given.{Bounded};
 ghost use Rattle.patterns.specs.Inner.Rounds.{Sets, string_reaches, value_takes};
 ghost use Rattle.graphs.specs.Inner.Graphs.{Keeps};
 ghost use Rattle.languages.specs.Inner.Tables.{SetsAre, GapSetsAre};
-ghost use Rattle.languages.specs.Inner.Promises.{UnionOf, AttributesTake, LineOf, LineWithContent, LineWithGap, LineWithElement, ElementPatterns, ListPatterns, IsRound, Targets, TargetsTable, Rounds, WithinSet, Grows, Settles};
+ghost use Rattle.languages.specs.Inner.Promises.{UnionOf, AttributesTake, LineOf, LineWithContent, LineWithGap, LineWithElement, ElementPatterns, ListPatterns, IsRound, Targets, TargetsTable, KeepsSet, Rounds, WithinSet, Grows, Settles};
 
 use commands::Position;
 use graphs::Graph;
@@ -281,22 +281,19 @@ fn template_patterns(
     list_patterns(s, Position::new(templates.starts[n]), r, graph, n, &takes).set
 }
 
-// Templates are below 32; as a member of those whose sets have changed this stands for a first round.
-const FIRST: u8 = 63;
-
-// The templates to which template n has edges, and `FIRST`.
+// The templates to which template n has edges.
 fn targets(graph: &Graph, n: usize) -> u64
     requires { n < 32 }
     ensures { Targets graph.now n result }
 {
-    let mut all = sets::with(0, FIRST);
+    let mut all = 0;
     for g in 0..8 {
         all = sets::union(all, graphs::edges(graph, n as u8, g));
     }
     all
 }
 
-// For every template those to which it has edges, and `FIRST`.
+// For every template those to which it has edges.
 fn all_targets(graph: &Graph, count: usize) -> [u64; 32]
     ensures { TargetsTable graph.now count result }
 {
@@ -310,8 +307,17 @@ fn all_targets(graph: &Graph, count: usize) -> [u64; 32]
     table
 }
 
-// A round: the sets of all templates, from those of the round before, of which these have changed in it. A template keeps its set if
-// it takes from none that has changed.
+// Whether a template that takes from these keeps its set in a round: there was a round before, which changed the set of none of them.
+fn keeps_set(targets: u64, changed: Option<u64>) -> bool
+    ensures { KeepsSet targets changed result }
+{
+    let Some(others) = changed else {
+        return false;
+    };
+    sets::common(targets, others) == 0
+}
+
+// A round: the sets of all templates, from those of the round before, of which these have changed in it, if there was one.
 fn round(
     s: &[u8],
     r: Scheme,
@@ -319,7 +325,7 @@ fn round(
     templates: &Templates,
     targets: &[u64; 32],
     sets: &[[u64; 4]; 32],
-    changed: u64,
+    changed: Option<u64>,
 ) -> [[u64; 4]; 32]
     ensures { Rounds r s.now graph.now templates.now.starts targets.now sets.now templates.now.count changed result }
 {
@@ -328,7 +334,7 @@ fn round(
         if templates.count < n {
             return next;
         }
-        next[n] = if sets::common(targets[n], changed) == 0 {
+        next[n] = if keeps_set(targets[n], changed) {
             sets[n]
         } else {
             template_patterns(s, r, graph, templates, sets, n)
@@ -377,13 +383,16 @@ pub fn settle(
 {
     let targets = all_targets(graph, templates.count);
     *sets = [[0u64; 4]; 32];
-    let mut changed = sets::with(0, FIRST);
+    let mut changed = None;
     let mut made = 0;
-    while changed != 0 {
+    loop {
         let next = round(s, r, graph, templates, &targets, sets, changed);
-        changed = grown(sets, &next, templates.count);
+        let more = grown(sets, &next, templates.count);
         *sets = next;
         made += 1;
+        if more == 0 {
+            return made;
+        }
+        changed = Some(more);
     }
-    made
 }

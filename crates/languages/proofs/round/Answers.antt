@@ -4,7 +4,7 @@ use mathlib.Core.Logic.{inl, inr}
 use Rattle.languages.proofs.GapSets.{filled_none, filled_more}
 use Rattle.languages.proofs.RoundLaws.{RowIs, row_computed, row_kept, round_all}
 use Rattle.languages.proofs.round.Goals as goal
-use Rattle.languages.proofs.round.Goals.{then-common-eq0, else-common-eq0}
+use Rattle.languages.proofs.round.Goals.{then-keeps_set, else-keeps_set}
 
 pub loop-n-init : goal.loop-n-init
 loop-n-init c = filled_none _ _ _ _ refl
@@ -17,10 +17,10 @@ pub loop-n-preserved : goal.loop-n-preserved
 loop-n-preserved c = let a = c.args in
     let low = c.loop-n-test.true in
     let more = filled_more 32 [] (RowIs a.r a.s.now a.graph.now a.templates.now.starts a.targets.now a.sets.now a.templates.now.count a.changed) c.loop-n.next c.loop-n.n in
-    elim c.if-common-eq0.branch [
-      | then-common-eq0 m ↦ rw m.next-is (more _ low
-          (row_kept a.r a.s.now a.graph.now a.templates.now.starts a.targets.now a.sets.now a.templates.now.count a.changed c.loop-n.n _ low c.common.ensures m.if-common-eq0.true) c.loop-n.invariant)
-      | else-common-eq0 m ↦ rw m.next-is (more _ low
+    elim c.if-keeps_set.branch [
+      | then-keeps_set m ↦ rw m.next-is (more _ low
+          (row_kept a.r a.s.now a.graph.now a.templates.now.starts a.targets.now a.sets.now a.templates.now.count a.changed c.loop-n.n low _ m.if-keeps_set.true c.keeps_set.ensures) c.loop-n.invariant)
+      | else-keeps_set m ↦ rw m.next-is (more _ low
           (row_computed a.r a.s.now a.graph.now a.templates.now.starts a.targets.now a.sets.now a.templates.now.count a.changed c.loop-n.n _ m.template_patterns.ensures) c.loop-n.invariant)
     ]
 

@@ -14,8 +14,8 @@ loop-next-init c = union_none _ _ _ _ c.next_member-next.ensures c.empty-set.ens
 pub loop-next-preserved : goal.loop-next-preserved
 loop-next-preserved c = let row = c.in-Some-get.ensures.lookup.3 in
     union_more _ _ c.in-Some.m _ c.loop-next.set _ (omega (arith, row.0)) c.next_member-next-in-Some.ensures
-        (λ y. c.union-more.ensures y ∙ ap (λ (r : List ℕ). holds c.loop-next.set y || holds r y) (row.1 []))
-        (rw c.in-Some.is at c.loop-next.invariant)
+    (λ y. c.union-more.ensures y ∙ ap (λ (r : List ℕ). holds c.loop-next.set y || holds r y) (row.1 []))
+    (rw c.in-Some.is at c.loop-next.invariant)
 
 pub loop-next-smaller : goal.loop-next-smaller
 loop-next-smaller c = let row = c.in-Some-get.ensures.lookup.3 in

@@ -1,6 +1,6 @@
 -- What the code that works out pattern sets promises, in terms of the definitions that read items and of the rounds of `patterns`.
 -- Each promise is about bytes that read; what the code answers on others is free, and no public call hands it others.
-use Rattle.std.specs.Prelude.{ℕ, suc, ◌≤◌, ◌<◌, ◌≡◌, List, [], ◌∷◌, Bool, true, false, ◌⊎◌, length, get_or}
+use Rattle.std.specs.Prelude.{ℕ, suc, ◌≤◌, ◌<◌, ◌≡◌, List, [], ◌∷◌, Bool, true, false, ◌⊎◌, length, get_or, Option, Some}
 use Rattle.sets.specs.Sets.{member}
 use Rattle.commands.specs.Reading.{whole}
 use Rattle.pages.specs.declared.Kind.TheVariants.{Template}
@@ -69,24 +69,28 @@ abbrev pub IsRound : Scheme → List ℕ → List ℕ → List ℕ → List (Lis
 IsRound r s graph starts sets n row = (φs : List Items) (G : Summary) (M : Morphism) (X : Sets) → Shown r s graph starts φs G M → SetsAre φs M X sets
     → n ≤ length φs → Is M row (round φs G M X n)
 
--- The templates to which template n has edges, and 63; and those of every template.
-pub record Targets (graph : List ℕ) (n r : ℕ) : Type 0 where
-  pub first : member r 63 ≡ true
-  pub has : (g m : ℕ) → g < 8 → Graphs.holds graph (edge n g m) ≡ true → member r m ≡ true
+-- The templates to which template n has edges; and those of every template.
+abbrev pub Targets : List ℕ → ℕ → ℕ → Type 0
+Targets graph n r = (g m : ℕ) → g < 8 → Graphs.holds graph (edge n g m) ≡ true → member r m ≡ true
 
 abbrev pub TargetsTable : List ℕ → ℕ → List ℕ → Type 0
 TargetsTable graph count table = (n : ℕ) → n < 32 → n ≤ count → Targets graph n (get_or table n 0)
+
+-- The answer that a template keeps its set: there was a round before, and what it changed is none of these targets.
+abbrev pub KeepsSet : ℕ → Option ℕ → Bool → Type 0
+KeepsSet targets changed true = (others : ℕ) × (changed ≡ Some others) × ((k : ℕ) → member targets k ≡ true → member others k ≡ false)
+KeepsSet targets changed false = Unit {0}
 
 -- Sets X and Y of which only those of some templates differ.
 abbrev pub OnlyChanged : List Items → Morphism → Sets → Sets → ℕ → Type 0
 OnlyChanged φs M X Y changed = (m x : ℕ) → m ≤ length φs → x < M.size → member changed m ≡ false → X m x ≡ Y m x
 
--- The sets X, which code has, came of a round after sets Y, which changed only some of them; or, where 63 is a member, of none.
-abbrev pub CameOf : List Items → Summary → Morphism → Sets → ℕ → List (List ℕ) → Sets → Type 0
-CameOf φs G M X changed sets Y = member changed 63 ≡ false → OnlyChanged φs M X Y changed × SetsAre φs M (round φs G M Y) sets
+-- The sets X, which code has, came of a round after sets Y, which changed only some of them, if there was one.
+abbrev pub CameOf : List Items → Summary → Morphism → Sets → Option ℕ → List (List ℕ) → Sets → Type 0
+CameOf φs G M X changed sets Y = (others : ℕ) → changed ≡ Some others → OnlyChanged φs M X Y others × SetsAre φs M (round φs G M Y) sets
 
 -- A round more.
-abbrev pub Rounds : Scheme → List ℕ → List ℕ → List ℕ → List ℕ → List (List ℕ) → ℕ → ℕ → List (List ℕ) → Type 0
+abbrev pub Rounds : Scheme → List ℕ → List ℕ → List ℕ → List ℕ → List (List ℕ) → ℕ → Option ℕ → List (List ℕ) → Type 0
 Rounds r s graph starts targets sets count changed next = (φs : List Items) (G : Summary) (M : Morphism) (X Y : Sets)
     → Shown r s graph starts φs G M → TargetsTable graph count targets → count ≡ length φs → SetsAre φs M X sets
     → CameOf φs G M X changed sets Y → SetsAre φs M (round φs G M X) next
@@ -113,9 +117,8 @@ pub record Grown (count : ℕ) (before after : List (List ℕ)) (more : ℕ) : T
   pub some : (more ≡ 0 → ⊥) → Lacks count after before
 
 -- The templates whose sets have more patterns after a round; or some set lacks one that it had.
-pub record Grows (count : ℕ) (before after : List (List ℕ)) (more : ℕ) : Type 0 where
-  pub low : member more 63 ≡ false
-  pub grown : Grown count before after more ⊎ ((more ≡ 0) × Lacks count before after)
+abbrev pub Grows : ℕ → List (List ℕ) → List (List ℕ) → ℕ → Type 0
+Grows count before after more = Grown count before after more ⊎ ((more ≡ 0) × Lacks count before after)
 
 -- The sets of the first round after which nothing changes. One round more was made, which changed nothing; it counts (document 02, F-10).
 pub record SettlesAt (φs : List Items) (G : Summary) (M : Morphism) (made : ℕ) (sets : List (List ℕ)) : Type 0 where
