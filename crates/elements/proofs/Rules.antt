@@ -188,7 +188,7 @@ module _ (s : List ℕ) (declared : ℕ) (clauses standing words starts : List �
     undeclared e n δ φ absent = ap (λ (o : Option Rule). clause_by φs G X o n δ φ) (no_rule (rule_of D.rules e) (sym (R.declares e) ∙ absent))
 
     module _ (e n e' : ℕ) (δ : List Attribute) (φ : Items) where
-      w : Option Breach
+      abbrev w : Option Breach
       w = wrong_by_clause φs G X D n e' δ φ
 
       -- One element more, which has no rule.

@@ -18,8 +18,7 @@ use Rattle.patterns.specs.Inner.Rounds.{Sets}
 use Rattle.patterns.specs.Inner.Exactness.{Exact}
 use Rattle.patterns.specs.Inner.LowestWrong.{MaybeWrong, lower_wrong, LowestWrong}
 use Rattle.patterns.proofs.LowestOf.{Below, looked_none, looked_past, looked_more, looked_all}
-use Rattle.schemes.specs.declared.Scheme.{Scheme}
-use Rattle.schemes.specs.Inner.Schemes.{StandsFor, of_facts}
+use Rattle.schemes.specs.Inner.Schemes.{of_facts}
 use Rattle.graphs.specs.Inner.Graphs.{Keeps}
 use Rattle.languages.specs.Inner.Tables.{of_clause, SetsAre, GapSetsAre, Lent}
 use Rattle.languages.specs.Inner.Promises.{Settles}
@@ -28,7 +27,7 @@ use Rattle.elements.specs.declared.Clause.{Clause}
 use Rattle.elements.specs.declared.FoundItems.{FoundItems}
 use Rattle.elements.specs.Inner.Attributes.{ClauseAt, patterns_by}
 use Rattle.elements.specs.Inner.Search.{fails_at, SearchesItems}
-use Rattle.elements.specs.Inner.Rules.{Standing, SettledBy, SearchesTemplate, SearchesClause}
+use Rattle.elements.specs.Inner.Rules.{Standing, SearchesTemplate, SearchesClause}
 
 pub template_searched : (s : List ℕ) (from : ℕ) (c : Clause) (words : List ℕ) (sets : List (List ℕ)) (n : ℕ) (takes : List (List ℕ))
     → ((φs : List Items) (G : Summary) (M : Morphism) (X : Sets) → length φs < 32 → Bounded φs G → Keeps words G → SetsAre φs M X sets → GapSetsAre φs G M X n takes)

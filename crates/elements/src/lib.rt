@@ -212,11 +212,8 @@ fn search_items(
             }
             ItemHere::Blank(next) => here = next,
             ItemHere::End(next) => {
-                return FoundItems {
-                    set: line.set,
-                    wrong,
-                    next,
-                };
+                let set = line.set;
+                return FoundItems { set, wrong, next };
             }
         }
     }
@@ -277,7 +274,9 @@ fn settle_by(
     requires { IfSome at_hand (λ last. SettledBy last s.now graph.now templates.now.starts templates.now.count sets.old) }
     ensures { SettledBy scheme s.now graph.now templates.now.starts templates.now.count sets.new }
 {
-    if at_hand == Some(scheme) {
+    if let Some(last) = at_hand
+        && last == scheme
+    {
         return;
     }
     languages::settle(s, scheme, graph, templates, sets);

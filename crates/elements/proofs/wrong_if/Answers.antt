@@ -1,5 +1,5 @@
 -- By the answer.
-use mathlib.Core.Path.{sym, ◌∙◌}
+use mathlib.Core.Path.{◌∙◌}
 use Rattle.elements.proofs.Searches.{told_where}
 use Rattle.elements.proofs.wrong_if.Goals as goal
 
