@@ -1,19 +1,16 @@
 -- What is held of a template that is just loaded, against the graph of an entry.
-use Prim.Native.Nat.{ℕ, ◌+◌, ◌-◌, ◌<◌}
+use Prim.Native.Nat.{ℕ}
 use mathlib.Core.Path.{◌≡◌, refl, sym, ◌∙◌}
 use mathlib.Core.List.{List}
-use mathlib.Core.Bool.{Bool, true, false, cond, false≢true}
-use native.Mathlib.Omega.{arith}
-use lib.Dec.{eqb, ltb}
-use borrow.Author.Tests.{eq-eqb, eqb-true, ltb-true, ltb-false, lt-ltb, le-ltb}
+use mathlib.Core.Bool.{true}
+use borrow.Author.Tests.{eq-eqb}
 use Rattle.sets.specs.Sets.{member}
 use Rattle.pages.specs.Items.{Items}
-use Rattle.pages.specs.Inner.Gaps.{has_gap, has_attribute_gap, GapsAre}
-use Rattle.summaries.specs.Proposal.{root, edge, string, gap_from, attribute_gap_from}
+use Rattle.pages.specs.Inner.Gaps.{GapsAre}
+use Rattle.summaries.specs.Proposal.{root}
 use Rattle.summaries.specs.Summaries.{Summary, Within, fragment}
 use Rattle.graphs.specs.Inner.Graphs.{holds, Keeps}
 use Rattle.entries.specs.Inner.Entries.{origin_of}
-use Rattle.sets.proofs.Booleans.{and_both, and_left, and_right}
 
 -- It is a root, and an origin of each of its gaps.
 abbrev pub Origin : List ℕ → ℕ → ℕ → ℕ → Type 0

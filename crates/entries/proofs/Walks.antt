@@ -6,9 +6,8 @@ use Rattle.commands.specs.declared.Context.{Context}
 use Rattle.commands.specs.declared.Position.{Position}
 use Rattle.summaries.specs.Proposal.{Holding}
 use Rattle.summaries.specs.declared.Claim.{Claim}
-use Rattle.summaries.specs.declared.StringClaim.{StringClaim}
 use Rattle.std.specs.Prelude.{Option, Some}
-use Rattle.summaries.specs.Inner.Listed.{Listed, meaning_of, string_meaning_of, ClaimMoves, StringMoves, Moves}
+use Rattle.summaries.specs.Inner.Listed.{Listed, meaning_of, ClaimMoves, Moves}
 use Rattle.summaries.proofs.Steps.{First}
 
 module _ (x : Context) (s : List ℕ) where

@@ -1,8 +1,5 @@
 use mathlib.Core.Path.{sym, ◌∙◌}
 use mathlib.Core.Bool.{false≢true}
-use native.Mathlib.Omega.{arith}
-use borrow.Author.Count.{below_more}
-use Rattle.entries.proofs.Tests.{decided_true, decided_false}
 use Rattle.entries.proofs.Fragments.{fragment_root}
 use Rattle.entries.proofs.fragment_holds.Goals as goal
 

@@ -1,6 +1,5 @@
 use mathlib.Core.Path.{ap}
 use mathlib.Core.Bool.{not}
-use native.Mathlib.Omega.{arith}
 use Rattle.summaries.proofs.Steps.{claims_first, claims_end}
 use Rattle.entries.proofs.Walks.{claim_moves}
 use Rattle.entries.proofs.Gathering.{pass_goes, pass_fails, pass_ends}

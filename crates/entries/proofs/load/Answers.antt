@@ -1,5 +1,3 @@
-use native.Mathlib.Omega.{arith}
-use Rattle.entries.proofs.Walks.{claim_moves}
 use Rattle.entries.proofs.Loading.{load_goes, load_ends}
 use Rattle.entries.proofs.load.Goals as goal
 

@@ -1,5 +1,5 @@
 -- By the way of passing.
-use Rattle.entries.proofs.PassingOn.{all_pass, roots_stay_out}
+use Rattle.entries.proofs.PassingOn.{roots_stay_out}
 use Rattle.entries.proofs.pass.Goals as goal
 
 pub returns-in-WithoutRoots : goal.returns-in-WithoutRoots

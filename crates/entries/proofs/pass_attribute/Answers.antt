@@ -1,5 +1,5 @@
 -- Strings are added at the origins, which are taken out then.
-use Rattle.entries.proofs.PassingOn.{no_attribute, attribute_filled}
+use Rattle.entries.proofs.PassingOn.{attribute_filled}
 use Rattle.entries.proofs.pass_attribute.Goals as goal
 
 pub returns : goal.returns

@@ -1,5 +1,5 @@
 -- Edges are added at the origins, which are taken out then.
-use Rattle.entries.proofs.PassingOn.{no_gap, gap_plugged}
+use Rattle.entries.proofs.PassingOn.{gap_plugged}
 use Rattle.entries.proofs.pass_gap.Goals as goal
 
 pub returns : goal.returns

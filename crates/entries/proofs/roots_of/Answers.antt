@@ -1,4 +1,3 @@
-use native.Mathlib.Omega.{arith}
 use Rattle.sets.specs.Sets.{member}
 use Rattle.sets.proofs.Laws.{member_zero}
 use Rattle.commands.specs.declared.Context.TheVariants.{TemplateHoldings}

@@ -1,9 +1,8 @@
-use native.Mathlib.Omega.{arith}
 use Rattle.strings.specs.Inner.Promises.{holds_value}
 use Rattle.summaries.specs.Summaries.{says_string}
 use Rattle.commands.specs.declared.Context.TheVariants.{StringHoldings}
 use Rattle.summaries.proofs.Steps.{strings_end}
-use Rattle.entries.proofs.Gathering.{gather_begins, gather_string, gather_ends}
+use Rattle.entries.proofs.Gathering.{gather_string, gather_ends}
 use Rattle.entries.proofs.strings_of.Goals as goal
 
 pub loop-item-preserved : goal.loop-item-preserved

@@ -1,5 +1,3 @@
-use native.Mathlib.Omega.{arith}
-use Rattle.entries.proofs.Walks.{claim_moves}
 use Rattle.entries.proofs.Loading.{unload_goes, unload_ends}
 use Rattle.entries.proofs.unload.Goals as goal
 
