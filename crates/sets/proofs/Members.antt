@@ -9,7 +9,7 @@ use lib.Dec.{eqb, ltb, lit<}
 use lib.Pow.{shr_le}
 use borrow.Author.Tests.{eq-eqb, ne_eqb, ltb-true, ltb-false}
 use Rattle.sets.specs.Sets.{member}
-use Rattle.sets.specs.Inner.Promises.{FirstMember, MemberFrom}
+use Rattle.sets.specs.Inner.Promises.{MemberFrom}
 use Rattle.sets.proofs.Laws.{member_zero, member_high, member_head, member_tail, member_shift, same_members}
 
 -- A number doubled, with a lowest bit.
@@ -66,40 +66,6 @@ module _ (word from : ℕ) (h : from < 64) where
   shifted x l =
       let s : from + (x - from) ≡ x = omega arith in
       ap (member word) (sym s) ∙ sym (member_shift word from (x - from))
-
-  pub none_after : word / 2 ^ from ≡ 0 → FirstMember word from 64
-  none_after e = record {
-    after = omega arith;
-    within = omega arith;
-    is_held = λ l. absurd (omega arith);
-    skips = λ x l m. shifted x l ∙ ap (λ (n : ℕ). member n (x - from)) e ∙ member_zero (x - from);
-  }
-
-  pub first_after : word < 2 ^ 64 → (word / 2 ^ from ≡ 0 → ⊥) → FirstMember word from (from + count_trailing_zeros 64 (word / 2 ^ from))
-  first_after b ne = record {
-    after = omega arith;
-    within = within;
-    is_held = λ l. is_held;
-    skips = λ x l m. shifted x l ∙ trailing_skips 64 rest (x - from) (omega arith);
-  }
-    where
-      rest : ℕ
-      rest = word / 2 ^ from
-
-      below : count_trailing_zeros 64 (word / 2 ^ from) < 64
-      below = trailing_below (word / 2 ^ from) (let l : word / 2 ^ from ≤ word = shr_le word from in omega arith) ne
-
-      is_held : member word (from + count_trailing_zeros 64 (word / 2 ^ from)) ≡ true
-      is_held = sym (member_shift word from (count_trailing_zeros 64 (word / 2 ^ from))) ∙ trailing_held 64 (word / 2 ^ from) below
-
-      go : (t : Bool) → ltb 64 (from + count_trailing_zeros 64 (word / 2 ^ from)) ≡ t → from + count_trailing_zeros 64 (word / 2 ^ from) ≤ 64
-      go true e =
-          let l : 64 < from + count_trailing_zeros 64 (word / 2 ^ from) = ltb-true 64 (from + count_trailing_zeros 64 (word / 2 ^ from)) e in
-          absurd (false≢true (sym (member_high 64 word (from + count_trailing_zeros 64 (word / 2 ^ from)) b (omega arith)) ∙ is_held))
-      go false e = ltb-false 64 (from + count_trailing_zeros 64 (word / 2 ^ from)) e
-
-      within : from + count_trailing_zeros 64 (word / 2 ^ from) ≤ 64
-      within = go (ltb 64 (from + count_trailing_zeros 64 (word / 2 ^ from))) refl
 
   pub no_rest : word / 2 ^ from ≡ 0 → (k : ℕ) → from ≤ k → member word k ≡ false
   no_rest e k l = shifted k l ∙ ap (λ (n : ℕ). member n (k - from)) e ∙ member_zero (k - from)

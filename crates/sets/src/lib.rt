@@ -3,7 +3,7 @@
 
 ghost use Rattle.std.specs.Prelude.{◌≡◌, not, ◌&&◌, ◌||◌, ℕ, ◌≤◌, ◌<◌, eqb};
 ghost use Rattle.sets.specs.Sets.{member};
-ghost use Rattle.sets.specs.Inner.Promises.{MembersWithin, FirstMember, NextMember};
+ghost use Rattle.sets.specs.Inner.Promises.{MembersWithin, NextMember};
 
 pub fn has(set: u64, i: u8) -> bool
     requires { i < 64 }
@@ -63,18 +63,6 @@ pub fn is_within(a: u64, b: u64) -> bool
     ensures { MembersWithin a b result }
 {
     a & b == a
-}
-
-// The first member at a place or after it, or 64 where there is none.
-pub fn first_member(word: u64, from: u32) -> u32
-    requires { from < 64 }
-    ensures { FirstMember word from result }
-{
-    let rest = word >> from;
-    if rest == 0 {
-        return 64;
-    }
-    from + u64::trailing_zeros(rest)
 }
 
 // The first member at a place or after it.

@@ -16,13 +16,6 @@ abbrev pub MembersWithin : ℕ → ℕ → Bool → Type 0
 MembersWithin a b true = (k : ℕ) → member a k ≡ true → member b k ≡ true
 MembersWithin a b false = (k : ℕ) × (k < word_size) × (member a k ≡ true) × (member b k ≡ false)
 
--- The first member of a word at a place or after it, or 64 where there is none.
-pub record FirstMember (word from first : ℕ) : Type 0 where
-  pub after : from ≤ first
-  pub within : first ≤ word_size
-  pub is_held : first < word_size → member word first ≡ true
-  pub skips : (x : ℕ) → from ≤ x → x < first → member word x ≡ false
-
 -- A member at a place or after it, with none in between.
 pub record MemberFrom (set from n : ℕ) : Type 0 where
   pub after : from ≤ n
