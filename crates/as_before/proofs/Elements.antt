@@ -1,4 +1,5 @@
 -- The numbers of a wrong element are no others, and the wrong element of a page and of a show is the same one.
+use Rattle.std.specs.Prelude.{Some, None}
 use Prim.Native.Nat.{ℕ, ◌≤◌}
 use native.Mathlib.Omega.{arith}
 use mathlib.Core.Path.{◌≡◌, refl}
@@ -15,9 +16,7 @@ use Rattle.vocabularies.proofs.Laws.{rule_found}
 use Rattle.pages.specs.Items.{Items}
 use Rattle.pages.specs.RightPages.{ElementRight, ElementWrong, WrongAt, FirstBreach}
 use Rattle.pages.specs.PageVerdict.{Readable}
-use Rattle.judging.specs.declared.FirstWrong.{FirstWrong}
-use Rattle.judging.specs.declared.FirstWrong.TheVariants.{Nowhere, At}
-use Rattle.judging.specs.Inner.Judgement.{first_wrong}
+use Rattle.judging.specs.Inner.Judgement.{FirstWrong, first_wrong}
 use Rattle.summaries.specs.Summaries.{Environment}
 use Rattle.jobs.specs.Job.{Script}
 use Rattle.jobs.specs.JobVerdict.{NotRootAt, WrongIn}
@@ -85,15 +84,15 @@ module _ {v q : List ℕ} {D : Vocabulary} {page : Items} (R : Readable v q D pa
   told_in_page at s l = go (first_wrong D page) refl
     where
       go : (x : FirstWrong) → first_wrong D page ≡ x → (c : Breach) × FirstBreach (WrongAt D at page) c
-      go Nowhere e = let (b, w) = in_page at s in absurd (nothing_wrong D page e at b w)
-      go (At m c) e =
+      go None e = let (b, w) = in_page at s in absurd (nothing_wrong D page e at b w)
+      go (Some w) e =
           let rise = page_marks_rise D q page R.page_end R.page_reads in
-          let told = first_wrong_lem D page 0 R.page_end rise m c e in
-          let (b, w) = in_page at s in
-          let below = lowest D page 0 R.page_end rise m c e at b w in
-          let above = l m (wrong_not_right_at D page m c (first_told told)) in
-          let same : m ≡ at = omega arith in
-          (c, rw same at told)
+          let told = first_wrong_lem D page 0 R.page_end rise w.at w.breach e in
+          let (b, v) = in_page at s in
+          let below = lowest D page 0 R.page_end rise w.at w.breach e at b v in
+          let above = l w.at (wrong_not_right_at D page w.at w.breach (first_told told)) in
+          let same : w.at ≡ at = omega arith in
+          (w.breach, rw same at told)
 
 -- ---- shows
 

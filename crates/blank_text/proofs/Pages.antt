@@ -1,4 +1,5 @@
 -- The verdict of a page that is read, and that of its bytes without blank text.
+use Rattle.std.specs.Prelude.{Some, None}
 use Prim.Native.Nat.{ℕ}
 use native.Mathlib.Omega.{arith}
 use mathlib.Core.Path.{◌≡◌, sym, ap, subst, subst₂, ◌∙◌}
@@ -19,9 +20,7 @@ use Rattle.pages.specs.Items.{Item, Items, without_blank}
 use Rattle.pages.specs.ItemReading.{page_slice}
 use Rattle.pages.specs.RightPages.{word}
 use Rattle.pages.specs.PageVerdict.{Readable, PageVerdict}
-use Rattle.judging.specs.declared.FirstWrong.{FirstWrong}
-use Rattle.judging.specs.declared.FirstWrong.TheVariants.{Nowhere, At}
-use Rattle.judging.specs.Inner.Judgement.{breach_by, or_else, of_element, first_wrong, first_wrong_item, is_alone, wrong_verdict, judged, page_verdict}
+use Rattle.judging.specs.Inner.Judgement.{FirstWrong, breach_by, or_else, of_element, first_wrong, first_wrong_item, is_alone, wrong_verdict, judged, page_verdict}
 use Rattle.agreement.proofs.Verdicts.{page_verdict_is, judged_of, computes}
 use Rattle.round_trip.specs.Written.{written_items, written_page, marked}
 use Rattle.round_trip.proofs.Exact.{page_exactly}
@@ -34,8 +33,8 @@ use Rattle.blank_text.proofs.Ranges.{tree_there, shorter, like_anew}
 
 -- The first wrong element here and there: none, or one that breaks the same.
 data SameFirst : FirstWrong → FirstWrong → Type 0 where
-  nowhere : SameFirst Nowhere Nowhere
-  somewhere : {at at' : ℕ} {b : Breach} → SameFirst (At at b) (At at' b)
+  nowhere : SameFirst None None
+  somewhere : {at at' : ℕ} {b : Breach} → SameFirst (Some (record { at = at; breach = b })) (Some (record { at = at'; breach = b }))
 
 one_after_other : {u u' w w' : FirstWrong} → SameFirst u u' → SameFirst w w' → SameFirst (or_else u w) (or_else u' w')
 one_after_other nowhere f = f

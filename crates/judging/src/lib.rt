@@ -91,32 +91,29 @@ impl Held {
     fn and(self, second: Held) -> Held
         ensures { result ≡ record { value = self.value && second.value; next = second.next } }
     {
-        if self.value {
-            return second;
+        Held {
+            value: self.value && second.value,
+            next: second.next,
         }
-        let next = second.next;
-        Held { value: false, next }
     }
 
     // Whether it is so of one of them.
     fn or(self, second: Held) -> Held
         ensures { result ≡ record { value = self.value || second.value; next = second.next } }
     {
-        if !self.value {
-            return second;
+        Held {
+            value: self.value || second.value,
+            next: second.next,
         }
-        let next = second.next;
-        Held { value: true, next }
     }
 
     // Whether it is not so of this formula.
     fn not(self) -> Held
         ensures { result ≡ record { value = not self.value; next = self.next } }
     {
-        let next = self.next;
         Held {
             value: !self.value,
-            next,
+            next: self.next,
         }
     }
 }
