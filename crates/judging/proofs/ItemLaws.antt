@@ -20,6 +20,8 @@ use Rattle.pages.specs.ItemReading.{items}
 use Rattle.pages.specs.RightPages.{word, word_item}
 use Rattle.pages.specs.Inner.Steps.{item_here}
 use Rattle.pages.proofs.Steps.{no_attribute, text_first, blank_first, gap_first, element_first, end_first, text_item, blank_item, gap_item, element_item, no_item}
+use Rattle.judging.specs.declared.Known.{Known}
+use Rattle.judging.specs.declared.Standing.{Standing}
 use Rattle.judging.specs.declared.Contents.{Contents}
 use Rattle.judging.specs.declared.Judged.{Judged}
 use Rattle.judging.specs.declared.Listed.{Listed}
@@ -57,7 +59,7 @@ module _ (D : Vocabulary) (p : List ℕ) where
     -- An element: itself, by the tests of its rule, before those inside it.
     module _ (v allowed held from : List ℕ) (T : Tabled v D allowed held from) (e : ℕ) (start : Position) (opens : h ≡ Element e start)
         (named : Named) (strings : List ℕ) (N : Names p start.at named strings)
-        (list : Listed) (order : List (List ℕ)) (L : JudgesItems D p named.next.at list order)
+        (list : Listed) (order : List Standing) (L : JudgesItems D p named.next.at list order)
         (outcome : Values.Option Breach) (R : TellsOutcome v (rule_at allowed held from e) (record { names = named.names; contents = list.contents }) strings order outcome) where
       pub element_judged : JudgesItem D p at (record { next = list.next; wrong = of_element (broken_by outcome) at list.wrong })
       unfolding first_wrong_item
@@ -85,15 +87,15 @@ module _ (D : Vocabulary) (p : List ℕ) where
       finds : first_wrong D φ ≡ or_else wrong (first_wrong D left)
 
     -- Where judging has come, of a list that reads.
-    pub record Judging (order : List (List ℕ)) (at : ℕ) (inside : Contents) (wrong : FirstWrong) : Type 0 where
+    pub record Judging (order : List Standing) (at : ℕ) (inside : Contents) (wrong : FirstWrong) : Type 0 where
       before : List ℕ
       contains : Containing before inside.set order inside.count
       left : Left before wrong at
 
-    pub all_left : (f at : ℕ) (order : List (List ℕ)) → items f Page ruled p depth at ≡ whole φ end → Containing [] 0 order 0 → Judging order at (record { set = 0; count = 0 }) None
+    pub all_left : (f at : ℕ) (order : List Standing) → items f Page ruled p depth at ≡ whole φ end → Containing [] 0 order 0 → Judging order at (record { set = 0; count = 0 }) None
     all_left f at order e C = record { before = []; contains = C; left = record { fuel = f; left = φ; reads = e; is = refl; finds = refl } }
 
-    module _ (order : List (List ℕ)) (at : ℕ) (inside : Contents) (wrong : FirstWrong) (J : Judging order at inside wrong) (h : ItemHere) (is : h ≡ item_here p at) where
+    module _ (order : List Standing) (at : ℕ) (inside : Contents) (wrong : FirstWrong) (J : Judging order at inside wrong) (h : ItemHere) (is : h ≡ item_here p at) where
       pub list_ends : (next : Position) → h ≡ End next → ItemsJudged D φ end (record { contents = inside.set; next = next; wrong = wrong }) order
       unfolding word first_wrong
       list_ends next e =
@@ -108,7 +110,7 @@ module _ (D : Vocabulary) (p : List ℕ) where
           }
 
       -- An item more, with its contents: one, or none.
-      module _ (cs : List ℕ) (r : Contents) (last : List (List ℕ)) (next : ℕ)
+      module _ (cs : List ℕ) (r : Contents) (last : List Standing) (next : ℕ)
           (add : (w : List ℕ) → Containing w inside.set order inside.count → Containing (w ++ cs) r.set last r.count) where
         item_left : (fuel : ℕ) (i : Item) (rest : Items) → J.left.left ≡ more i rest → ((w : List ℕ) → word_item i w ≡ cs ++ w)
             → items fuel Page ruled p depth next ≡ whole rest end → (w : FirstWrong) → or_else wrong (first_wrong_item D i) ≡ w → Judging last next r w
@@ -127,7 +129,7 @@ module _ (D : Vocabulary) (p : List ℕ) where
           };
         }
 
-      pub text_more : (next : Position) → h ≡ Text next → (r : Contents) (last : List (List ℕ))
+      pub text_more : (next : Position) → h ≡ Text next → (r : Contents) (last : List Standing)
           → ((w : List ℕ) → Containing w inside.set order inside.count → Containing (w ++ (0 ∷ [])) r.set last r.count) → Judging last next.at r wrong
       unfolding word_item first_wrong_item
       text_more next e r last one =
@@ -147,7 +149,7 @@ module _ (D : Vocabulary) (p : List ℕ) where
           let L = J.left in
           no_template (gap_first L.fuel Page ruled p depth at L.left end L.reads h is g next e).in_template
 
-      pub element_more : (x : ℕ) (start : Position) → h ≡ Element x start → (i : Judged) → JudgesItem D p at i → (r : Contents) (last : List (List ℕ))
+      pub element_more : (x : ℕ) (start : Position) → h ≡ Element x start → (i : Judged) → JudgesItem D p at i → (r : Contents) (last : List Standing)
           → ((w : List ℕ) → Containing w inside.set order inside.count → Containing (w ++ (x ∷ [])) r.set last r.count)
           → Judging last i.next.at r (or_else wrong i.wrong)
       unfolding word_item
@@ -159,7 +161,7 @@ module _ (D : Vocabulary) (p : List ℕ) where
           (rw (← j.finds))
 
 -- The state of the walk over a list.
-pub record Going (v attributes contents clauses p : List ℕ) (at₀ : ℕ) (order shapes : List (List ℕ)) (at : ℕ) (inside : Contents) (wrong : FirstWrong) : Type 0 where
+pub record Going (v attributes contents clauses p : List ℕ) (at₀ : ℕ) (order : List Standing) (shapes : List Known) (at : ℕ) (inside : Contents) (wrong : FirstWrong) : Type 0 where
   pub forward : at₀ ≤ at
   pub room : length order ≡ 64
   pub counted : Counted inside
@@ -168,7 +170,7 @@ pub record Going (v attributes contents clauses p : List ℕ) (at₀ : ℕ) (ord
       → Judging D p depth φ end order at inside wrong
 
 -- Over blank text nothing else changes.
-pub going_blank : (v attributes contents clauses p : List ℕ) (at₀ : ℕ) (order shapes : List (List ℕ)) (at : ℕ) (inside : Contents) (wrong : FirstWrong)
+pub going_blank : (v attributes contents clauses p : List ℕ) (at₀ : ℕ) (order : List Standing) (shapes : List Known) (at : ℕ) (inside : Contents) (wrong : FirstWrong)
     → Going v attributes contents clauses p at₀ order shapes at inside wrong → (h : ItemHere) → h ≡ item_here p at → (next : Position) → h ≡ Blank next → at < next.at
     → Going v attributes contents clauses p at₀ order shapes next.at inside wrong
 going_blank v attributes contents clauses p at₀ order shapes at inside wrong g h is next e on = record {

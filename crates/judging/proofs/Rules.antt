@@ -22,6 +22,7 @@ use Rattle.verdicts.specs.declared.Breach.{Breach}
 use Rattle.verdicts.specs.declared.Breach.TheVariants.{Content, Clause}
 use Rattle.verdicts.specs.declared.Breach.TheVariants as Breaches
 use Rattle.judging.specs.declared.Shape.{Shape}
+use Rattle.judging.specs.declared.Standing.{Standing}
 use Rattle.vocabularies.specs.declared.Rule.{Rule}
 use Rattle.judging.specs.Inner.Judgement.{Atoms, truth_of, atoms_of, all_in, broken_if, or_first, first_failing, is_false, breach_under, precedes, holds_value}
 use Rattle.judging.specs.Inner.Promises.{first_place, last_place, table_atoms, broken_by, FirstFails, Naming, Containing, TellsOutcome}
@@ -77,7 +78,7 @@ module _ (A B : Atoms) (s : Same A B) where
   same_failing k [] = refl
   same_failing k (ψ ∷ ψs) = ap₂ or_first (ap (λ (t : Bool). broken_if (not t) (Clause k)) (same_truth ψ)) (same_failing (suc k) ψs)
 
-module _ (δ : List Attribute) (w : List ℕ) (shape : Shape) (strings : List ℕ) (order : List (List ℕ)) (count : ℕ)
+module _ (δ : List Attribute) (w : List ℕ) (shape : Shape) (strings : List ℕ) (order : List Standing) (count : ℕ)
     (N : Naming δ shape.names strings) (C : Containing w shape.contents order count) where
   order_same : (c d : ℕ) → (member shape.contents c && (member shape.contents d && ltb (first_place order d) (last_place order c))) ≡ precedes w d c
   order_same c d = by_test (is_in c w)
@@ -127,7 +128,7 @@ module _ (δ : List Attribute) (w : List ℕ) (shape : Shape) (strings : List �
           ) e
 
 -- What the three tests tell, in the code's order.
-module _ (v : List ℕ) (rule : Rule) (shape : Shape) (strings : List ℕ) (order : List (List ℕ)) where
+module _ (v : List ℕ) (rule : Rule) (shape : Shape) (strings : List ℕ) (order : List Standing) where
   pub names_fail : (t : Bool) → MembersWithin shape.names rule.attributes t → t ≡ false → TellsOutcome v rule shape strings order (Some Breaches.Attribute)
   names_fail t h e R δ w count T N C = names_wrong δ w shape strings order count N C v R _ _ _ T (subst (MembersWithin shape.names rule.attributes) e h)
 

@@ -6,7 +6,7 @@ use mathlib.Core.Bool.{Bool, true, false, not, ◌&&◌, false≢true}
 use mathlib.Core.Option.{Option, some, none}
 use native.Mathlib.Numerals.{add-one}
 use native.Mathlib.Omega.{arith}
-use lib.ListN.{length, get_or, set, replicate, length-set}
+use lib.ListN.{length, get_or, set, replicate, length-set, get_or-replicate}
 use lib.Seq.{get_or-set_same, get_or-set_other}
 use lib.Dec.{eqb, ltb}
 use borrow.Author.Tests.{eqb-true, eqb-false}
@@ -15,8 +15,10 @@ use Rattle.commands.specs.Commands.{byte}
 use Rattle.verdicts.specs.declared.Breach.{Breach}
 use Rattle.verdicts.specs.declared.Breach.TheVariants.{Clause}
 use Rattle.judging.specs.declared.Shape.{Shape}
+use Rattle.judging.specs.declared.Known.{Known}
+use Rattle.judging.specs.declared.Standing.{Standing}
 use Rattle.judging.specs.Inner.Judgement.{Atoms}
-use Rattle.judging.specs.Inner.Promises.{first_place, last_place, table_atoms, Holds, Shaped, Decides, FirstFails, NoneFails, Settled, Remembered}
+use Rattle.judging.specs.Inner.Promises.{first_place, last_place, table_atoms, Holds, Shaped, Decides, FirstFails, NoneFails, Settled, Remembered, unknown}
 use Rattle.judging.proofs.Booleans.{by_test}
 use Rattle.judging.proofs.Clauses.{past_left, none_left, first_fails, first_holds}
 
@@ -26,7 +28,7 @@ unordered true false z e = refl
 unordered true true z e = absurd (false≢true (sym e))
 
 -- The tables of an element have its shape.
-pub table_shaped : (shape : Shape) (strings : List ℕ) (order : List (List ℕ)) → Shaped shape (table_atoms shape strings order)
+pub table_shaped : (shape : Shape) (strings : List ℕ) (order : List Standing) → Shaped shape (table_atoms shape strings order)
 table_shaped shape strings order = record {
   attrs = λ a. refl;
   contents = λ c. refl;
@@ -80,33 +82,22 @@ module _ {A : Atoms} {shape : Shape} {v : List ℕ} {from at place settled : ℕ
 pub end_settled : (v : List ℕ) (shape : Shape) (to : ℕ) → length v ≤ to → Settled v shape to
 end_settled v shape to past = record { met = λ B S. past_left B v to past }
 
-module _ (v : List ℕ) (shape : Shape) where
-  pub known_settled : (shapes : List (List ℕ)) (k : ℕ) → Remembered v shapes → k < 64 → get_or (get_or shapes k []) 0 0 ≡ shape.names
-      → get_or (get_or shapes k []) 1 0 ≡ shape.contents → Settled v shape (get_or (get_or shapes k []) 2 0)
-  known_settled shapes k R small is is' =
-      subst (λ (c : ℕ). Settled v (record { names = shape.names; contents = c }) (get_or (get_or shapes k []) 2 0)) is'
-      (subst (λ (n : ℕ). Settled v (record { names = n; contents = get_or (get_or shapes k []) 1 0 }) (get_or (get_or shapes k []) 2 0)) is (R.settled k small))
-
-  -- One shape in place of another.
-  pub remembered_more : (shapes : List (List ℕ)) (k settled from : ℕ) → Remembered v shapes → k < 64 → Settled v shape settled
-      → Remembered v (set shapes k (shape.names ∷ shape.contents ∷ settled ∷ from ∷ []))
-  remembered_more shapes k settled from R small T = record {
-    long = length-set shapes k _ ∙ R.long;
-    settled = λ j low. by_test (eqb j k)
-        (λ q.
-        let z : j ≡ k = eqb-true j k q in
-        rw (z, get_or-set_same shapes k (shape.names ∷ shape.contents ∷ settled ∷ from ∷ []) [] (omega (arith, small, R.long))) T)
-        (λ q. rw (get_or-set_other shapes k j (shape.names ∷ shape.contents ∷ settled ∷ from ∷ []) [] (eqb-false j k q)) (R.settled j low));
-  }
-
-rows : (row : List ℕ) (n k : ℕ) → k < n → get_or (replicate n row) k [] ≡ row
-rows row zero k h = absurd (omega arith)
-rows row (suc n) zero h = refl
-rows row (suc n) (suc k) h = rows row n k (omega arith)
+-- One shape in place of another.
+pub remembered_more : (v : List ℕ) (shapes : List Known) (k : ℕ) (known : Known) → Remembered v shapes → k < 64 → Settled v known.shape known.settled
+    → Remembered v (set shapes k known)
+remembered_more v shapes k known R small T = record {
+  long = length-set shapes k known ∙ R.long;
+  settled = λ j low. by_test (eqb j k)
+      (λ q.
+      let z : j ≡ k = eqb-true j k q in
+      rw (z, get_or-set_same shapes k known unknown (omega (arith, small, R.long))) T)
+      (λ q. rw (get_or-set_other shapes k j known unknown (eqb-false j k q)) (R.settled j low));
+}
 
 -- Before the first element.
-pub nothing_remembered : (v : List ℕ) → Remembered v (replicate 64 (0 ∷ 0 ∷ length v ∷ 0 ∷ []))
+pub nothing_remembered : (v : List ℕ) → Remembered v (replicate 64 (record { shape = record { names = 0; contents = 0 }; settled = length v; clauses = 0 }))
 nothing_remembered v = record {
   long = refl;
-  settled = λ k low. rw (rows (0 ∷ 0 ∷ length v ∷ 0 ∷ []) 64 k low) (end_settled v _ (length v) (omega arith));
+  settled = λ k low. rw (get_or-replicate 64 k (record { shape = record { names = 0; contents = 0 }; settled = length v; clauses = 0 }) unknown low)
+      (end_settled v _ (length v) (omega arith));
 }

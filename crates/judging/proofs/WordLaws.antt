@@ -1,6 +1,6 @@
 -- Words of contents, one content at a time.
 use Prim.Native.Nat.{ℕ, ◌+◌, ◌^◌, ◌≤◌, ◌<◌}
-use mathlib.Core.Path.{◌≡◌, refl, sym, ◌∙◌}
+use mathlib.Core.Path.{◌≡◌, refl, sym, ap, ◌∙◌}
 use mathlib.Core.List.{List, [], ◌∷◌, ◌++◌}
 use mathlib.Core.Bool.{Bool, true, false, cond, not, ◌&&◌, ◌||◌, and-false, or-false, or-true, or_comm, false≢true}
 use native.Mathlib.Omega.{arith}
@@ -14,7 +14,8 @@ use Rattle.sets.proofs.Laws.{member_zero, member_high}
 use Rattle.sets.proofs.Counts.{count_more}
 use Rattle.vocabularies.specs.Vocabulary.{is_in}
 use Rattle.judging.specs.Inner.Judgement.{precedes}
-use Rattle.judging.specs.Inner.Promises.{first_place, last_place, Containing}
+use Rattle.judging.specs.declared.Standing.{Standing}
+use Rattle.judging.specs.Inner.Promises.{nowhere, first_place, last_place, Containing}
 use Rattle.judging.proofs.Booleans.{by_test, or_then_left, or_then_right}
 
 -- The members of a word are below its width.
@@ -75,21 +76,27 @@ precedes_more d k c (x ∷ w) =
     (regrouped (eqb x d) (is_in k w) (eqb k c) (precedes w d k) (is_in d w))
 
 -- One content more, behind all others: it stands last there, and first too, if it was not inside. Then it is counted.
-module _ (w : List ℕ) (contents : ℕ) (order : List (List ℕ)) (count : ℕ) (C : Containing w contents order count) (c : ℕ) (room : c < length order)
+module _ (w : List ℕ) (contents : ℕ) (order : List Standing) (count : ℕ) (C : Containing w contents order count) (c : ℕ) (room : c < length order)
     (r : ℕ) (with_content : (k : ℕ) → member r k ≡ (eqb k c || member contents k))
     (first : ℕ) (is_first : first ≡ cond (is_in c w) (first_place order c) count)
     (count' : ℕ) (is_count : count' ≡ cond (is_in c w) count (count + 1)) where
-  abbrev more : List (List ℕ)
-  more = set order c (first ∷ count ∷ [])
+  abbrev here : Standing
+  here = record { first = first; last = count }
+
+  abbrev more : List Standing
+  more = set order c here
 
   abbrev longer : List ℕ
   longer = w ++ (c ∷ [])
 
-  row_here : get_or more c [] ≡ first ∷ count ∷ []
-  row_here = get_or-set_same order c (first ∷ count ∷ []) [] room
+  row_here : get_or more c nowhere ≡ here
+  row_here = get_or-set_same order c here nowhere room
 
-  row_other : (k : ℕ) → (k ≡ c → ⊥) → get_or more k [] ≡ get_or order k []
-  row_other k n = get_or-set_other order c k (first ∷ count ∷ []) [] n
+  row_other : (k : ℕ) → (k ≡ c → ⊥) → get_or more k nowhere ≡ get_or order k nowhere
+  row_other k n = get_or-set_other order c k here nowhere n
+
+  first_here : first_place more c ≡ first
+  first_here = ap (λ (row : Standing). row.first) row_here
 
   in_before : (k : ℕ) → is_in k longer ≡ true → eqb k c ≡ false → is_in k w ≡ true
   in_before k is e = or_then_left (is_in k w) (eqb k c) e (sym (is_in_more k c w) ∙ is)
@@ -107,17 +114,17 @@ module _ (w : List ℕ) (contents : ℕ) (order : List (List ℕ)) (count : ℕ)
   first_more k is = by_test (eqb k c)
       (λ e.
       let q : k ≡ c = eqb-true k c e in
-      rw (q, row_here) (is_first ∙ rw (← q, is)))
-      (λ e. rw (row_other k (eqb-false k c e)))
+      rw q (first_here ∙ is_first ∙ rw (← q, is)))
+      (λ e. ap (λ (row : Standing). row.first) (row_other k (eqb-false k c e)))
 
   first_new : is_in c w ≡ false → first_place more c ≡ count
-  first_new out = rw row_here (is_first ∙ rw out)
+  first_new out = first_here ∙ is_first ∙ rw out
 
   last_here : last_place more c ≡ count
-  last_here = rw row_here
+  last_here = ap (λ (row : Standing). row.last) row_here
 
   last_other : (k : ℕ) → eqb k c ≡ false → last_place more k ≡ last_place order k
-  last_other k e = rw (row_other k (eqb-false k c e))
+  last_other k e = ap (λ (row : Standing). row.last) (row_other k (eqb-false k c e))
 
   first_within : (k : ℕ) → is_in k longer ≡ true → first_place more k < count'
   first_within k is = by_test (is_in k w)
@@ -171,7 +178,7 @@ counted_more set r count c small out with_content counted =
     omega arith
 
 -- The tables of no content: any will do.
-pub no_content_lem : (order : List (List ℕ)) → Containing [] 0 order 0
+pub no_content_lem : (order : List Standing) → Containing [] 0 order 0
 unfolding is_in
 no_content_lem order = record {
   has = λ k. member_zero k;

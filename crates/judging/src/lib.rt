@@ -22,10 +22,19 @@ struct Held {
 }
 
 // The attributes and the contents of an element, as sets.
-#[derive(Clone, Copy)]
+#[derive(Clone, Copy, PartialEq, Eq)]
 pub struct Shape {
     pub names: u64,
     pub contents: u64,
+}
+
+// What is known of a shape: the offset from which on all elements of that shape meet all clauses, and where the clauses stand of the rule
+// for which that was found.
+#[derive(Clone, Copy)]
+pub struct Known {
+    pub shape: Shape,
+    pub settled: usize,
+    pub clauses: usize,
 }
 
 // The first clause that fails, if one does, and the offset from which on all elements of the same shape meet all clauses.
@@ -71,20 +80,13 @@ pub struct Contents {
     pub count: u8,
 }
 
-// A row of the table of the order: how many different contents stand before the first of a kind, and how many before the last.
-const FIRST: usize = 0;
-
-const LAST: usize = 1;
-
-// A row of the table of shapes: a shape's attributes and contents, the offset from which on all elements of that shape meet all clauses, and
-// where the clauses stand of the rule for which that was found.
-const SHAPE_NAMES: usize = 0;
-
-const SHAPE_CONTENTS: usize = 1;
-
-const SETTLED_FROM: usize = 2;
-
-const RULE_CLAUSES: usize = 3;
+// Where the contents of a kind stand in an element: how many different contents stand before the first of them, and how many before the
+// last.
+#[derive(Clone, Copy)]
+pub struct Standing {
+    pub first: u8,
+    pub last: u8,
+}
 
 impl Held {
     // Whether it is so of this formula and of the one after it.
@@ -119,7 +121,7 @@ impl Held {
 }
 
 // No d stands before a c.
-fn is_ordered(contents: u64, order: &[[u8; 2]; 64], c: u8, d: u8) -> bool
+fn is_ordered(contents: u64, order: &[Standing; 64], c: u8, d: u8) -> bool
     ensures { result ≡ not (member contents c && (member contents d && ltb (first_place order.now d) (last_place order.now c))) }
 {
     if !sets::is_member(contents, c) {
@@ -130,7 +132,7 @@ fn is_ordered(contents: u64, order: &[[u8; 2]; 64], c: u8, d: u8) -> bool
     }
     let i = c as usize;
     let j = d as usize;
-    order[i][LAST] <= order[j][FIRST]
+    order[i].last <= order[j].first
 }
 
 // Attribute a is absent, or has a string of the set m.
@@ -145,7 +147,7 @@ fn is_absent_or_valued(names: u64, strings: &[u8; 32], a: u8, m: StringSet) -> b
 }
 
 // Whether the formula here holds of an element with these tables. The forms stand in the order of source 000's grammar.
-fn holds(v: &[u8], here: Position, shape: Shape, strings: &[u8; 32], order: &[[u8; 2]; 64]) -> Held
+fn holds(v: &[u8], here: Position, shape: Shape, strings: &[u8; 32], order: &[Standing; 64]) -> Held
     ensures forward { here.at ≤ result.next.at }
     ensures truth { Holds (table_atoms shape strings.now order.now) v.now here.at result.value result.next.at }
 {
@@ -244,7 +246,7 @@ fn first_failing(
     to: usize,
     shape: Shape,
     strings: &[u8; 32],
-    order: &[[u8; 2]; 64],
+    order: &[Standing; 64],
 ) -> Met
     requires { Settled v.now shape to }
     ensures first { FirstFails (table_atoms shape strings.now order.now) v.now from.at 0 (broken_by result.breach) }
@@ -285,11 +287,19 @@ fn first_failing(
 }
 
 // The table of shapes before the first element: no clauses stand from the end of the bytes on.
-pub fn no_shapes(v: &[u8]) -> [[u64; 4]; 64]
+pub fn no_shapes(v: &[u8]) -> [Known; 64]
     ensures { Remembered v.now result }
 {
-    let none = [0u64, 0u64, v.len() as u64, 0u64];
-    [none; 64]
+    let shape = Shape {
+        names: 0,
+        contents: 0,
+    };
+    let nothing = Known {
+        shape,
+        settled: v.len(),
+        clauses: 0,
+    };
+    [nothing; 64]
 }
 
 // The place in the table of shapes of an element with this shape, whose rule has its clauses at an offset. Any would do; shapes that
@@ -304,27 +314,21 @@ fn shape_place(shape: Shape, from: usize) -> usize
 
 // The offset from which on all elements of this shape are known to meet all clauses, by what stands at a place of the table for the rule
 // that has its clauses at `from`; the end of the bytes, where nothing stands there for it.
-fn settled_from(v: &[u8], shapes: &[[u64; 4]; 64], place: usize, shape: Shape, from: usize) -> usize
+fn settled_from(v: &[u8], shapes: &[Known; 64], place: usize, shape: Shape, from: usize) -> usize
     requires { (place < 64) × Remembered v.now shapes.now }
     ensures { Settled v.now shape result }
 {
     let known = shapes[place];
-    if known[SHAPE_NAMES] != shape.names {
-        return v.len();
+    if known.shape == shape && known.clauses == from {
+        return known.settled;
     }
-    if known[SHAPE_CONTENTS] != shape.contents {
-        return v.len();
-    }
-    if known[RULE_CLAUSES] != from as u64 {
-        return v.len();
-    }
-    known[SETTLED_FROM] as usize
+    v.len()
 }
 
 // That offset is kept at the place, for elements that come later.
 fn remember(
     v: &[u8],
-    shapes: &mut [[u64; 4]; 64],
+    shapes: &mut [Known; 64],
     place: usize,
     shape: Shape,
     from: usize,
@@ -333,8 +337,11 @@ fn remember(
     requires { (place < 64) × Remembered v.now shapes.old × Settled v.now shape settled }
     ensures { Remembered v.now shapes.new }
 {
-    let known = [shape.names, shape.contents, settled as u64, from as u64];
-    shapes[place] = known;
+    shapes[place] = Known {
+        shape,
+        settled,
+        clauses: from,
+    };
 }
 
 // Whether an element with these tables is right under a rule, or what it breaks: an attribute before a content, a content before a clause.
@@ -343,8 +350,8 @@ fn outcome_of(
     rule: Rule,
     shape: Shape,
     strings: &[u8; 32],
-    order: &[[u8; 2]; 64],
-    shapes: &mut [[u64; 4]; 64],
+    order: &[Standing; 64],
+    shapes: &mut [Known; 64],
 ) -> Option<Breach>
     requires { Remembered v.now shapes.old }
     ensures outcome { TellsOutcome v.now rule shape strings.now order.now result }
@@ -393,7 +400,7 @@ fn read_attributes(p: &[u8], here: Position, strings: &mut [u8; 32]) -> Named
 }
 
 // One content more, behind those inside.
-fn add_content(order: &mut [[u8; 2]; 64], inside: Contents, c: u8) -> Contents
+fn add_content(order: &mut [Standing; 64], inside: Contents, c: u8) -> Contents
     requires { (length order.old ≡ 64) × (c < 64) × Counted inside }
     ensures long { length order.new ≡ 64 }
     ensures counted { Counted result }
@@ -402,13 +409,13 @@ fn add_content(order: &mut [[u8; 2]; 64], inside: Contents, c: u8) -> Contents
     let i = c as usize;
     let count = inside.count;
     if sets::has(inside.set, c) {
-        let first = order[i][FIRST];
-        let again = [first, count];
-        order[i] = again;
+        order[i].last = count;
         return inside;
     }
-    let new = [count, count];
-    order[i] = new;
+    order[i] = Standing {
+        first: count,
+        last: count,
+    };
     let set = sets::with(inside.set, c);
     let counted = count + 1;
     Contents {
@@ -454,7 +461,7 @@ pub fn judge_item(
     clauses: &[usize; 64],
     p: &[u8],
     here: Position,
-    shapes: &mut [[u64; 4]; 64],
+    shapes: &mut [Known; 64],
 ) -> Judged
     requires { Remembered v.now shapes.old }
     ensures remembered { Remembered v.now shapes.new }
@@ -468,7 +475,7 @@ pub fn judge_item(
     let mut strings = [0u8; 32];
     let named = read_attributes(p, start, &mut strings);
     let inside = named.next;
-    let mut order = [[0u8; 2]; 64];
+    let mut order = [Standing { first: 0, last: 0 }; 64];
     let list = judge_items(
         v, attributes, contents, clauses, p, inside, &mut order, shapes,
     );
@@ -500,8 +507,8 @@ fn judge_items(
     clauses: &[usize; 64],
     p: &[u8],
     here: Position,
-    order: &mut [[u8; 2]; 64],
-    shapes: &mut [[u64; 4]; 64],
+    order: &mut [Standing; 64],
+    shapes: &mut [Known; 64],
 ) -> Listed
     requires { (length order.old ≡ 64) × Remembered v.now shapes.old }
     ensures remembered { Remembered v.now shapes.new }

@@ -22,6 +22,8 @@ use Rattle.pages.specs.ItemReading.{attributes, item, items}
 use Rattle.pages.specs.RightPages.{names, word}
 use Rattle.pages.specs.Inner.Steps.{attribute_here}
 use Rattle.judging.specs.declared.Shape.{Shape}
+use Rattle.judging.specs.declared.Known.{Known}
+use Rattle.judging.specs.declared.Standing.{Standing}
 use Rattle.vocabularies.specs.declared.Rule.{Rule}
 use Rattle.judging.specs.declared.Named.{Named}
 use Rattle.judging.specs.declared.Contents.{Contents}
@@ -31,15 +33,18 @@ use Rattle.judging.specs.Inner.Judgement.{Atoms, truth_of, precedes, holds_value
 
 -- The table of an element's order. A place is a number of different contents: so many stand before the first of a kind, and before
 -- the last.
-abbrev pub first_place : List (List ℕ) → ℕ → ℕ
-first_place order c = get_or (get_or order c []) 0 0
+abbrev pub nowhere : Standing
+nowhere = record { first = 0; last = 0 }
 
-abbrev pub last_place : List (List ℕ) → ℕ → ℕ
-last_place order c = get_or (get_or order c []) 1 0
+abbrev pub first_place : List Standing → ℕ → ℕ
+first_place order c = (get_or order c nowhere).first
+
+abbrev pub last_place : List Standing → ℕ → ℕ
+last_place order c = (get_or order c nowhere).last
 
 -- What the tables of an element stand for: the sets of its attributes' names and of its contents, the string of each name, and the
 -- order of its contents.
-abbrev pub table_atoms : Shape → List ℕ → List (List ℕ) → Atoms
+abbrev pub table_atoms : Shape → List ℕ → List Standing → Atoms
 table_atoms shape strings order = record {
   attr = λ a. member shape.names a;
   content = λ c. member shape.contents c;
@@ -83,14 +88,16 @@ NoneFails A v at = (k : ℕ) → FirstFails A v at k none
 pub record Settled (v : List ℕ) (shape : Shape) (to : ℕ) : Type 0 where
   pub met : (A : Atoms) → Shaped shape A → NoneFails A v to
 
--- A row of the table of shapes: attributes and contents, and an offset from which on all elements of that shape meet all clauses. Its last
--- number tells for which rule the row was made; the row holds of any.
-abbrev pub SettledRow : List ℕ → List ℕ → Type 0
-SettledRow v row = Settled v (record { names = get_or row 0 0; contents = get_or row 1 0 }) (get_or row 2 0)
+-- What is known of a shape holds of any rule, also of one for which it was not found.
+abbrev pub SettledRow : List ℕ → Known → Type 0
+SettledRow v known = Settled v known.shape known.settled
 
-pub record Remembered (v : List ℕ) (shapes : List (List ℕ)) : Type 0 where
+abbrev pub unknown : Known
+unknown = record { shape = record { names = 0; contents = 0 }; settled = 0; clauses = 0 }
+
+pub record Remembered (v : List ℕ) (shapes : List Known) : Type 0 where
   pub long : length shapes ≡ 64
-  pub settled : (k : ℕ) → k < 64 → SettledRow v (get_or shapes k [])
+  pub settled : (k : ℕ) → k < 64 → SettledRow v (get_or shapes k unknown)
 
 -- The tables of attributes.
 pub record Naming (δ : List Attribute) (named : ℕ) (strings : List ℕ) : Type 0 where
@@ -102,7 +109,7 @@ abbrev pub Counted : Contents → Type 0
 Counted inside = inside.count ≤ count_below word_size (member inside.set)
 
 -- The tables of a word of contents, and how many are counted; where a content is not in the word, its row tells nothing.
-pub record Containing (w : List ℕ) (contents : ℕ) (order : List (List ℕ)) (count : ℕ) : Type 0 where
+pub record Containing (w : List ℕ) (contents : ℕ) (order : List Standing) (count : ℕ) : Type 0 where
   pub has : (c : ℕ) → member contents c ≡ is_in c w
   pub before : (c : ℕ) → is_in c w ≡ true → (first_place order c < count) × (last_place order c ≤ count)
   pub ordered : (c d : ℕ) → is_in c w ≡ true → is_in d w ≡ true → ltb (first_place order d) (last_place order c) ≡ precedes w d c
@@ -113,7 +120,7 @@ Names p at r strings = (f end : ℕ) (δ : List Attribute) → attributes f Page
     → (r.next.at ≡ end) × Naming δ r.names strings
 
 -- What an element breaks of a rule.
-abbrev pub TellsOutcome : List ℕ → Rule → Shape → List ℕ → List (List ℕ) → Values.Option Breach → Type 0
+abbrev pub TellsOutcome : List ℕ → Rule → Shape → List ℕ → List Standing → Values.Option Breach → Type 0
 TellsOutcome v rule shape strings order r = (R : Vocabularies.Rule) (δ : List Attribute) (w : List ℕ) (count : ℕ)
     → RuleTables v R rule.attributes rule.contents rule.clauses.at → Naming δ shape.names strings
     → Containing w shape.contents order count → broken_by r ≡ breach_under R δ w
@@ -143,12 +150,12 @@ abbrev pub JudgesItem : Vocabulary → List ℕ → ℕ → Judged → Type 0
 JudgesItem D p at r = (f depth end : ℕ) (i : Item) → item f Page (declared D.rules) p depth at ≡ whole i end → ItemJudged D i end r
 
 -- The contents of a list of items, its end, and its first wrong element.
-pub record ItemsJudged (D : Vocabulary) (φ : Items) (end : ℕ) (r : Listed) (order : List (List ℕ)) : Type 0 where
+pub record ItemsJudged (D : Vocabulary) (φ : Items) (end : ℕ) (r : Listed) (order : List Standing) : Type 0 where
   pub count : ℕ
   pub contains : Containing (word φ) r.contents order count
   pub ends : r.next.at ≡ end
   pub finds : r.wrong ≡ first_wrong D φ
 
-abbrev pub JudgesItems : Vocabulary → List ℕ → ℕ → Listed → List (List ℕ) → Type 0
+abbrev pub JudgesItems : Vocabulary → List ℕ → ℕ → Listed → List Standing → Type 0
 JudgesItems D p at r order = (f depth end : ℕ) (φ : Items) → items f Page (declared D.rules) p depth at ≡ whole φ end
     → ItemsJudged D φ end r order

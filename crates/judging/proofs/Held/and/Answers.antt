@@ -1,8 +1,0 @@
--- The second decides, if the first holds.
-use Rattle.judging.proofs.Held.and.Goals as goal
-
-pub returns-then-self : goal.returns-then-self
-returns-then-self c = rw c.if-self.true
-
-pub returns : goal.returns
-returns c = rw c.if-self.false
