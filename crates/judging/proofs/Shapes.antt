@@ -1,25 +1,21 @@
 -- What holds of all elements of a shape, whatever their strings and their order are.
-use Prim.Native.Nat.{ℕ, zero, suc, ◌+◌, ◌≤◌, ◌<◌}
+use Prim.Native.Nat.{ℕ, suc, ◌+◌, ◌≤◌, ◌<◌}
 use mathlib.Core.Path.{◌≡◌, refl, sym, ◌∙◌, subst}
-use mathlib.Core.List.{List, [], ◌∷◌}
+use mathlib.Core.List.{List}
 use mathlib.Core.Bool.{Bool, true, false, not, ◌&&◌, false≢true}
 use mathlib.Core.Option.{Option, some, none}
 use native.Mathlib.Numerals.{add-one}
 use native.Mathlib.Omega.{arith}
-use lib.ListN.{length, get_or, set, replicate, length-set, get_or-replicate}
-use lib.Seq.{get_or-set_same, get_or-set_other}
-use lib.Dec.{eqb, ltb}
-use borrow.Author.Tests.{eqb-true, eqb-false}
+use lib.ListN.{length, replicate, get_or-replicate}
+use lib.Dec.{ltb}
 use Rattle.sets.specs.Sets.{member}
 use Rattle.commands.specs.Commands.{byte}
 use Rattle.verdicts.specs.declared.Breach.{Breach}
 use Rattle.verdicts.specs.declared.Breach.TheVariants.{Clause}
 use Rattle.judging.specs.declared.Shape.{Shape}
-use Rattle.judging.specs.declared.Known.{Known}
 use Rattle.judging.specs.declared.Standing.{Standing}
 use Rattle.judging.specs.Inner.Judgement.{Atoms}
 use Rattle.judging.specs.Inner.Promises.{first_place, last_place, table_atoms, Holds, Shaped, Decides, FirstFails, NoneFails, Settled, Remembered, unknown}
-use Rattle.judging.proofs.Booleans.{by_test}
 use Rattle.judging.proofs.Clauses.{past_left, none_left, first_fails, first_holds}
 
 unordered : (x y z : Bool) → (x && y) ≡ false → not (x && (y && z)) ≡ true
@@ -81,18 +77,6 @@ module _ {A : Atoms} {shape : Shape} {v : List ℕ} {from at place settled : ℕ
 -- Past the end there are no clauses.
 pub end_settled : (v : List ℕ) (shape : Shape) (to : ℕ) → length v ≤ to → Settled v shape to
 end_settled v shape to past = record { met = λ B S. past_left B v to past }
-
--- One shape in place of another.
-pub remembered_more : (v : List ℕ) (shapes : List Known) (k : ℕ) (known : Known) → Remembered v shapes → k < 64 → Settled v known.shape known.settled
-    → Remembered v (set shapes k known)
-remembered_more v shapes k known R small T = record {
-  long = length-set shapes k known ∙ R.long;
-  settled = λ j low. by_test (eqb j k)
-      (λ q.
-      let z : j ≡ k = eqb-true j k q in
-      rw (z, get_or-set_same shapes k known unknown (omega (arith, small, R.long))) T)
-      (λ q. rw (get_or-set_other shapes k j known unknown (eqb-false j k q)) (R.settled j low));
-}
 
 -- Before the first element.
 pub nothing_remembered : (v : List ℕ) → Remembered v (replicate 64 (record { shape = record { names = 0; contents = 0 }; settled = length v; clauses = 0 }))

@@ -2,12 +2,12 @@
 use Prim.Native.Nat.{ℕ, ◌+◌, ◌^◌, ◌≤◌, ◌<◌}
 use mathlib.Core.Path.{◌≡◌, refl, sym, ap, ◌∙◌}
 use mathlib.Core.List.{List, [], ◌∷◌, ◌++◌}
-use mathlib.Core.Bool.{Bool, true, false, cond, not, ◌&&◌, ◌||◌, and-false, or-false, or-true, or_comm, false≢true}
+use mathlib.Core.Bool.{Bool, true, false, cond, ◌&&◌, ◌||◌, and-false, or-false, or-true, or_comm, false≢true}
 use native.Mathlib.Omega.{arith}
 use lib.ListN.{length, get_or, set}
 use lib.Seq.{get_or-set_same, get_or-set_other}
-use lib.Dec.{eqb, leb, ltb}
-use borrow.Author.Tests.{eq-eqb, ne_eqb, eqb-true, eqb-false, ltb-true, ltb-false, lt-ltb, le-ltb, le-leb, lt-leb}
+use lib.Dec.{eqb, ltb}
+use borrow.Author.Tests.{eq-eqb, ne_eqb, eqb-true, eqb-false, ltb-true, ltb-false, lt-ltb, le-ltb}
 use Rattle.sets.specs.Sets.{member}
 use Rattle.sets.specs.Inner.Promises.{count_below}
 use Rattle.sets.proofs.Laws.{member_zero, member_high}
@@ -23,12 +23,6 @@ pub member_small : (set k : ℕ) → set < 2 ^ 64 → member set k ≡ true → 
 member_small set k fits is = by_test (ltb k 64)
     (λ e. ltb-true k 64 e)
     (λ e. absurd (false≢true (sym (member_high 64 set k fits (ltb-false k 64 e)) ∙ is)))
-
--- At most is not above.
-pub at_most : (a b : ℕ) → leb a b ≡ not (ltb b a)
-at_most a b = by_test (ltb b a)
-    (λ e. rw (e, lt-leb a b (ltb-true b a e)))
-    (λ e. rw (e, le-leb a b (ltb-false b a e)))
 
 -- What is not in the word follows nothing in it.
 pub none_precedes : (w : List ℕ) (d c : ℕ) → is_in c w ≡ false → precedes w d c ≡ false

@@ -1,22 +1,7 @@
 use native.Mathlib.Omega.{arith}
-use Rattle.vocabularies.proofs.Laws.{told, onward, no_walk}
+use Rattle.vocabularies.proofs.Laws.{told, onward}
 use Rattle.judging.proofs.Evaluation.{conj_held, disj_held, neg_held, truth_held, attr_held, content_held, order_held, value_held}
 use Rattle.judging.proofs.+holds.Goals as goal
-
-pub holds-first-requires : goal.holds-first-requires
-holds-first-requires t c = let o = onward (told _ _ c.formula_here-formula.ensures c.in-Conj.is) in (omega (arith, o.0, o.1), tt)
-
-pub holds-second-requires : goal.holds-second-requires
-holds-second-requires t c = let o = onward (told _ _ c.formula_here-formula.ensures c.in-Conj.is) in (omega (arith, o.0, o.1, c.holds-first.ensures.forward), tt)
-
-pub holds-first-requires-in-Disj : goal.holds-first-requires-in-Disj
-holds-first-requires-in-Disj t c = let o = onward (told _ _ c.formula_here-formula.ensures c.in-Disj.is) in (omega (arith, o.0, o.1), tt)
-
-pub holds-second-requires-in-Disj : goal.holds-second-requires-in-Disj
-holds-second-requires-in-Disj t c = let o = onward (told _ _ c.formula_here-formula.ensures c.in-Disj.is) in (omega (arith, o.0, o.1, c.holds-first-in-Disj.ensures.forward), tt)
-
-pub holds-only-requires : goal.holds-only-requires
-holds-only-requires t c = let o = onward (told _ _ c.formula_here-formula.ensures c.in-Neg.is) in (omega (arith, o.0, o.1), tt)
 
 pub returns-in-Conj : goal.returns-in-Conj
 returns-in-Conj t c = let B = told _ _ c.formula_here-formula.ensures c.in-Conj.is in
@@ -78,9 +63,3 @@ returns-in-Value t c = let B = told _ _ c.formula_here-formula.ensures c.in-Valu
       forward = omega (arith, (onward B).1);
       truth = value_held _ B c.is_absent_or_valued.ensures;
     }
-
-pub returns-in-Nothing : goal.returns-in-Nothing
-returns-in-Nothing t c = record {
-  forward = omega arith;
-  truth = no_walk _ _ (told _ _ c.formula_here-formula.ensures c.in-Nothing.is) _ _;
-}

@@ -1,24 +1,9 @@
 use mathlib.Core.Path.{ap}
 use mathlib.Core.Bool.{not}
 use native.Mathlib.Omega.{arith}
-use Rattle.vocabularies.proofs.Laws.{told, onward, no_walk}
+use Rattle.vocabularies.proofs.Laws.{told, onward}
 use Rattle.judging.proofs.Evaluation.{conj_decided, disj_decided, neg_decided, truth_decided, attr_decided, content_decided, order_decided, value_decided}
 use Rattle.judging.proofs.+is_settled.Goals as goal
-
-pub is_settled-first-requires : goal.is_settled-first-requires
-is_settled-first-requires t c = let o = onward (told _ _ c.formula_here-formula.ensures c.in-Conj.is) in (omega (arith, o.0, o.1), tt)
-
-pub is_settled-second-requires : goal.is_settled-second-requires
-is_settled-second-requires t c = let o = onward (told _ _ c.formula_here-formula.ensures c.in-Conj.is) in (omega (arith, o.0, o.1, c.is_settled-first.ensures.forward), tt)
-
-pub is_settled-first-requires-in-Disj : goal.is_settled-first-requires-in-Disj
-is_settled-first-requires-in-Disj t c = let o = onward (told _ _ c.formula_here-formula.ensures c.in-Disj.is) in (omega (arith, o.0, o.1), tt)
-
-pub is_settled-second-requires-in-Disj : goal.is_settled-second-requires-in-Disj
-is_settled-second-requires-in-Disj t c = let o = onward (told _ _ c.formula_here-formula.ensures c.in-Disj.is) in (omega (arith, o.0, o.1, c.is_settled-first-in-Disj.ensures.forward), tt)
-
-pub is_settled-requires : goal.is_settled-requires
-is_settled-requires t c = let o = onward (told _ _ c.formula_here-formula.ensures c.in-Neg.is) in (omega (arith, o.0, o.1), tt)
 
 pub returns-in-Conj : goal.returns-in-Conj
 returns-in-Conj t c = let B = told _ _ c.formula_here-formula.ensures c.in-Conj.is in
@@ -79,9 +64,3 @@ returns-in-Value t c = let B = told _ _ c.formula_here-formula.ensures c.in-Valu
       forward = omega (arith, (onward B).1);
       settled = value_decided _ B (ap not c.is_member.ensures);
     }
-
-pub returns-in-Nothing : goal.returns-in-Nothing
-returns-in-Nothing t c = record {
-  forward = omega arith;
-  settled = no_walk _ _ (told _ _ c.formula_here-formula.ensures c.in-Nothing.is) _ _;
-}

@@ -23,9 +23,6 @@ judge_item-judge_items-list-requires t c = let m = (element_moves _ _ _ c.item_h
 pub judge_item-rule_of-rule-requires : goal.judge_item-rule_of-rule-requires
 judge_item-rule_of-rule-requires t c = let m = element_moves _ _ _ c.item_here-item.ensures.moves _ _ c.in-Element.is in omega (arith, m.1)
 
-pub judge_item-outcome_of-outcome-requires : goal.judge_item-outcome_of-outcome-requires
-judge_item-outcome_of-outcome-requires t c = c.judge_items-list.ensures.remembered
-
 pub judge_item-returns : goal.judge_item-returns
 judge_item-returns t c = let s = c.args in record {
   remembered = c.outcome_of-outcome.ensures.remembered;
@@ -47,9 +44,6 @@ judge_items-loop-next-init t c = record {
   remembered = c.requires.1;
   judging = λ D T f depth φ end e. all_left D _ depth φ end f _ _ e (no_content_lem _);
 }
-
-pub judge_items-add_content-inside-requires : goal.judge_items-add_content-inside-requires
-judge_items-add_content-inside-requires t c = (c.loop-next.invariant.room, omega arith, c.loop-next.invariant.counted)
 
 pub judge_items-loop-next-smaller-in-Text : goal.judge_items-loop-next-smaller-in-Text
 judge_items-loop-next-smaller-in-Text t c = let m = text_moves _ _ _ c.item_here-item.ensures.moves _ c.in-Text.is in omega (arith, m.inside, m.forward)
@@ -76,9 +70,6 @@ judge_items-loop-next-preserved-in-Gap t c = let m = gap_moves _ _ _ c.item_here
       remembered = c.loop-next.invariant.remembered;
       judging = λ D T f depth φ end e. gap_more D _ depth φ end _ _ _ _ (c.loop-next.invariant.judging D T f depth φ end e) c.item_here-item.result c.item_here-item.ensures.is _ _ c.in-Gap.is;
     }
-
-pub judge_items-judge_item-judged-requires : goal.judge_items-judge_item-judged-requires
-judge_items-judge_item-judged-requires t c = (omega arith, c.loop-next.invariant.remembered)
 
 pub judge_items-add_content-inside-requires-in-Element : goal.judge_items-add_content-inside-requires-in-Element
 judge_items-add_content-inside-requires-in-Element t c = let m = element_moves _ _ _ c.item_here-item.ensures.moves _ _ c.in-Element.is in

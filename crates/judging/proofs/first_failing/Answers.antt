@@ -4,9 +4,6 @@ use Rattle.commands.proofs.Laws.{past_over, past_other}
 use Rattle.judging.proofs.Shapes.{table_shaped, all_met, none_more, one_fails, one_more, one_settled, end_settled}
 use Rattle.judging.proofs.first_failing.Goals as goal
 
-pub loop-here-init : goal.loop-here-init
-loop-here-init c = record { few = omega arith; left = λ o h. h; settles = λ B S h. h }
-
 pub returns-in_default : goal.returns-in_default
 returns-in_default c = let a = c.args in
     let n = none_more c.loop-here.invariant (table_shaped a.shape a.strings.now a.order.now) (past_other _ _ _ _ c.past.ensures c.in_default.is (λ q. omega (arith, q))) in

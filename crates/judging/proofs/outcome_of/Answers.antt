@@ -14,15 +14,6 @@ returns-then-not-is_within-2 c = record {
   remembered = c.requires;
 }
 
-pub settled_from-to-requires : goal.settled_from-to-requires
-settled_from-to-requires c = (c.shape_place-place.ensures, c.requires)
-
-pub first_failing-met-requires : goal.first_failing-met-requires
-first_failing-met-requires c = c.settled_from-to.ensures
-
-pub remember-requires : goal.remember-requires
-remember-requires c = (c.shape_place-place.ensures, c.requires, c.first_failing-met.ensures.settled)
-
 pub returns : goal.returns
 returns c = record {
   outcome = clauses_decide _ _ _ _ _ _ _ c.is_within.ensures c.if-not-is_within.false c.is_within-2.ensures c.if-not-is_within-2.false

@@ -1,13 +1,10 @@
 use mathlib.Core.Path.{refl}
-use mathlib.Core.List.{[], ◌∷◌}
+use mathlib.Core.List.{◌∷◌}
 use native.Mathlib.Omega.{arith}
 use lib.ListN.{length-set}
 use Rattle.pages.proofs.Steps.{fixed_moves, open_moves}
 use Rattle.judging.proofs.AttributeLaws.{adds_all, none_added, fixed_added, open_added}
 use Rattle.judging.proofs.read_attributes.Goals as goal
-
-pub loop-name-init : goal.loop-name-init
-loop-name-init c = record { forward = omega arith; room = c.requires; earlier = []; goes = λ r last A. A }
 
 pub with-names-requires : goal.with-names-requires
 with-names-requires c = omega (arith, (fixed_moves _ _ _ c.attribute_here-attribute.ensures.moves _ _ _ c.in-Fixed.is).1)
