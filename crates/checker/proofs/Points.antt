@@ -37,6 +37,9 @@ closed j p source = closed_summary (made_from j p source)
 pub record RightLast (j : Job) (right : Option (List ℕ)) : Type 0 where
   pub is_right : (graph : List ℕ) → right ≡ Some graph → RightGraph j graph
 
+pub right_at : (j : Job) (graph : List ℕ) → RightGraph j graph → RightLast j (Some graph)
+right_at j graph R = record { is_right = λ g e. let q : graph ≡ g = cc in subst (RightGraph j) q R }
+
 -- A point whose statement stands at an offset.
 module _ (s heads gaps : List ℕ) (place p : ℕ) (j : Job) (stands : PointStands s heads gaps place p j) (what : Option Source) (tells : ShowsAt s place what) where
   pub shows_nothing : what ≡ None → ShowHolds j.script (entries j.proposal) p
