@@ -169,94 +169,90 @@ pub struct Patterned {
     pub next: Position,
 }
 
-// The set of the element e of template n whose attributes stand here: that of its one content, if its attributes have something to take
-// and the list inside it has a pattern.
-#[cycle(element_patterns_list_patterns)]
-fn element_patterns(
-    s: &[u8],
-    here: Position,
-    e: u8,
+// What the sets of items of template n are worked out with: a scheme, and what each gap takes.
+struct Walk<'a> {
+    s: &'a [u8],
     r: Scheme,
-    graph: &Graph,
+    graph: &'a Graph,
     n: usize,
-    takes: &[[u64; 4]; 8],
-) -> Patterned
-    requires { (e < 64) × (n < 32) }
-    ensures forward { here.at ≤ result.next.at }
-    ensures patterned { ElementPatterns s.now here.at e r graph.now n takes.now result }
-{
-    let filled = attributes_take(s, here, graph, n);
-    let after = filled.next;
-    if !filled.takes {
-        return Patterned {
-            set: pattern_sets::empty(),
-            next: after,
-        };
-    }
-    let inside = list_patterns(s, after, r, graph, n, takes);
-    let set = inside.set;
-    if pattern_sets::is_empty(set) {
-        return inside;
-    }
-    Patterned {
-        set: pattern_sets::only(schemes::single(r, e)),
-        next: inside.next,
-    }
+    takes: &'a [[u64; 4]; 8],
 }
 
-// The set of the items of template n from here on, up to what ends them: the product of the sets of the items, from what its gaps take.
-// As soon as an item has no pattern, the list has none.
-#[cycle(element_patterns_list_patterns)]
-fn list_patterns(
-    s: &[u8],
-    start: Position,
-    r: Scheme,
-    graph: &Graph,
-    n: usize,
-    takes: &[[u64; 4]; 8],
-) -> Patterned
-    requires { n < 32 }
-    ensures forward { start.at ≤ result.next.at }
-    ensures patterned { ListPatterns s.now start.at r graph.now n takes.now result }
-{
-    let mut line = line_of(pattern_sets::only(EMPTY));
-    let mut here = start;
-    loop {
-        match pages::item_here(s, here) {
-            ItemHere::Text(next) => {
-                here = next;
-                if sets::has(line.contents, TEXT) {
-                    let longer = with_content(r, line, TEXT);
-                    line = longer;
-                }
-            }
-            ItemHere::Gap(g, next) => {
-                here = next;
-                if sets::has(line.gaps, g) {
-                    let longer = with_gap(r, line, takes, g);
-                    let set = longer.set;
-                    if pattern_sets::is_empty(set) {
-                        return Patterned { set, next };
+impl Walk<'_> {
+    // The set of the element e whose attributes stand here: that of its one content, if its attributes have something to take and the list
+    // inside it has a pattern.
+    #[cycle(element_patterns_list_patterns)]
+    fn element_patterns(&self, here: Position, e: u8) -> Patterned
+        requires { (e < 64) × (self.now.n < 32) }
+        ensures forward { here.at ≤ result.next.at }
+        ensures patterned { ElementPatterns self.now.s.now here.at e self.now.r self.now.graph.now self.now.n self.now.takes.now result }
+    {
+        let filled = attributes_take(self.s, here, self.graph, self.n);
+        let after = filled.next;
+        if !filled.takes {
+            return Patterned {
+                set: pattern_sets::empty(),
+                next: after,
+            };
+        }
+        let inside = self.list_patterns(after);
+        let set = inside.set;
+        if pattern_sets::is_empty(set) {
+            return inside;
+        }
+        Patterned {
+            set: pattern_sets::only(schemes::single(self.r, e)),
+            next: inside.next,
+        }
+    }
+
+    // The set of the items from here on, up to what ends them: the product of the sets of the items, from what its gaps take. As soon as an
+    // item has no pattern, the list has none.
+    #[cycle(element_patterns_list_patterns)]
+    fn list_patterns(&self, start: Position) -> Patterned
+        requires { self.now.n < 32 }
+        ensures forward { start.at ≤ result.next.at }
+        ensures patterned { ListPatterns self.now.s.now start.at self.now.r self.now.graph.now self.now.n self.now.takes.now result }
+    {
+        let mut line = line_of(pattern_sets::only(EMPTY));
+        let mut here = start;
+        loop {
+            match pages::item_here(self.s, here) {
+                ItemHere::Text(next) => {
+                    here = next;
+                    if sets::has(line.contents, TEXT) {
+                        let longer = with_content(self.r, line, TEXT);
+                        line = longer;
                     }
-                    line = longer;
                 }
-            }
-            ItemHere::Element(e, inside) => {
-                let element = element_patterns(s, inside, e, r, graph, n, takes);
-                let set = element.set;
-                if pattern_sets::is_empty(set) {
-                    return element;
+                ItemHere::Gap(g, next) => {
+                    here = next;
+                    if sets::has(line.gaps, g) {
+                        let longer = with_gap(self.r, line, self.takes, g);
+                        let set = longer.set;
+                        if pattern_sets::is_empty(set) {
+                            return Patterned { set, next };
+                        }
+                        line = longer;
+                    }
                 }
-                here = element.next;
-                if sets::has(line.contents, e) {
-                    let longer = with_content(r, line, e);
-                    line = longer;
+                ItemHere::Element(e, inside) => {
+                    let element = self.element_patterns(inside, e);
+                    let set = element.set;
+                    if pattern_sets::is_empty(set) {
+                        return element;
+                    }
+                    here = element.next;
+                    if sets::has(line.contents, e) {
+                        let longer = with_content(self.r, line, e);
+                        line = longer;
+                    }
                 }
-            }
-            ItemHere::Blank(next) => here = next,
-            ItemHere::End(next) => {
-                let set = line.set;
-                return Patterned { set, next };
+                ItemHere::Blank(next) => here = next,
+                ItemHere::End(next) => {
+                    let set = line.set;
+                    return Patterned { set, next };
+                }
             }
         }
     }
@@ -278,7 +274,14 @@ fn template_patterns(
         return pattern_sets::only(EMPTY);
     }
     let takes = gaps_from(graph, sets, n);
-    list_patterns(s, Position::new(templates.starts[n]), r, graph, n, &takes).set
+    let walk = Walk {
+        s,
+        r,
+        graph,
+        n,
+        takes: &takes,
+    };
+    walk.list_patterns(Position::new(templates.starts[n])).set
 }
 
 // The templates to which template n has edges.

@@ -16,7 +16,8 @@ pub struct Outer {
     pub next: Position,
 }
 
-// The contents and the gaps among the outer items of every template.
+// The contents and the gaps among the outer items of every template: two tables, since edges go by the gaps alone and unions by the
+// contents alone.
 #[derive(Clone, Copy)]
 pub struct Outlines {
     pub contents: [u64; 32],
@@ -36,9 +37,7 @@ fn outline_element(s: &[u8], start: Position, e: u8, n: u8, table: &mut [u64; 64
     let i = e as usize;
     table[i] = sets::with(table[i], n);
     let inside = pages::after_attributes(s, start);
-    let list = outline_items(s, inside, n, table);
-    let next = list.next;
-    next
+    outline_items(s, inside, n, table).next
 }
 
 // The items from here on, of template n; their elements, at any depth, are put into the table.

@@ -115,13 +115,8 @@ fn carriable_names(s: &[u8], start: Position, graph: &Graph, n: usize) -> Carria
     let mut here = start;
     let mut names: u64 = 0;
     loop {
-        let attribute = pages::attribute_here(s, here);
-        match attribute {
-            AttributeHere::Fixed {
-                name,
-                string: _,
-                next,
-            } => {
+        match pages::attribute_here(s, here) {
+            AttributeHere::Fixed { name, next, .. } => {
                 here = next;
                 names = sets::with(names, name);
             }
@@ -155,7 +150,14 @@ pub struct WalkedItems {
 }
 
 // The element at an offset of template n, if it can carry an attribute that is not allowed, or else get a content that is not allowed.
-fn outside_at(n: usize, at: usize, names: u64, attributes: u64, inside: u64, contents: u64) -> Option<Wrong>
+fn outside_at(
+    n: usize,
+    at: usize,
+    names: u64,
+    attributes: u64,
+    inside: u64,
+    contents: u64,
+) -> Option<Wrong>
     ensures { TellsOutside n at names attributes inside contents result }
 {
     if !sets::is_within(names, attributes) {
@@ -175,89 +177,81 @@ fn outside_at(n: usize, at: usize, names: u64, attributes: u64, inside: u64, con
     None
 }
 
-// The element of template n whose attributes stand at `start`, under the rules whose tables are given; `brings` has the contents that each
-// gap can bring.
-#[cycle(walk_element_walk_items)]
-fn walk_element(
-    s: &[u8],
-    attributes: &[u64; 64],
-    contents: &[u64; 64],
-    graph: &Graph,
-    brings: &[u64; 8],
+// What the items of template n are walked over with: the rules by tables of their attributes and contents, and the contents that each gap
+// can bring.
+struct Walk<'a> {
+    s: &'a [u8],
+    attributes: &'a [u64; 64],
+    contents: &'a [u64; 64],
+    graph: &'a Graph,
+    brings: &'a [u64; 8],
     n: usize,
-    start: Position,
-) -> WalkedElement
-    requires { n < 32 }
-    ensures forward { start.at ≤ result.next.at }
-    ensures walked { WalksElement s.now attributes.now contents.now graph.now brings.now n start.at result }
-{
-    let carriable = carriable_names(s, start, graph, n);
-    let first = carriable.next;
-    let list = walk_items(s, attributes, contents, graph, brings, n, first);
-    let next = list.next;
-    let wrong = list.wrong;
-    WalkedElement {
-        names: carriable.names,
-        gets: union_of(list.inside, list.gaps, brings),
-        next,
-        wrong,
-    }
 }
 
-// The items from here on, of template n, up to and with what ends them.
-#[cycle(walk_element_walk_items)]
-fn walk_items(
-    s: &[u8],
-    attributes: &[u64; 64],
-    contents: &[u64; 64],
-    graph: &Graph,
-    brings: &[u64; 8],
-    n: usize,
-    start: Position,
-) -> WalkedItems
-    requires { n < 32 }
-    ensures forward { start.at ≤ result.next.at }
-    ensures walked { WalksItems s.now attributes.now contents.now graph.now brings.now n start.at result }
-{
-    let mut here = start;
-    let mut inside: u64 = 0;
-    let mut gaps: u64 = 0;
-    let mut wrong = None;
-    loop {
-        match pages::item_here(s, here) {
-            ItemHere::Text(next) => {
-                inside = sets::with(inside, TEXT);
-                here = next;
-            }
-            ItemHere::Gap(g, next) => {
-                gaps = sets::with(gaps, g);
-                here = next;
-            }
-            ItemHere::Element(e, first) => {
-                inside = sets::with(inside, e);
-                let element = walk_element(s, attributes, contents, graph, brings, n, first);
-                let i = e as usize;
-                let own = outside_at(
-                    n,
-                    here.at,
-                    element.names,
-                    attributes[i],
-                    element.gets,
-                    contents[i],
-                );
-                let inner = element.wrong;
-                let lowest = patterns::lower(own, inner);
-                wrong = patterns::lower(wrong, lowest);
-                here = element.next;
-            }
-            ItemHere::Blank(next) => here = next,
-            ItemHere::End(next) => {
-                return WalkedItems {
-                    inside,
-                    gaps,
-                    next,
-                    wrong,
-                };
+impl Walk<'_> {
+    // The element whose attributes stand at `start`.
+    #[cycle(walk_element_walk_items)]
+    fn walk_element(&self, start: Position) -> WalkedElement
+        requires { self.now.n < 32 }
+        ensures forward { start.at ≤ result.next.at }
+        ensures walked { WalksElement self.now.s.now self.now.attributes.now self.now.contents.now self.now.graph.now self.now.brings.now self.now.n start.at result }
+    {
+        let carriable = carriable_names(self.s, start, self.graph, self.n);
+        let list = self.walk_items(carriable.next);
+        WalkedElement {
+            names: carriable.names,
+            gets: union_of(list.inside, list.gaps, self.brings),
+            next: list.next,
+            wrong: list.wrong,
+        }
+    }
+
+    // The items from here on, up to and with what ends them.
+    #[cycle(walk_element_walk_items)]
+    fn walk_items(&self, start: Position) -> WalkedItems
+        requires { self.now.n < 32 }
+        ensures forward { start.at ≤ result.next.at }
+        ensures walked { WalksItems self.now.s.now self.now.attributes.now self.now.contents.now self.now.graph.now self.now.brings.now self.now.n start.at result }
+    {
+        let mut here = start;
+        let mut inside: u64 = 0;
+        let mut gaps: u64 = 0;
+        let mut wrong = None;
+        loop {
+            match pages::item_here(self.s, here) {
+                ItemHere::Text(next) => {
+                    inside = sets::with(inside, TEXT);
+                    here = next;
+                }
+                ItemHere::Gap(g, next) => {
+                    gaps = sets::with(gaps, g);
+                    here = next;
+                }
+                ItemHere::Element(e, first) => {
+                    inside = sets::with(inside, e);
+                    let element = self.walk_element(first);
+                    let i = e as usize;
+                    let own = outside_at(
+                        self.n,
+                        here.at,
+                        element.names,
+                        self.attributes[i],
+                        element.gets,
+                        self.contents[i],
+                    );
+                    let lowest = patterns::lower(own, element.wrong);
+                    wrong = patterns::lower(wrong, lowest);
+                    here = element.next;
+                }
+                ItemHere::Blank(next) => here = next,
+                ItemHere::End(next) => {
+                    return WalkedItems {
+                        inside,
+                        gaps,
+                        next,
+                        wrong,
+                    };
+                }
             }
         }
     }
@@ -319,17 +313,15 @@ fn wrong_in(
     ensures { TellsWrongIn s.now attributes.now contents.now at graph.now n within.now result }
 {
     let brings = brings_of(graph, n, within);
-    let walked = walk_items(
+    let walk = Walk {
         s,
         attributes,
         contents,
         graph,
-        &brings,
+        brings: &brings,
         n,
-        Position::new(at),
-    );
-    let wrong = walked.wrong;
-    wrong
+    };
+    walk.walk_items(Position::new(at)).wrong
 }
 
 // The lowest element of the templates of a set that is wrong by the attributes that it can carry or by its contents. `within` has the

@@ -8,20 +8,20 @@ use Rattle.occurrences.proofs.+outline_element_outline_items.Goals as goal
 pub outline_element-with-requires : goal.outline_element-with-requires
 outline_element-with-requires t c = c.requires.2
 
-pub outline_element-outline_items-list-requires : goal.outline_element-outline_items-list-requires
-outline_element-outline_items-list-requires t c = let pre = c.requires in
+pub outline_element-outline_items-requires : goal.outline_element-outline_items-requires
+outline_element-outline_items-requires t c = let pre = c.requires in
     (omega (arith, c.after_attributes-inside.ensures.forward), (simp length-set pre.0, pre.2))
 
 pub outline_element-returns : goal.outline_element-returns
 outline_element-returns t c = let args = c.args in
     let pre = c.requires in
     record {
-      forward = omega (arith, c.after_attributes-inside.ensures.forward, c.outline_items-list.ensures.forward);
-      long = c.outline_items-list.ensures.long;
-      keeps = λ m k T. c.outline_items-list.ensures.keeps m k (element_keeps args.table.now pre.0 args.n args.e pre.1 c.with.result c.with.ensures m k T);
+      forward = omega (arith, c.after_attributes-inside.ensures.forward, c.outline_items.ensures.forward);
+      long = c.outline_items.ensures.long;
+      keeps = λ m k T. c.outline_items.ensures.keeps m k (element_keeps args.table.now pre.0 args.n args.e pre.1 c.with.result c.with.ensures m k T);
       told = element_told args.s.now args.n args.start args.e c.after_attributes-inside.result c.after_attributes-inside.ensures.after _
           (element_stands args.table.now pre.0 args.n args.e pre.1 c.with.result c.with.ensures)
-          c.outline_items-list.result _ c.outline_items-list.ensures.keeps c.outline_items-list.ensures.told;
+          c.outline_items.result _ c.outline_items.ensures.keeps c.outline_items.ensures.told;
     }
 
 pub outline_items-loop-next-init : goal.outline_items-loop-next-init

@@ -2,16 +2,17 @@ use native.Mathlib.Omega.{arith}
 use borrow.Author.Rules.{rules}
 use Rattle.pages.proofs.Steps.{text_moves, blank_moves, gap_moves, element_moves, end_moves}
 use Rattle.reach.proofs.ListWalks.{adds_all, list_ends, list_text, list_blank, list_gap, list_element, element_walked}
-use Rattle.reach.proofs.+walk_element_walk_items.Goals as goal
+use Rattle.reach.proofs.Walk.+walk_element_walk_items.Goals as goal
 
 pub walk_element-walk_items-list-requires : goal.walk_element-walk_items-list-requires
 walk_element-walk_items-list-requires t c = (omega (arith, c.carriable_names-carriable.ensures.forward), search rules)
 
 pub walk_element-returns : goal.walk_element-returns
 walk_element-returns t c = let a = c.args in
+    let w = a.self.now in
     record {
       forward = omega (arith, c.walk_items-list.ensures.forward, c.carriable_names-carriable.ensures.forward);
-      walked = element_walked a.s.now a.attributes.now a.contents.now a.graph.now a.brings.now a.n a.start c.carriable_names-carriable.result c.carriable_names-carriable.ensures.carriable
+      walked = element_walked w.s.now w.attributes.now w.contents.now w.graph.now w.brings.now w.n a.start c.carriable_names-carriable.result c.carriable_names-carriable.ensures.carriable
           c.walk_items-list.result c.walk_items-list.ensures.walked c.union_of.result (omega arith) c.union_of.ensures;
     }
 

@@ -3,16 +3,16 @@
 use Prim.Native.Nat.{◌+◌, ◌-◌}
 use lib.ListN.{length}
 use Rattle.reach.proofs.ListWalks.{Going}
-use Rattle.reach.proofs.+walk_element_walk_items.Given as goal
+use Rattle.reach.proofs.Walk.+walk_element_walk_items.Given as goal
 
 abbrev pub decreases-walk_element : goal.decreases-walk_element
-decreases-walk_element l = (length l.s.now - l.start.at) + (length l.s.now - l.start.at) + 2
+decreases-walk_element l = (length l.self.now.s.now - l.start.at) + (length l.self.now.s.now - l.start.at) + 2
 
 abbrev pub decreases-walk_items : goal.decreases-walk_items
-decreases-walk_items l = (length l.s.now - l.start.at) + (length l.s.now - l.start.at) + 1
+decreases-walk_items l = (length l.self.now.s.now - l.start.at) + (length l.self.now.s.now - l.start.at) + 1
 
 abbrev pub invariant-walk_items-loop-next : goal.invariant-walk_items-loop-next
-invariant-walk_items-loop-next l = Going l.s l.attributes l.contents l.graph l.brings l.n l.initial.here.at l.here.at l.inside l.gaps l.wrong
+invariant-walk_items-loop-next l = Going l.self.s.now l.self.attributes.now l.self.contents.now l.self.graph.now l.self.brings.now l.self.n l.initial.here.at l.here.at l.inside l.gaps l.wrong
 
 abbrev pub decreases-walk_items-loop-next : goal.decreases-walk_items-loop-next
-decreases-walk_items-loop-next l = length l.s - l.here.at
+decreases-walk_items-loop-next l = length l.self.s.now - l.here.at
