@@ -170,6 +170,7 @@ pub struct Patterned {
 }
 
 // What the sets of items of template n are worked out with: a scheme, and what each gap takes.
+#[derive(Clone, Copy)]
 struct Walk<'a> {
     s: &'a [u8],
     r: Scheme,

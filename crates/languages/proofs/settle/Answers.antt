@@ -1,5 +1,5 @@
 use native.Mathlib.Omega.{arith}
-use Rattle.languages.proofs.Settling.{settling_begins, settling_goes, settled_first, less_left, one_left, no_sets}
+use Rattle.languages.proofs.Settling.{settling_begins, settling_goes, settled_first, less_left, no_sets}
 use Rattle.languages.proofs.settle.Goals as goal
 
 pub loop-r-init : goal.loop-r-init

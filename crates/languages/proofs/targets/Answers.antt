@@ -1,4 +1,3 @@
-use native.Mathlib.Omega.{arith}
 use Rattle.languages.proofs.RoundLaws.{targets_more}
 use Rattle.languages.proofs.targets.Goals as goal
 
