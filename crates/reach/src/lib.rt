@@ -179,6 +179,7 @@ fn outside_at(
 
 // What the items of template n are walked over with: the rules by tables of their attributes and contents, and the contents that each gap
 // can bring.
+#[derive(Clone, Copy)]
 struct Walk<'a> {
     s: &'a [u8],
     attributes: &'a [u64; 64],
@@ -198,9 +199,10 @@ impl Walk<'_> {
     {
         let carriable = carriable_names(self.s, start, self.graph, self.n);
         let list = self.walk_items(carriable.next);
+        let brings = self.brings;
         WalkedElement {
             names: carriable.names,
-            gets: union_of(list.inside, list.gaps, self.brings),
+            gets: union_of(list.inside, list.gaps, brings),
             next: list.next,
             wrong: list.wrong,
         }

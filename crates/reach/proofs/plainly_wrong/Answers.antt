@@ -1,6 +1,5 @@
 use mathlib.Core.Path.{sym, ◌∙◌}
 use mathlib.Core.Logic.{inl, inr}
-use native.Mathlib.Omega.{arith}
 use Rattle.reach.proofs.Templates.{looked_begin, looked_by, looked_next, looked_end}
 use Rattle.reach.proofs.plainly_wrong.Goals as goal
 use Rattle.reach.proofs.plainly_wrong.Goals.{then-has, else-has}

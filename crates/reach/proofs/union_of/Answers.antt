@@ -1,6 +1,5 @@
-use native.Mathlib.Omega.{arith}
 use mathlib.Core.Path.{ap, ◌∙◌}
-use mathlib.Core.Bool.{Bool, ◌||◌}
+use mathlib.Core.Bool.{◌||◌}
 use Prim.Native.Nat.{ℕ}
 use Rattle.sets.specs.Sets.{member}
 use Rattle.sets.proofs.Steps.{fewer_left}

@@ -1,5 +1,4 @@
 use mathlib.Core.Logic.{inl, inr}
-use native.Mathlib.Omega.{arith}
 use Rattle.reach.proofs.YieldingTemplates.{yielding_none, yielding_more, yielding_all}
 use Rattle.reach.proofs.yielding.Goals as goal
 

@@ -56,17 +56,17 @@ pub walk_items-walk_element-element-requires : goal.walk_items-walk_element-elem
 walk_items-walk_element-element-requires t c = let m = element_moves _ _ _ c.item_here.ensures.moves _ _ c.in-Element.is in
     (omega (arith, m.0.inside, m.0.forward, c.loop-next.invariant.forward), search rules)
 
-pub walk_items-offset_bounds-attributes-i : goal.walk_items-offset_bounds-attributes-i
-walk_items-offset_bounds-attributes-i t c = omega (arith, (element_moves _ _ _ c.item_here.ensures.moves _ _ c.in-Element.is).1)
+pub walk_items-offset_bounds-self-i : goal.walk_items-offset_bounds-self-i
+walk_items-offset_bounds-self-i t c = omega (arith, (element_moves _ _ _ c.item_here.ensures.moves _ _ c.in-Element.is).1)
 
-pub walk_items-bounds-attributes-i : goal.walk_items-bounds-attributes-i
-walk_items-bounds-attributes-i t c = omega (arith, (element_moves _ _ _ c.item_here.ensures.moves _ _ c.in-Element.is).1)
+pub walk_items-bounds-self-i : goal.walk_items-bounds-self-i
+walk_items-bounds-self-i t c = omega (arith, (element_moves _ _ _ c.item_here.ensures.moves _ _ c.in-Element.is).1)
 
-pub walk_items-offset_bounds-contents-i : goal.walk_items-offset_bounds-contents-i
-walk_items-offset_bounds-contents-i t c = omega (arith, (element_moves _ _ _ c.item_here.ensures.moves _ _ c.in-Element.is).1)
+pub walk_items-offset_bounds-self-i-in-Element : goal.walk_items-offset_bounds-self-i-in-Element
+walk_items-offset_bounds-self-i-in-Element t c = omega (arith, (element_moves _ _ _ c.item_here.ensures.moves _ _ c.in-Element.is).1)
 
-pub walk_items-bounds-contents-i : goal.walk_items-bounds-contents-i
-walk_items-bounds-contents-i t c = omega (arith, (element_moves _ _ _ c.item_here.ensures.moves _ _ c.in-Element.is).1)
+pub walk_items-bounds-self-i-in-Element : goal.walk_items-bounds-self-i-in-Element
+walk_items-bounds-self-i-in-Element t c = omega (arith, (element_moves _ _ _ c.item_here.ensures.moves _ _ c.in-Element.is).1)
 
 pub walk_items-loop-next-smaller-in-Element : goal.walk_items-loop-next-smaller-in-Element
 walk_items-loop-next-smaller-in-Element t c = let m = element_moves _ _ _ c.item_here.ensures.moves _ _ c.in-Element.is in
