@@ -7,7 +7,7 @@ ghost use Rattle.patterns.specs.Inner.Morphisms.{join_classes, root_morphism};
 ghost use Rattle.pattern_sets.specs.Inner.PatternSets.{holds};
 ghost use Rattle.pattern_sets.specs.Inner.Images.{Joined};
 ghost use Rattle.schemes.specs.Inner.Schemes.{content_of, StandsFor};
-ghost use Rattle.schemes.specs.Inner.Promises.{Places, PlacesPair, AllContents, AllPairs, KeepsFacts, SameScheme, FirstPlace, PatternOfOne, HasMore, BothHaveMore, Multiplies, Follows};
+ghost use Rattle.schemes.specs.Inner.Promises.{Places, PlacesPair, AllContents, AllPairs, KeepsFacts, FirstPlace, PatternOfOne, HasMore, BothHaveMore, Multiplies, Follows};
 
 use vocabularies::{Fact, Facts, MOST_FACTS};
 
@@ -120,13 +120,6 @@ pub fn root_scheme(root: u8) -> Scheme
         befores: [0u8; 8],
         afters: [0u8; 8],
     }
-}
-
-// Whether two schemes are the same, so that whatever the one stands for the other does too.
-pub fn same(a: Scheme, b: Scheme) -> bool
-    ensures { SameScheme a b result }
-{
-    a == b
 }
 
 // The first place of a content.

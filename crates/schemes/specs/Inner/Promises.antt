@@ -34,10 +34,6 @@ AllPairs in_first t r = OfFacts t (λ fs. Lists (pair_place in_first fs) most_fa
 abbrev pub KeepsFacts : Facts → Scheme → Type 0
 KeepsFacts t r = OfFacts t (λ fs. Distinct fs → StandsForFacts r fs)
 
--- Whatever the second stands for, the first one does too.
-abbrev pub SameScheme : Scheme → Scheme → Bool → Type 0
-SameScheme a b r = r ≡ true → (M : Morphisms.Morphism) → StandsFor b M → StandsFor a M
-
 -- The first place of a content.
 pub record FirstAt (contents : List ℕ) (c i : ℕ) : Type 0 where
   pub within : i < most_facts
