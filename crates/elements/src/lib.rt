@@ -132,88 +132,92 @@ fn has_pattern(takes: bool, inner: [u64; 4]) -> bool
     !pattern_sets::is_empty(inner)
 }
 
-// The element e here, of template n, whose attributes stand at `start`: itself, if it has the clause's name, and those inside it.
-#[cycle(search_element_search_items)]
-fn search_element(
-    s: &[u8],
-    here: Position,
-    e: u8,
-    start: Position,
+// What the items of template n are searched with: a clause, and what each gap takes.
+#[derive(Clone, Copy)]
+struct Search<'a> {
+    s: &'a [u8],
     clause: Clause,
     n: usize,
-    graph: &Graph,
-    takes: &[[u64; 4]; 8],
-) -> FoundElement
-    requires { n < 32 }
-    ensures forward { start.at ≤ result.next.at }
-    ensures searched { SearchesElement s.now here.at e start clause graph.now takes.now n result }
-{
-    if e != clause.element {
-        let filled = languages::attributes_take(s, start, graph, n);
-        let list = search_items(s, filled.next, clause, n, graph, takes);
-        return FoundElement {
-            yields: has_pattern(filled.takes, list.set),
-            wrong: list.wrong,
-            next: list.next,
-        };
-    }
-    let attributes = attribute_patterns(s, start, clause.facts, clause.scheme, graph, n);
-    let list = search_items(s, attributes.next, clause, n, graph, takes);
-    let fails = can_fail(s, clause, attributes.set, list.set);
-    let own = wrong_if(fails, n, here.at, clause.place);
-    FoundElement {
-        yields: has_pattern(attributes.takes, list.set),
-        wrong: patterns::lower(own, list.wrong),
-        next: list.next,
-    }
+    graph: &'a Graph,
+    takes: &'a [[u64; 4]; 8],
 }
 
-// The items from here on, of template n, up to and with what ends them: the lowest wrong element, and the patterns of the list, which
-// are the product of those of the items. After an item without a pattern there is none.
-#[cycle(search_element_search_items)]
-fn search_items(
-    s: &[u8],
-    start: Position,
-    clause: Clause,
-    n: usize,
-    graph: &Graph,
-    takes: &[[u64; 4]; 8],
-) -> FoundItems
-    requires { n < 32 }
-    ensures forward { start.at ≤ result.next.at }
-    ensures searched { SearchesItems s.now start.at clause graph.now takes.now n result }
-{
-    let scheme = clause.scheme;
-    let mut line = languages::line_of(pattern_sets::only(EMPTY));
-    let mut here = start;
-    let mut wrong = None;
-    loop {
-        match pages::item_here(s, here) {
-            ItemHere::Text(next) => {
-                here = next;
-                if sets::has(line.contents, TEXT) {
-                    let longer = languages::with_content(scheme, line, TEXT);
+impl Search<'_> {
+    // The element e here, whose attributes stand at `start`: itself, if it has the clause's name, and those inside it.
+    #[cycle(search_element_search_items)]
+    fn search_element(&self, here: Position, e: u8, start: Position) -> FoundElement
+        requires { self.now.n < 32 }
+        ensures forward { start.at ≤ result.next.at }
+        ensures searched { SearchesElement self.now.s.now here.at e start self.now.clause self.now.graph.now self.now.takes.now self.now.n result }
+    {
+        let clause = self.clause;
+        if e != clause.element {
+            let filled = languages::attributes_take(self.s, start, self.graph, self.n);
+            let list = self.search_items(filled.next);
+            return FoundElement {
+                yields: has_pattern(filled.takes, list.set),
+                wrong: list.wrong,
+                next: list.next,
+            };
+        }
+        let attributes = attribute_patterns(
+            self.s,
+            start,
+            clause.facts,
+            clause.scheme,
+            self.graph,
+            self.n,
+        );
+        let list = self.search_items(attributes.next);
+        let fails = can_fail(self.s, clause, attributes.set, list.set);
+        let own = wrong_if(fails, self.n, here.at, clause.place);
+        FoundElement {
+            yields: has_pattern(attributes.takes, list.set),
+            wrong: patterns::lower(own, list.wrong),
+            next: list.next,
+        }
+    }
+
+    // The items from here on, up to and with what ends them: the lowest wrong element, and the patterns of the list, which are the product of
+    // those of the items. After an item without a pattern there is none.
+    #[cycle(search_element_search_items)]
+    fn search_items(&self, start: Position) -> FoundItems
+        requires { self.now.n < 32 }
+        ensures forward { start.at ≤ result.next.at }
+        ensures searched { SearchesItems self.now.s.now start.at self.now.clause self.now.graph.now self.now.takes.now self.now.n result }
+    {
+        let scheme = self.clause.scheme;
+        let mut line = languages::line_of(pattern_sets::only(EMPTY));
+        let mut here = start;
+        let mut wrong = None;
+        loop {
+            match pages::item_here(self.s, here) {
+                ItemHere::Text(next) => {
+                    here = next;
+                    if sets::has(line.contents, TEXT) {
+                        let longer = languages::with_content(scheme, line, TEXT);
+                        line = longer;
+                    }
+                }
+                ItemHere::Gap(g, next) => {
+                    here = next;
+                    if sets::has(line.gaps, g) {
+                        let longer = languages::with_gap(scheme, line, self.takes, g);
+                        line = longer;
+                    }
+                }
+                ItemHere::Element(e, inside) => {
+                    let found = self.search_element(here, e, inside);
+                    wrong = patterns::lower(wrong, found.wrong);
+                    here = found.next;
+                    let longer = languages::with_element(scheme, line, e, found.yields);
                     line = longer;
                 }
-            }
-            ItemHere::Gap(g, next) => {
-                here = next;
-                if sets::has(line.gaps, g) {
-                    let longer = languages::with_gap(scheme, line, takes, g);
-                    line = longer;
+                ItemHere::Blank(next) => here = next,
+                ItemHere::End(next) => {
+                    let set = line.set;
+                    return FoundItems { set, wrong, next };
                 }
-            }
-            ItemHere::Element(e, inside) => {
-                let found = search_element(s, here, e, inside, clause, n, graph, takes);
-                wrong = patterns::lower(wrong, found.wrong);
-                here = found.next;
-                let longer = languages::with_element(scheme, line, e, found.yields);
-                line = longer;
-            }
-            ItemHere::Blank(next) => here = next,
-            ItemHere::End(next) => {
-                let set = line.set;
-                return FoundItems { set, wrong, next };
             }
         }
     }
@@ -232,7 +236,14 @@ fn search_template(
     ensures { SearchesTemplate s.now start.at clause graph.now sets.now n result }
 {
     let takes = languages::gaps_from(graph, sets, n);
-    search_items(s, start, clause, n, graph, &takes).wrong
+    let search = Search {
+        s,
+        clause,
+        n,
+        graph,
+        takes: &takes,
+    };
+    search.search_items(start).wrong
 }
 
 // One clause, for the templates of a set, from the sets that are settled by its scheme. Template 0 has no element.

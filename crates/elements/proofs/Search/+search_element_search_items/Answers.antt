@@ -5,7 +5,7 @@ use Rattle.pages.proofs.Steps.{text_moves, blank_moves, gap_moves, element_moves
 use Rattle.languages.proofs.Lines.{content_absent, gap_absent}
 use Rattle.languages.proofs.Lists.{list_begins, list_text, list_blank, list_gap, list_known, list_ends}
 use Rattle.elements.proofs.Searches.{adds_all, adds_end, adds_text, adds_blank, adds_gap, adds_element, element_known, other_element, own_element}
-use Rattle.elements.proofs.+search_element_search_items.Goals as goal
+use Rattle.elements.proofs.Search.+search_element_search_items.Goals as goal
 
 pub search_element-attributes_take-filled-requires : goal.search_element-attributes_take-filled-requires
 search_element-attributes_take-filled-requires t c = c.requires
@@ -15,9 +15,10 @@ search_element-search_items-list-requires t c = (omega (arith, c.attributes_take
 
 pub search_element-returns-then-e-clause : goal.search_element-returns-then-e-clause
 search_element-returns-then-e-clause t c = let args = c.args in
+    let w = args.self.now in
     record {
       forward = omega (arith, c.attributes_take-filled.ensures.forward, c.search_items-list.ensures.forward);
-      searched = other_element args.s.now args.here.at args.e args.start args.clause args.graph.now args.takes.now args.n c.search_items-list.result
+      searched = other_element w.s.now args.here.at args.e args.start w.clause w.graph.now w.takes.now w.n c.search_items-list.result
           c.if-e-clause.true c.attributes_take-filled.result c.attributes_take-filled.ensures.filled c.search_items-list.ensures.searched c.has_pattern.result c.has_pattern.ensures;
     }
 
@@ -29,9 +30,10 @@ search_element-search_items-list-requires-2 t c = (omega (arith, c.attribute_pat
 
 pub search_element-returns : goal.search_element-returns
 search_element-returns t c = let args = c.args in
+    let w = args.self.now in
     record {
       forward = omega (arith, c.attribute_patterns-attributes.ensures.forward, c.search_items-list-2.ensures.forward);
-      searched = own_element args.s.now args.here.at args.e args.start args.clause args.graph.now args.takes.now args.n c.search_items-list-2.result
+      searched = own_element w.s.now args.here.at args.e args.start w.clause w.graph.now w.takes.now w.n c.search_items-list-2.result
           c.if-e-clause.false c.attribute_patterns-attributes.result c.attribute_patterns-attributes.ensures.patterned c.search_items-list-2.ensures.searched c.can_fail-fails.result c.can_fail-fails.ensures c.wrong_if-own.result c.wrong_if-own.ensures c.has_pattern-2.result c.has_pattern-2.ensures c.lower.result c.lower.ensures;
     }
 
