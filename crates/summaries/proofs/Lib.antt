@@ -1,5 +1,4 @@
 pub mod Held
-mod Items
 pub mod Here
 pub mod Reading
 mod Heads

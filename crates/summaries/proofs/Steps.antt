@@ -6,7 +6,6 @@ use mathlib.Core.Bool.{Bool, true, false, ◌||◌, false≢true}
 use mathlib.Core.Logic.{◌⊎◌, inl, inr}
 use native.Mathlib.Omega.{arith}
 use Rattle.std.specs.Prelude.{Option, Some, None}
-use lib.ListN.{length}
 use lib.Dec.{eqb, leb}
 use borrow.Author.Tests.{ne_eqb, eqb-true, leb-true}
 use Rattle.sets.proofs.Booleans.{and_left, and_right}
@@ -14,14 +13,13 @@ use Rattle.commands.specs.declared.Context.{Context}
 use Rattle.commands.specs.declared.Context.TheVariants.{TemplateHoldings, StringHoldings}
 use Rattle.commands.specs.declared.Position.{Position}
 use Rattle.commands.specs.Commands.{byte, allowed, operand_bytes, operands_of}
-use Rattle.commands.proofs.Laws.{byte_past}
 use Rattle.summaries.specs.Proposal.{Holding, one_string, any_string}
 use Rattle.summaries.specs.ProposalReading.{holding_of}
 use Rattle.summaries.specs.declared.Claim as Declared
 use Rattle.summaries.specs.declared.Claim.TheVariants.{Root, Edge, String, AnyString, GapFrom, AttributeGapFrom}
 use Rattle.summaries.specs.declared.StringClaim.{StringClaim}
 use Rattle.summaries.specs.declared.StringClaim.TheVariants.{One, Any}
-use Rattle.summaries.specs.Inner.Listed.{HoldingFits, ItemAt, over, Listed, meaning_of, claim_of, claim_here, string_of, string_here, on_from, Moves}
+use Rattle.summaries.specs.Inner.Listed.{HoldingFits, ItemAt, over, Listed, meaning_of, claim_of, claim_here, string_here, on_from}
 
 -- The parts of a pair that is there.
 some_is : {A : Type 0} (x y : A) → Some x ≡ Some y → x ≡ y
@@ -33,31 +31,6 @@ module _ {A B : Type 0} {a a' : A} {b b' : B} (e : ◌≡◌ {A = Option (A × B
 
   pub second_is : b ≡ b'
   second_is = ap (λ (x : A × B). x.1) (some_is (a, b) (a', b') e)
-
--- What the code finds at an offset.
-module _ (s : List ℕ) (at : ℕ) where
-  pub claim_past : length s ≤ at → None ≡ claim_here s at
-  claim_past h = rw (byte_past s at h)
-
-  pub string_past : length s ≤ at → None ≡ string_here s at
-  string_past h = rw (byte_past s at h)
-
-  module _ (code : ℕ) (code_is : code ≡ byte s at) where
-    pub claim_found : (k : ℕ) → code ≡ k → (r : Option (Declared.Claim × Position)) → r ≡ claim_of k (λ i. byte s (at + i)) (on_from at) → r ≡ claim_here s at
-    claim_found k key r e = e ∙ rw (← key, code_is)
-
-    pub string_found : (k : ℕ) → code ≡ k → (r : Option (StringClaim × Position)) → r ≡ string_of k (λ i. byte s (at + i)) (on_from at) → r ≡ string_here s at
-    string_found k key r e = e ∙ rw (← key, code_is)
-
-    pub claim_none : (code ≡ 0x41 → ⊥) → (code ≡ 0x42 → ⊥) → (code ≡ 0x43 → ⊥) → (code ≡ 0x44 → ⊥) → (code ≡ 0x45 → ⊥) → (code ≡ 0x46 → ⊥) → None ≡ claim_here s at
-    claim_none n₁ n₂ n₃ n₄ n₅ n₆ =
-        rw (← code_is, ne_eqb code 0x41 n₁, ne_eqb code 0x42 n₂, ne_eqb code 0x43 n₃, ne_eqb code 0x44 n₄, ne_eqb code 0x45 n₅, ne_eqb code 0x46 n₆)
-
-    pub string_none : (code ≡ 0x47 → ⊥) → (code ≡ 0x48 → ⊥) → None ≡ string_here s at
-    string_none n₇ n₈ = rw (← code_is, ne_eqb code 0x47 n₇, ne_eqb code 0x48 n₈)
-
-  pub moves_on : (y : Holding) (n : ℕ) → 0 < n → at < length s → (next : Position) → next ≡ on_from at n → HoldingFits y → Moves s at y next
-  moves_on y n l inside next e f = record { inside = inside; forward = rw e (omega arith); fits = f }
 
 -- The commands of the items of a template variable.
 by_claim : (P : ℕ → Type 0) (c : ℕ) → allowed TemplateHoldings c ≡ true → P 0x41 → P 0x42 → P 0x43 → P 0x44 → P 0x45 → P 0x46 → P c

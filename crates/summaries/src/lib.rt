@@ -78,6 +78,7 @@ fn present(s: &[u8], here: Position, count: usize, i: usize) -> u64
 }
 
 // The place of an item in the order.
+#[tactic(auto, unfolding(crate::specs::ProposalReading::rank))]
 fn rank(s: &[u8], here: Position, code: u8) -> u64
     ensures { Ranked s.now here.at code result }
 {
@@ -100,18 +101,20 @@ fn holding_there(s: &[u8], here: Position, code: u8, templates: usize) -> bool
     ensures { result ≡ holding_there templates (holding_at s.now here.at code) }
 {
     match code {
-        0x41 => is_there(s, here, 1, templates),
+        0x41 | 0x43 | 0x44 => is_there(s, here, 1, templates),
         0x42 => is_there(s, here, 1, templates) && is_there(s, here, 3, templates),
-        0x43 => is_there(s, here, 1, templates),
-        0x44 => is_there(s, here, 1, templates),
-        0x45 => is_there(s, here, 2, templates),
-        0x46 => is_there(s, here, 2, templates),
+        0x45 | 0x46 => is_there(s, here, 2, templates),
         _ => true,
     }
 }
 
 // The items under a head, up to the first command that is none of them.
-fn read_holdings(s: &[u8], here: Position, context: Context, templates: usize) -> Result<Position, ReadError>
+fn read_holdings(
+    s: &[u8],
+    here: Position,
+    context: Context,
+    templates: usize,
+) -> Result<Position, ReadError>
     ensures { HoldingsRead context templates s.now 0 here.at result }
 {
     let mut at = here;
