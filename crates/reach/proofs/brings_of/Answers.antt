@@ -1,10 +1,7 @@
 use native.Mathlib.Omega.{arith}
-use Rattle.reach.proofs.Filling.{filled_zeros, filled_more}
+use Rattle.reach.proofs.Filling.{filled_more}
 use Rattle.reach.proofs.Bringing.{brings_all}
 use Rattle.reach.proofs.brings_of.Goals as goal
-
-pub loop-g-init : goal.loop-g-init
-loop-g-init c = filled_zeros _ 8 0 (λ i h. absurd (omega arith))
 
 pub loop-g-preserved : goal.loop-g-preserved
 loop-g-preserved c = let low = c.loop-g-test.true in

@@ -4,9 +4,6 @@ use Rattle.pages.proofs.Steps.{fixed_moves, open_moves}
 use Rattle.reach.proofs.Carrying.{carrying_fixed, carrying_open, carrying_done}
 use Rattle.reach.proofs.carriable_names.Goals as goal
 
-pub loop-name-init : goal.loop-name-init
-loop-name-init c = record { forward = omega arith; goes = λ r told. told }
-
 pub with-names-requires : goal.with-names-requires
 with-names-requires c = let m = fixed_moves _ _ _ c.attribute_here.ensures.moves _ _ _ c.in-Fixed.is in
     omega (arith, m.1)

@@ -1,12 +1,6 @@
 use native.Mathlib.Omega.{arith}
-use Rattle.reach.proofs.Closing.{start_between, round_between, round_closed, round_grows}
+use Rattle.reach.proofs.Closing.{round_between, round_grows}
 use Rattle.reach.proofs.closure.Goals as goal
-
-pub loop-all-init : goal.loop-all-init
-loop-all-init c = (c.ranges.set.fits, start_between _ _)
-
-pub returns-then-more-all : goal.returns-then-more-all
-returns-then-more-all c = round_closed _ _ _ _ c.union_of-more.ensures _ c.loop-all.invariant.1 c.if-more-all.true
 
 pub loop-all-smaller : goal.loop-all-smaller
 loop-all-smaller c = round_grows _ _ _ _ c.union_of-more.ensures c.loop-all.invariant.0 (omega (arith, c.union_of-more.type_inv)) c.if-more-all.false

@@ -1,5 +1,5 @@
 use native.Mathlib.Omega.{arith}
-use Rattle.reach.proofs.Filling.{filled_zeros, filled_more}
+use Rattle.reach.proofs.Filling.{filled_zeros}
 use Rattle.reach.proofs.Leading.{contents_same}
 use Rattle.reach.proofs.contents_of.Goals as goal
 
@@ -11,9 +11,6 @@ returns-then-count-n c = λ φs G kept outlines exact C is n k h.
     let a = c.args in
     contents_same φs G a.graph.now a.contents.now a.gaps.now a.count a.yields kept outlines exact c.edge_table-targets.result
     (c.edge_table-targets.ensures G kept.keeps) c.loop-n.table (λ i l. c.loop-n.invariant.below i (omega arith)) C is n k h
-
-pub loop-n-preserved : goal.loop-n-preserved
-loop-n-preserved c = filled_more _ 32 c.loop-n.n c.loop-n.table c.loop-n.invariant c.contents_at.result (omega arith) c.contents_at.ensures
 
 pub returns : goal.returns
 returns c = λ φs G kept outlines exact C is n k h.

@@ -1,5 +1,4 @@
-use native.Mathlib.Omega.{arith}
-use mathlib.Core.Path.{◌≡◌, sym, ◌∙◌}
+use mathlib.Core.Path.{sym, ◌∙◌}
 use Rattle.reach.proofs.Edges.{edges_none, edges_more, edges_past}
 use Rattle.reach.proofs.edges_of.Goals as goal
 use Rattle.reach.proofs.edges_of.Goals.{then-has, else-has}
@@ -13,7 +12,3 @@ loop-g-preserved c = let low = c.loop-g-test.true in
       | then-has m ↦ rw m.all-is (edges_more _ _ _ c.loop-g.g c.loop-g.all _ _ c.requires low (sym c.has.ensures ∙ m.if-has.true) (m.edges.ensures c.requires low) m.union-all.ensures c.loop-g.invariant)
       | else-has m ↦ rw m.all-is (edges_past _ _ _ c.loop-g.g c.loop-g.all (sym c.has.ensures ∙ m.if-has.false) c.loop-g.invariant)
     ]
-
-pub returns : goal.returns
-returns c = let e : c.loop-g.g ≡ 8 = omega (arith, c.loop-g.auto.g-end, c.loop-g-test.false) in
-    rw e at c.loop-g.invariant

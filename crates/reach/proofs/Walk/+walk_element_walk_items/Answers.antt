@@ -4,9 +4,6 @@ use Rattle.pages.proofs.Steps.{text_moves, blank_moves, gap_moves, element_moves
 use Rattle.reach.proofs.ListWalks.{adds_all, list_ends, list_text, list_blank, list_gap, list_element, element_walked}
 use Rattle.reach.proofs.Walk.+walk_element_walk_items.Goals as goal
 
-pub walk_element-walk_items-list-requires : goal.walk_element-walk_items-list-requires
-walk_element-walk_items-list-requires t c = (omega (arith, c.carriable_names-carriable.ensures.forward), search rules)
-
 pub walk_element-returns : goal.walk_element-returns
 walk_element-returns t c = let a = c.args in
     let w = a.self.now in
@@ -15,12 +12,6 @@ walk_element-returns t c = let a = c.args in
       walked = element_walked w.s.now w.attributes.now w.contents.now w.graph.now w.brings.now w.n a.start c.carriable_names-carriable.result c.carriable_names-carriable.ensures.carriable
           c.walk_items-list.result c.walk_items-list.ensures.walked c.union_of.result (omega arith) c.union_of.ensures;
     }
-
-pub walk_items-loop-next-init : goal.walk_items-loop-next-init
-walk_items-loop-next-init t c = record { forward = omega arith; goes = λ r A. A }
-
-pub walk_items-with-inside-requires : goal.walk_items-with-inside-requires
-walk_items-with-inside-requires t c = omega arith
 
 pub walk_items-loop-next-smaller-in-Text : goal.walk_items-loop-next-smaller-in-Text
 walk_items-loop-next-smaller-in-Text t c = let m = text_moves _ _ _ c.item_here.ensures.moves _ c.in-Text.is in
@@ -56,14 +47,8 @@ pub walk_items-walk_element-element-requires : goal.walk_items-walk_element-elem
 walk_items-walk_element-element-requires t c = let m = element_moves _ _ _ c.item_here.ensures.moves _ _ c.in-Element.is in
     (omega (arith, m.0.inside, m.0.forward, c.loop-next.invariant.forward), search rules)
 
-pub walk_items-offset_bounds-self-i : goal.walk_items-offset_bounds-self-i
-walk_items-offset_bounds-self-i t c = omega (arith, (element_moves _ _ _ c.item_here.ensures.moves _ _ c.in-Element.is).1)
-
 pub walk_items-bounds-self-i : goal.walk_items-bounds-self-i
 walk_items-bounds-self-i t c = omega (arith, (element_moves _ _ _ c.item_here.ensures.moves _ _ c.in-Element.is).1)
-
-pub walk_items-offset_bounds-self-i-in-Element : goal.walk_items-offset_bounds-self-i-in-Element
-walk_items-offset_bounds-self-i-in-Element t c = omega (arith, (element_moves _ _ _ c.item_here.ensures.moves _ _ c.in-Element.is).1)
 
 pub walk_items-bounds-self-i-in-Element : goal.walk_items-bounds-self-i-in-Element
 walk_items-bounds-self-i-in-Element t c = omega (arith, (element_moves _ _ _ c.item_here.ensures.moves _ _ c.in-Element.is).1)
