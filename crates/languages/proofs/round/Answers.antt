@@ -1,13 +1,9 @@
-use mathlib.Core.Path.{refl}
 use mathlib.Core.List.{[]}
 use mathlib.Core.Logic.{inl, inr}
-use Rattle.languages.proofs.GapSets.{filled_none, filled_more}
+use Rattle.languages.proofs.GapSets.{filled_more}
 use Rattle.languages.proofs.RoundLaws.{RowIs, row_computed, row_kept, round_all}
 use Rattle.languages.proofs.round.Goals as goal
 use Rattle.languages.proofs.round.Goals.{then-keeps_set, else-keeps_set}
-
-pub loop-n-init : goal.loop-n-init
-loop-n-init c = filled_none _ _ _ _ refl
 
 pub returns-then-templates-n : goal.returns-then-templates-n
 returns-then-templates-n c = let a = c.args in

@@ -1,12 +1,8 @@
-use native.Mathlib.Omega.{arith}
 use Rattle.languages.proofs.Settling.{settling_begins, settling_goes, settled_first, less_left, no_sets}
 use Rattle.languages.proofs.settle.Goals as goal
 
 pub loop-r-init : goal.loop-r-init
 loop-r-init c = settling_begins _ _ _ _ _ _ (no_sets 32)
-
-pub overflow_add-made : goal.overflow_add-made
-overflow_add-made c = omega (arith, c.loop-r.invariant.bound)
 
 pub loop-r-smaller : goal.loop-r-smaller
 loop-r-smaller c = less_left _ _ _ _ c.if-more-eq0.false c.grown-more.ensures
