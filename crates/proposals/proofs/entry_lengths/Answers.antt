@@ -7,8 +7,7 @@ pub loop-i-init : goal.loop-i-init
 loop-i-init c = filled_none _
 
 pub next_length-requires : goal.next_length-requires
-next_length-requires c = let pre = c.requires in
-    (omega (arith, pre), search rules, omega (arith, pre), c.loop-i.invariant.holds)
+next_length-requires c = (search rules, c.loop-i.invariant.holds)
 
 pub bounds-lengths-i : goal.bounds-lengths-i
 bounds-lengths-i c = omega (arith, c.requires)
