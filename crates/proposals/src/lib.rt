@@ -299,6 +299,7 @@ impl Listing<'_> {
     }
 
     // The bytes of all items of a template variable.
+    #[tactic(auto, using(crate::proofs::Sorts::sorts_most))]
     fn template_length(&self) -> usize
         ensures { result ≡ length (template_bytes self.now.templates (holds self.now.graph.now)) }
     {
@@ -311,6 +312,7 @@ impl Listing<'_> {
     }
 
     // They are written, sort by sort.
+    #[tactic(auto, using(crate::proofs::Sorts::template_length))]
     fn put_template(&self, out: &mut [u8], at: usize) -> usize
         requires { at + length (template_bytes self.now.templates (holds self.now.graph.now)) ≤ length out.old }
         ensures { Writes out.old at (template_bytes self.now.templates (holds self.now.graph.now)) result out.new }
