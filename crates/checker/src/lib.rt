@@ -72,12 +72,10 @@ fn first_fault(
 fn check_read(s: &[u8], heads: &[usize; 256], read: ScriptRead) -> Result<(), Refusal>
     ensures { (j : Job) (end : ℕ) → job s.now ≡ whole j end → JobKept s.now heads.now j read → ScriptVerdict j.script (entries j.proposal) (numbers_of (verdict_of result)) }
 {
-    let templates = read.templates;
-    let points = read.points;
-    let gaps = pages::gaps_of(s, &templates);
-    covering::first_uncovered(s, &gaps, &points, heads).map_err(|cover| Refusal::Cover(cover))?;
-    let tables = shows::tables_of(s, gaps, &templates);
-    first_fault(s, read.tables, tables, &templates, &points, heads)
+    let gaps = pages::gaps_of(s, &read.templates);
+    covering::first_uncovered(s, &gaps, &read.points, heads).map_err(Refusal::Cover)?;
+    let tables = shows::tables_of(s, gaps, &read.templates);
+    first_fault(s, read.tables, tables, &read.templates, &read.points, heads)
 }
 
 // The verdict of a job: 1 to 8 where it cannot be read.
