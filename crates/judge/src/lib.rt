@@ -75,9 +75,7 @@ fn judge_read(vocabulary: &[u8], tables: Tables, page: &[u8]) -> Result<(), Refu
     let mut shapes = judging::no_shapes(vocabulary);
     let root = judging::judge_item(
         vocabulary,
-        &tables.attributes,
-        &tables.contents,
-        &tables.clauses,
+        &tables.rules,
         page,
         start,
         &mut shapes,
