@@ -297,18 +297,18 @@ fn settle_by(
 fn search_rule(
     s: &[u8],
     e: u8,
-    from: usize,
+    from: Position,
     graph: &Graph,
     templates: &Templates,
     chosen: u64,
 ) -> Option<Wrong>
-    ensures { SearchesRule s.now e from 0 graph.now templates.now.starts templates.now.count chosen result }
+    ensures { SearchesRule s.now e from.at 0 graph.now templates.now.starts templates.now.count chosen result }
 {
     let mut lowest = None;
     if chosen == 0 {
         return lowest;
     }
-    let mut here = Position::new(from);
+    let mut here = from;
     let mut place: usize = 0;
     let mut sets = [[0u64; 4]; 32];
     let mut at_hand = None;
@@ -340,19 +340,20 @@ fn search_rule(
 // All clauses of all rules, for the templates that are reached; `standing` has the templates in which each element stands.
 pub fn search_rules(
     s: &[u8],
-    rules: Tables,
+    vocabulary: Tables,
     standing: &[u64; 64],
     graph: &Graph,
     templates: &Templates,
     reached: u64,
 ) -> Option<Wrong>
-    ensures { SearchesRules s.now rules.declared rules.clauses standing.now graph.now templates.now.starts templates.now.count reached result }
+    ensures { SearchesRules s.now vocabulary.declared vocabulary.rules standing.now graph.now templates.now.starts templates.now.count reached result }
 {
     let mut lowest = None;
     for e in 0..64 {
-        if sets::has(rules.declared, e as u8) {
+        if sets::has(vocabulary.declared, e as u8) {
             let chosen = sets::common(reached, standing[e]);
-            let found = search_rule(s, e as u8, rules.clauses[e], graph, templates, chosen);
+            let from = vocabulary.rules[e].clauses;
+            let found = search_rule(s, e as u8, from, graph, templates, chosen);
             lowest = patterns::lower(lowest, found);
         }
     }
