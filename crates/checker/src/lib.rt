@@ -44,13 +44,13 @@ fn is_right(right: &Option<Graph>, graph: &Graph) -> bool
 // Each show in turn, the lowest point first. A show of the graph that was found right last is right as well.
 fn first_fault(
     s: &[u8],
-    rules: Tables,
+    vocabulary: Tables,
     tables: TemplateTables,
     templates: &Templates,
     points: &Points,
     heads: &[usize; 256],
 ) -> Result<(), Refusal>
-    ensures { (j : Job) → ReadAt s.now rules tables templates.now.count templates.now.starts points.now.count points.now.places heads.now j → AllCovered j.script (entries j.proposal) → ScriptVerdict j.script (entries j.proposal) (numbers_of (verdict_of result)) }
+    ensures { (j : Job) → ReadAt s.now vocabulary tables templates.now.count templates.now.starts points.now.count points.now.places heads.now j → AllCovered j.script (entries j.proposal) → ScriptVerdict j.script (entries j.proposal) (numbers_of (verdict_of result)) }
 {
     let mut right: Option<Graph> = None;
     for p in 0..points.count {
@@ -62,7 +62,7 @@ fn first_fault(
         if is_right(&right, &graph) {
             continue;
         }
-        shows::decide(s, rules, tables, templates, &graph).map_err(|wrong| fault_at(p, wrong))?;
+        shows::decide(s, vocabulary, tables, templates, &graph).map_err(|wrong| fault_at(p, wrong))?;
         right = Some(graph);
     }
     Ok(())
