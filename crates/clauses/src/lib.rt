@@ -10,7 +10,7 @@ ghost use Rattle.clauses.specs.Inner.Promises.{alone, agree, TellsApart, IsPatte
 
 use commands::Position;
 use schemes::EMPTY;
-use strings::{AttributeValues, OUTSIDE, StringSet};
+use strings::{AttributeValues, OUTSIDE, StringSet, Values};
 use vocabularies::{Fact, Facts, FormulaHere, MOST_FACTS};
 
 // Whether attribute a with string s alone has the flag of a fact.
@@ -140,12 +140,13 @@ pub fn value_patterns(facts: Facts, a: u8, values: AttributeValues) -> [u64; 4]
     ensures { ValuePatterns facts a values result }
 {
     let absent = absence_patterns(values.absent);
-    let taken = values.strings;
-    if taken.any {
-        let others = pattern_sets::with(absent, attribute_pattern(facts, a, OUTSIDE));
-        return with_patterns(facts, others, a, strings::all());
+    match values.strings {
+        Values::Any => {
+            let others = pattern_sets::with(absent, attribute_pattern(facts, a, OUTSIDE));
+            with_patterns(facts, others, a, strings::all())
+        }
+        Values::Named(set) => with_patterns(facts, absent, a, set),
     }
-    with_patterns(facts, absent, a, taken.named)
 }
 
 // All patterns, or none.

@@ -67,7 +67,10 @@ fn edge_holds(edges: u64, m: u8) -> bool
 fn string_holds(values: Values, t: u8) -> bool
     ensures { result ≡ holds_value values t }
 {
-    values.any || strings::has(values.named, t)
+    match values {
+        Values::Any => true,
+        Values::Named(set) => strings::has(set, t),
+    }
 }
 
 // A root passes unless roots are left out.

@@ -14,9 +14,10 @@ pub struct StringSet {
 
 // Strings: some of the named ones, or all that exist.
 #[derive(Clone, Copy)]
-pub struct Values {
-    pub named: StringSet,
-    pub any: bool,
+pub enum Values {
+    // All that exist: there are others than the named ones.
+    Any,
+    Named(StringSet),
 }
 
 // What an attribute gap can take at a show: strings or, where it can still be open, no string, so that its attribute is absent.
@@ -110,44 +111,29 @@ pub fn next(set: StringSet, from: u8) -> Option<u8>
 pub fn no_values() -> Values
     ensures { (s : ℕ) → holds_value result s ≡ false }
 {
-    Values {
-        named: none(),
-        any: false,
-    }
+    Values::Named(none())
 }
 
 pub fn any_value() -> Values
     ensures { (s : ℕ) → holds_value result s ≡ true }
 {
-    Values {
-        named: none(),
-        any: true,
-    }
+    Values::Any
 }
 
 pub fn one_value(s: u8) -> Values
     requires { s < strings }
     ensures { (k : ℕ) → holds_value result k ≡ eqb k s }
 {
-    Values {
-        named: with(none(), s),
-        any: false,
-    }
+    Values::Named(with(none(), s))
 }
 
 // What is in either.
 pub fn values_union(a: Values, b: Values) -> Values
     ensures { (s : ℕ) → holds_value result s ≡ (holds_value a s || holds_value b s) }
 {
-    if a.any {
-        return a;
-    }
-    if b.any {
-        return b;
-    }
-    Values {
-        named: union(a.named, b.named),
-        any: false,
+    match (a, b) {
+        (Values::Named(a), Values::Named(b)) => Values::Named(union(a, b)),
+        _ => Values::Any,
     }
 }
 
@@ -155,23 +141,21 @@ pub fn values_union(a: Values, b: Values) -> Values
 pub fn values_within(a: Values, b: Values) -> bool
     ensures { ValuesWithin a b result }
 {
-    if b.any {
-        return true;
+    match (a, b) {
+        (_, Values::Any) => true,
+        (Values::Any, Values::Named(_)) => false,
+        (Values::Named(a), Values::Named(b)) => is_within(a, b),
     }
-    if a.any {
-        return false;
-    }
-    is_within(a.named, b.named)
 }
 
 // Whether there is no string.
 pub fn is_empty(values: Values) -> bool
     ensures { NoValues values result }
 {
-    if values.any {
-        return false;
+    match values {
+        Values::Any => false,
+        Values::Named(set) => next(set, 0).is_none(),
     }
-    next(values.named, 0).is_none()
 }
 
 // Whether an attribute gap has nothing to take: neither a string nor absence.
