@@ -179,14 +179,23 @@ impl Sort {
 }
 
 // The strings that are listed: none beside any string.
-#[tactic(auto, using(crate::proofs::Values::listed_none, crate::proofs::Values::listed_named))]
 fn listed(values: Values) -> u64
     ensures { (k : ℕ) → member result k ≡ listed_of (holds_value values) k }
 {
-    if values.any {
-        return 0;
+    match values {
+        Values::Any => 0,
+        Values::Named(set) => set.word,
     }
-    values.named.word
+}
+
+// Whether any string is taken, and with it those that no item lists.
+fn takes_any(values: Values) -> bool
+    ensures { result ≡ holds_value values unlisted }
+{
+    match values {
+        Values::Any => true,
+        Values::Named(_) => false,
+    }
 }
 
 // The attribute gaps of a template that take any string.
@@ -197,7 +206,7 @@ fn any_gaps(graph: &Graph, n: u8) -> u64
     let mut gaps: u64 = 0;
     for h in 0..8 {
         let values = graphs::strings_at(graph, n, h);
-        gaps = sets::with_if(gaps, h, values.any);
+        gaps = sets::with_if(gaps, h, takes_any(values));
     }
     gaps
 }
@@ -331,7 +340,7 @@ fn strings_length(values: Values) -> usize
     ensures { result ≡ length (string_bytes (holds_value values)) }
 {
     let n = Prefix::Bare(ONE_STRING).members_length(listed(values), strings::OUTSIDE);
-    if values.any {
+    if takes_any(values) {
         return n + 1;
     }
     n
@@ -343,7 +352,7 @@ fn put_strings(out: &mut [u8], at: usize, values: Values) -> usize
     ensures { Writes out.old at (string_bytes (holds_value values)) result out.new }
 {
     let n = Prefix::Bare(ONE_STRING).put_members(out, at, listed(values), strings::OUTSIDE);
-    if values.any {
+    if takes_any(values) {
         return memory::put(out, n, &[ANY_STRING]);
     }
     n

@@ -1,9 +1,6 @@
 -- The items of each sort are written behind those of the sorts before it.
-use native.Mathlib.Omega.{arith}
 use Rattle.memory.proofs.Laid.{writes_then}
-use Rattle.graphs.specs.Inner.Graphs.{holds}
 use Rattle.proposals.specs.Inner.Bytes.{template_bytes}
-use Rattle.proposals.proofs.Sorts.{template_length}
 use Rattle.proposals.proofs.Listing.put_template.Goals as goal
 
 pub returns : goal.returns
