@@ -8,6 +8,3 @@ loop-h-init c = gathered_none _ _
 
 pub loop-h-preserved : goal.loop-h-preserved
 loop-h-preserved c = gathered_more _ _ _ _ c.loop-h.invariant (search rules) c.strings_at-values.result (c.strings_at-values.ensures c.requires (search rules)) _ c.takes_any.ensures _ c.with_if-gaps.ensures
-
-pub returns : goal.returns
-returns c = λ k l. c.loop-h.invariant.same k (omega arith)

@@ -1,10 +1,6 @@
 -- The first point has none before it.
-use mathlib.Core.Bool.{false≢true}
 use Rattle.proposals.proofs.Repeats.{repeats}
 use Rattle.proposals.proofs.Entries.is_repeated.Goals as goal
-
-pub returns-then-p-eq0 : goal.returns-then-p-eq0
-returns-then-p-eq0 c = λ e. absurd (false≢true e)
 
 pub returns : goal.returns
 returns c = λ e. repeats _ _ _ c.if-p-eq0.false (c.same_entry.ensures e)

@@ -9,17 +9,11 @@ use Rattle.proposals.proofs.Entries.put_entries.Goals as goal
 pub loop-i-init : goal.loop-i-init
 loop-i-init c = let args = c.args in (writing_starts (headed_at args.self.now.templates args.self.now.work.now) _ _, filled_none _)
 
-pub bounds-lengths-i : goal.bounds-lengths-i
-bounds-lengths-i c = omega (arith, c.args.self.now.few_points)
-
 pub put_variable-n-requires : goal.put_variable-n-requires
 unfolding entries_bytes
 put_variable-n-requires c = let args = c.args in
     let pre = c.requires in
     (writing_fits (headed_at args.self.now.templates args.self.now.work.now) _ _ (args.self.now.points * 8) c.loop-i.i c.loop-i.n c.loop-i.out (search rules) pre.0 c.loop-i.invariant.0, search rules, pre.1 c.loop-i.i (search rules), c.loop-i.invariant.1.holds)
-
-pub bounds-ends-i : goal.bounds-ends-i
-bounds-ends-i c = omega (arith, c.args.self.now.few_points)
 
 pub loop-i-preserved : goal.loop-i-preserved
 unfolding entries_bytes

@@ -1,8 +1,6 @@
 -- A head, then the items; nothing where there is none.
 use Prim.Native.Nat.{◌/◌, ◌%◌}
-use mathlib.Core.Path.{sym, ap, ◌∙◌}
-use native.Mathlib.Omega.{arith}
-use lib.ListN.{length}
+use mathlib.Core.Path.{sym, ◌∙◌}
 use Rattle.memory.proofs.Laid.{writes_none, writes_same, writes_then, writes_fits}
 use Rattle.proposals.specs.Inner.Bytes.{items_at}
 use Rattle.proposals.proofs.Heads.{head_none, head_some}
@@ -13,11 +11,6 @@ pub returns-then-size-eq0 : goal.returns-then-size-eq0
 returns-then-size-eq0 c = let args = c.args in
     let e = c.requires.2 in
     writes_same _ _ _ _ _ _ (head_none (args.i / 8) (args.i % 8) (items_at args.self.now.templates args.self.now.work.now args.i) (sym e ∙ c.if-size-eq0.true)) (writes_none _ _)
-
-pub put-n-requires : goal.put-n-requires
-put-n-requires c = let args = c.args in
-    let pre = c.requires in
-    omega (arith, pre.0, ap length (head_some (args.i / 8) (args.i % 8) (items_at args.self.now.templates args.self.now.work.now args.i) (λ z. c.if-size-eq0.false (pre.2 ∙ z))))
 
 pub put_items-requires : goal.put_items-requires
 put_items-requires c = let args = c.args in

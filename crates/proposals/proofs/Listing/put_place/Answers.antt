@@ -4,11 +4,8 @@ use native.Mathlib.Omega.{arith}
 use lib.ListN.{length}
 use Rattle.graphs.specs.Inner.Graphs.{holds}
 use Rattle.memory.proofs.Laid.{writes_same}
-use Rattle.proposals.proofs.Sorts.{may_stand, limit_few, place_is}
+use Rattle.proposals.proofs.Sorts.{limit_few, place_is}
 use Rattle.proposals.proofs.Listing.put_place.Goals as goal
-
-pub members_of-set-requires : goal.members_of-set-requires
-members_of-set-requires c = let pre = c.requires in may_stand c.args.self.now.templates c.args.self.now.few c.args.sort c.args.a c.args.b pre.1 pre.2
 
 pub put_members-requires : goal.put_members-requires
 put_members-requires c = let pre = c.requires in

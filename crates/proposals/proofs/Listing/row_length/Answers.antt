@@ -8,9 +8,6 @@ use Rattle.proposals.proofs.Listing.row_length.Goals as goal
 pub loop-b-init : goal.loop-b-init
 loop-b-init c = counting_starts (place_bytes c.args.self.now.templates (holds c.args.self.now.graph.now) c.args.sort c.args.a)
 
-pub place_length-total-requires : goal.place_length-total-requires
-place_length-total-requires c = (c.requires, omega (arith, c.seconds-count.ensures))
-
 pub overflow_add-total : goal.overflow_add-total
 unfolding row_bytes
 overflow_add-total c = let args = c.args in

@@ -8,9 +8,6 @@ use Rattle.proposals.proofs.Listing.sort_length.Goals as goal
 pub loop-a-init : goal.loop-a-init
 loop-a-init c = let args = c.args in counting_starts (row_bytes args.self.now.templates (holds args.self.now.graph.now) args.sort)
 
-pub row_length-total-requires : goal.row_length-total-requires
-row_length-total-requires c = omega (arith, c.firsts-count.ensures)
-
 pub overflow_add-total : goal.overflow_add-total
 unfolding sort_bytes
 overflow_add-total c = let args = c.args in
