@@ -1,4 +1,3 @@
-use native.Mathlib.Omega.{arith}
 use borrow.Author.Rules.{rules}
 use Rattle.proposals.proofs.Values.{gathered_none, gathered_more}
 use Rattle.proposals.proofs.any_gaps.Goals as goal
