@@ -140,13 +140,13 @@ struct Search<'a> {
     n: usize,
     graph: &'a Graph,
     takes: &'a [[u64; 4]; 8],
+    ghost there: { n < 32 },
 }
 
 impl Search<'_> {
     // The element e here, whose attributes stand at `start`: itself, if it has the clause's name, and those inside it.
     #[cycle(search_element_search_items)]
     fn search_element(&self, here: Position, e: u8, start: Position) -> FoundElement
-        requires { self.now.n < 32 }
         ensures forward { start.at ≤ result.next.at }
         ensures searched { SearchesElement self.now.s.now here.at e start self.now.clause self.now.graph.now self.now.takes.now self.now.n result }
     {
@@ -182,7 +182,6 @@ impl Search<'_> {
     // those of the items. After an item without a pattern there is none.
     #[cycle(search_element_search_items)]
     fn search_items(&self, start: Position) -> FoundItems
-        requires { self.now.n < 32 }
         ensures forward { start.at ≤ result.next.at }
         ensures searched { SearchesItems self.now.s.now start.at self.now.clause self.now.graph.now self.now.takes.now self.now.n result }
     {

@@ -177,6 +177,7 @@ struct Walk<'a> {
     graph: &'a Graph,
     n: usize,
     takes: &'a [[u64; 4]; 8],
+    ghost there: { n < 32 },
 }
 
 impl Walk<'_> {
@@ -184,7 +185,7 @@ impl Walk<'_> {
     // inside it has a pattern.
     #[cycle(element_patterns_list_patterns)]
     fn element_patterns(&self, here: Position, e: u8) -> Patterned
-        requires { (e < 64) × (self.now.n < 32) }
+        requires { e < 64 }
         ensures forward { here.at ≤ result.next.at }
         ensures patterned { ElementPatterns self.now.s.now here.at e self.now.r self.now.graph.now self.now.n self.now.takes.now result }
     {
@@ -211,7 +212,6 @@ impl Walk<'_> {
     // item has no pattern, the list has none.
     #[cycle(element_patterns_list_patterns)]
     fn list_patterns(&self, start: Position) -> Patterned
-        requires { self.now.n < 32 }
         ensures forward { start.at ≤ result.next.at }
         ensures patterned { ListPatterns self.now.s.now start.at self.now.r self.now.graph.now self.now.n self.now.takes.now result }
     {

@@ -186,13 +186,13 @@ struct Walk<'a> {
     graph: &'a Graph,
     brings: &'a [u64; 8],
     n: usize,
+    ghost there: { n < 32 },
 }
 
 impl Walk<'_> {
     // The element whose attributes stand at `start`.
     #[cycle(walk_element_walk_items)]
     fn walk_element(&self, start: Position) -> WalkedElement
-        requires { self.now.n < 32 }
         ensures forward { start.at ≤ result.next.at }
         ensures walked { WalksElement self.now.s.now self.now.rules.now self.now.graph.now self.now.brings.now self.now.n start.at result }
     {
@@ -210,7 +210,6 @@ impl Walk<'_> {
     // The items from here on, up to and with what ends them.
     #[cycle(walk_element_walk_items)]
     fn walk_items(&self, start: Position) -> WalkedItems
-        requires { self.now.n < 32 }
         ensures forward { start.at ≤ result.next.at }
         ensures walked { WalksItems self.now.s.now self.now.rules.now self.now.graph.now self.now.brings.now self.now.n start.at result }
     {

@@ -75,8 +75,7 @@ list_patterns-loop-next-preserved-else-has-2 t c = let q = c.in-Gap.is in
 
 pub list_patterns-element_patterns-element-requires : goal.list_patterns-element_patterns-element-requires
 list_patterns-element_patterns-element-requires t c = let m = element_moves _ _ _ c.item_here.ensures.moves _ _ c.in-Element.is in
-    let pre = c.requires in
-    (omega (arith, m.0.inside, m.0.forward, c.loop-next.invariant.forward, c.decreases), (m.1, pre))
+    (omega (arith, m.0.inside, m.0.forward, c.loop-next.invariant.forward, c.decreases), m.1)
 
 pub list_patterns-returns-then-is_empty-2 : goal.list_patterns-returns-then-is_empty-2
 list_patterns-returns-then-is_empty-2 t c = let q = c.in-Element.is in

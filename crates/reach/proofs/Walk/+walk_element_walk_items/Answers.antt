@@ -1,5 +1,4 @@
 use native.Mathlib.Omega.{arith}
-use borrow.Author.Rules.{rules}
 use Rattle.pages.proofs.Steps.{text_moves, blank_moves, gap_moves, element_moves, end_moves}
 use Rattle.reach.proofs.ListWalks.{adds_all, list_ends, list_text, list_blank, list_gap, list_element, element_walked}
 use Rattle.reach.proofs.Walk.+walk_element_walk_items.Goals as goal
@@ -45,7 +44,7 @@ walk_items-with-inside-requires-in-Element t c = (element_moves _ _ _ c.item_her
 
 pub walk_items-walk_element-element-requires : goal.walk_items-walk_element-element-requires
 walk_items-walk_element-element-requires t c = let m = element_moves _ _ _ c.item_here.ensures.moves _ _ c.in-Element.is in
-    (omega (arith, m.0.inside, m.0.forward, c.loop-next.invariant.forward), search rules)
+    omega (arith, m.0.inside, m.0.forward, c.loop-next.invariant.forward)
 
 pub walk_items-bounds-self-e : goal.walk_items-bounds-self-e
 walk_items-bounds-self-e t c = omega (arith, (element_moves _ _ _ c.item_here.ensures.moves _ _ c.in-Element.is).1)
