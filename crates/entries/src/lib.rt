@@ -45,7 +45,8 @@ pub fn load(s: &[u8], here: Position, graph: &mut Graph)
     }
 }
 
-// The items from here on, which were added to a graph that held nothing, are forgotten.
+// The items from here on, which were added to a graph that held nothing, are forgotten. The loop is that of `load`: what it keeps is another
+// fact, so that a loop for both, with the step as a closure, would need the fact as a ghost argument as well.
 fn unload(s: &[u8], here: Position, graph: &mut Graph)
     ensures { Unloads s.now here.at graph.old graph.new }
 {
@@ -216,6 +217,8 @@ fn fragment_holds(graph: &Graph, t: u8, gaps: u64) -> bool
 }
 
 // Whether one entry lies within another, both given by where their items stand. The graph is lent empty and handed back empty.
+// Here and in the three below a graph is filled, asked and emptied by three lines. With the question as a closure these would be one line,
+// beside a function that has to say of the closure what each of the four now says by itself.
 pub fn entry_within(s: &[u8], from: Position, there: Position, graph: &mut Graph) -> bool
     requires { Keeps graph.old nothing }
     ensures decides { (xs ys : List Holding) → Listed Context.TemplateHoldings s.now from.at xs → Listed Context.TemplateHoldings s.now there.at ys → Decides result (Within (held says_claim xs) (held says_claim ys)) }
@@ -309,7 +312,7 @@ fn pass_gap(graph: &mut Graph, gap: u8, roots: u64)
     graphs::drop_origins(graph, gap);
 }
 
-// The origins of the attribute gap that is filled take its strings.
+// The origins of the attribute gap that is filled take its strings. It goes as `pass_gap`, over other words and other claims.
 fn pass_attribute(graph: &mut Graph, gap: u8, strings: Values)
     ensures { (S : Summary) → Keeps graph.old S → Keeps graph.new (passed (Passing.Filling gap strings) S) }
 {

@@ -94,7 +94,8 @@ pub fn same_entry(work: &[u64], p: usize, q: usize, v: usize) -> bool
     )
 }
 
-// One word gains the members of another; those that it lacked.
+// One word gains the members of another; those that it lacked. A slice has its length in its contract, a graph in its type, so this stands
+// in both crates.
 fn join_word(work: &mut [u64], i: usize, more: u64) -> u64
     requires { i < length work.old }
     ensures { JoinsWord work.old i more work.new result × (get_or work.old i 0 < 2 ^ 64) }

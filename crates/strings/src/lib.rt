@@ -12,7 +12,7 @@ pub struct StringSet {
     pub word: u64,
 }
 
-// Strings: some of the named ones, or all that exist.
+// Strings: some of the named ones, or all that exist. As an `Option` of a set `None` would be all strings, and would read as none.
 #[derive(Clone, Copy)]
 pub enum Values {
     // All that exist: there are others than the named ones.
@@ -20,14 +20,16 @@ pub enum Values {
     Named(StringSet),
 }
 
-// What an attribute gap can take at a show: strings or, where it can still be open, no string, so that its attribute is absent.
+// What an attribute gap can take at a show: strings or, where it can still be open, no string, so that its attribute is absent. Each of
+// the two says something whatever the other is.
 #[derive(Clone, Copy)]
 pub struct AttributeValues {
     pub strings: Values,
     pub absent: bool,
 }
 
-// The last of the named strings, and the number that stands for every other string.
+// The last of the named strings, and the number that stands for every other string: to a fact of a clause it is a string like the others,
+// which the definitions count as string 64.
 pub const LAST: u8 = 63;
 
 pub const OUTSIDE: u8 = 64;
@@ -68,6 +70,7 @@ pub fn with(set: StringSet, s: u8) -> StringSet
     }
 }
 
+// Here and in the next two the operation of words stands alone: one function with the operation as an argument would be no shorter.
 pub fn union(a: StringSet, b: StringSet) -> StringSet
     ensures { (k : ℕ) → has_string result k ≡ (has_string a k || has_string b k) }
 {
