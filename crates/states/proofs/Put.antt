@@ -155,7 +155,7 @@ module _ (work : List ℕ) (p x : ℕ) (has : HasPoint work p) (l : x < 4) where
     named_joined more (J, fits) =
         let other : get_or (set work first J.word) (first + 1) 0 ≡ get_or work (first + 1) 0 = get_or-set_other work first (first + 1) J.word 0 (λ e. omega arith) in
         let laid_so : after ≡ laid work (strings_place p x) (J.word ∷ get_or work (strings_place p x + 1) 0 ∷ []) =
-            rw (← at, J.after_is, ← other) (sym (set-get_or (set work first J.word) (first + 1) 0)) in
+        rw (← at, J.after_is, ← other) (sym (set-get_or (set work first J.word) (first + 1) 0)) in
         let W = words_put J.word (get_or work (strings_place p x + 1) 0) after laid_so in
         record {
           here = λ points m r. W.here points m r
