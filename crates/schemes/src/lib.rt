@@ -11,17 +11,23 @@ ghost use Rattle.schemes.specs.Inner.Promises.{Places, PlacesPair, AllContents, 
 
 use vocabularies::{Fact, Facts, MOST_FACTS};
 
-// A scheme: a morphism of words as code keeps it, for the root or for the facts of a clause. `contents` has for each place the content
-// whose presence is the fact there, or `NO_CONTENT`; for the root its first place has the root. Two words, one after the other, break a
-// pair if one of its contents stands in the first and the other one in the second; `befores` and `afters` have the places of these two
-// for each pair. Where there is no content or no place a number stands that none has, as `KeepsFacts` and `joined_sets` have it: so they
-// are not options.
+// A scheme of the facts of a clause. `contents` has for each place the content whose presence is the fact there, or `NO_CONTENT`. Two
+// words, one after the other, break a pair if one of its contents stands in the first and the other one in the second; `befores` and
+// `afters` have the places of these two for each pair. Where there is no content or no place a number stands that none has: so they are
+// not options, of which `pattern_sets::joined_sets`, which takes and promises by numbers, would need the numbers again. The three are
+// arrays, since that function takes two of them in either order.
 #[derive(Clone, Copy, PartialEq, Eq)]
-pub struct Scheme {
-    pub rooted: bool,
+pub struct FactScheme {
     pub contents: [u8; 8],
     pub befores: [u8; 8],
     pub afters: [u8; 8],
+}
+
+// A scheme: a morphism of words as code keeps it, for the root or for the facts of a clause.
+#[derive(Clone, Copy, PartialEq, Eq)]
+pub enum Scheme {
+    Root(u8),
+    Facts(FactScheme),
 }
 
 // Contents are below 64.
@@ -102,24 +108,18 @@ fn pair_places(facts: Facts, in_first: bool) -> [u8; 8]
 pub fn facts_scheme(facts: Facts) -> Scheme
     ensures { KeepsFacts facts result }
 {
-    Scheme {
-        rooted: false,
+    Scheme::Facts(FactScheme {
         contents: contents_of(facts),
         befores: pair_places(facts, true),
         afters: pair_places(facts, false),
-    }
+    })
 }
 
 // Whether a word is empty, the root alone, or other.
 pub fn root_scheme(root: u8) -> Scheme
     ensures { StandsFor result (root_morphism root) }
 {
-    Scheme {
-        rooted: true,
-        contents: [root; 8],
-        befores: [0u8; 8],
-        afters: [0u8; 8],
-    }
+    Scheme::Root(root)
 }
 
 // The first place of a content.
@@ -134,12 +134,13 @@ pub fn single(r: Scheme, c: u8) -> u8
     requires { c < 64 }
     ensures { PatternOfOne r c result }
 {
-    if r.rooted {
-        return if r.contents[0] == c { ALONE } else { OTHER };
-    }
-    match place_in(r.contents, c) {
-        Some(i) => 1 << i,
-        None => EMPTY,
+    match r {
+        Scheme::Root(root) if root == c => ALONE,
+        Scheme::Root(_) => OTHER,
+        Scheme::Facts(places) => match place_in(places.contents, c) {
+            Some(i) => 1 << i,
+            None => EMPTY,
+        },
     }
 }
 
@@ -198,15 +199,17 @@ pub fn product(r: Scheme, a: [u64; 4], b: [u64; 4]) -> [u64; 4]
     if pattern_sets::same(b, empty) {
         return a;
     }
-    if r.rooted {
-        return joined_classes(a, b);
+    match r {
+        Scheme::Root(_) => joined_classes(a, b),
+        Scheme::Facts(places) => {
+            let befores = places.befores;
+            let afters = places.afters;
+            if members(b) < members(a) {
+                return pattern_sets::joined_sets(b, a, afters, befores);
+            }
+            pattern_sets::joined_sets(a, b, befores, afters)
+        }
     }
-    let befores = r.befores;
-    let afters = r.afters;
-    if members(b) < members(a) {
-        return pattern_sets::joined_sets(b, a, afters, befores);
-    }
-    pattern_sets::joined_sets(a, b, befores, afters)
 }
 
 // The patterns of a word of the set with a word of this pattern after it.
