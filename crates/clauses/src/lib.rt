@@ -191,7 +191,8 @@ pub struct Truths {
 }
 
 impl Truths {
-    // The patterns under which this formula and the one after it are true.
+    // The patterns under which this formula and the one after it are true. This and the next method are one step with another operation
+    // on sets, of which each one's promise is plainer than one by `F.post` for both.
     fn and(self, second: Truths) -> Truths
         ensures { (result.next ≡ second.next) × ((x : ℕ) → holds result.set x ≡ (holds self.set x && holds second.set x)) }
     {

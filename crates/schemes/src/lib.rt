@@ -1,13 +1,13 @@
 // Schemes: morphisms of words as code keeps them, by which the sets of patterns of words one after the other are worked out.
 #![tactic(auto)]
 
-ghost use Rattle.std.specs.Prelude.{◌≡◌, ◌&&◌, ℕ, ◌≤◌, ◌<◌};
+ghost use Rattle.std.specs.Prelude.{◌≡◌, true, false, ◌&&◌, ℕ, ◌≤◌, ◌<◌};
 ghost use Rattle.vocabularies.specs.Inner.Promises.{meaning_of};
 ghost use Rattle.patterns.specs.Inner.Morphisms.{join_classes, root_morphism};
 ghost use Rattle.pattern_sets.specs.Inner.PatternSets.{holds};
 ghost use Rattle.pattern_sets.specs.Inner.Images.{Joined};
 ghost use Rattle.schemes.specs.Inner.Schemes.{content_of, StandsFor};
-ghost use Rattle.schemes.specs.Inner.Promises.{Places, PlacesPair, AllContents, AllPairs, KeepsFacts, FirstPlace, PatternOfOne, HasMore, BothHaveMore, Multiplies, Follows};
+ghost use Rattle.schemes.specs.Inner.Promises.{Places, PlacesContent, PlacesPair, KeepsFacts, FirstPlace, PatternOfOne, HasMore, BothHaveMore, Multiplies, Follows};
 
 use vocabularies::{Fact, Facts, MOST_FACTS};
 
@@ -68,50 +68,43 @@ fn content_of(fact: Fact) -> u8
     }
 }
 
-fn contents_of(facts: Facts) -> [u8; 8]
-    ensures { AllContents facts result }
+// The place of a content's fact; the number of facts, at which no pattern has a flag, for a content that is no fact.
+fn content_place(facts: Facts, c: u8) -> u8
+    ensures { PlacesContent facts c result }
 {
-    let mut contents = [NO_CONTENT; 8];
-    for i in 0..facts.count.min(MOST_FACTS) {
-        contents[i] = content_of(facts.kept[i]);
-    }
-    contents
+    place_of(facts, Fact::Present(c)).unwrap_or(facts.count.min(MOST_FACTS) as u8)
 }
 
-// The place of the content of a pair that stands in the first word where the pair is broken, or of the one in the second word. For a
-// content that is no fact the number of facts stands, at which no pattern has a flag.
-fn pair_place(facts: Facts, fact: Fact, in_first: bool) -> u8
-    ensures { PlacesPair in_first facts (meaning_of fact) result }
+// The place of the content of a pair that stands in the first word where the pair is broken, and of the one in the second word.
+fn pair_place(facts: Facts, fact: Fact) -> (u8, u8)
+    ensures { PlacesPair true facts (meaning_of fact) result.0 × PlacesPair false facts (meaning_of fact) result.1 }
 {
     match fact {
-        Fact::Carried(_) => NOWHERE,
-        Fact::Present(_) => NOWHERE,
-        Fact::Ordered(c, d) => {
-            let content = if in_first { d } else { c };
-            place_of(facts, Fact::Present(content)).unwrap_or(facts.count.min(MOST_FACTS) as u8)
-        }
-        Fact::Valued(_, _) => NOWHERE,
+        Fact::Carried(_) => (NOWHERE, NOWHERE),
+        Fact::Present(_) => (NOWHERE, NOWHERE),
+        Fact::Ordered(c, d) => (content_place(facts, d), content_place(facts, c)),
+        Fact::Valued(_, _) => (NOWHERE, NOWHERE),
     }
-}
-
-fn pair_places(facts: Facts, in_first: bool) -> [u8; 8]
-    ensures { AllPairs in_first facts result }
-{
-    let mut places = [NOWHERE; 8];
-    for i in 0..facts.count.min(MOST_FACTS) {
-        places[i] = pair_place(facts, facts.kept[i], in_first);
-    }
-    places
 }
 
 // The scheme of a clause's facts.
 pub fn facts_scheme(facts: Facts) -> Scheme
     ensures { KeepsFacts facts result }
 {
+    let mut contents = [NO_CONTENT; 8];
+    let mut befores = [NOWHERE; 8];
+    let mut afters = [NOWHERE; 8];
+    for i in 0..facts.count.min(MOST_FACTS) {
+        let fact = facts.kept[i];
+        contents[i] = content_of(fact);
+        let (before, after) = pair_place(facts, fact);
+        befores[i] = before;
+        afters[i] = after;
+    }
     Scheme::Facts(FactScheme {
-        contents: contents_of(facts),
-        befores: pair_places(facts, true),
-        afters: pair_places(facts, false),
+        contents,
+        befores,
+        afters,
     })
 }
 
@@ -177,6 +170,7 @@ fn joined_classes(a: [u64; 4], b: [u64; 4]) -> [u64; 4]
     pattern_sets::union(pattern_sets::union(right, left), both)
 }
 
+// The bound on the library's count, by which `members` cannot overflow.
 fn ones(word: u64) -> u32
     ensures { result ≤ 64 }
 {
