@@ -62,7 +62,9 @@ fn first_fault(
         if is_right(&right, &graph) {
             continue;
         }
-        shows::decide(s, vocabulary, tables, templates, &graph).map_err(|wrong| fault_at(p, wrong))?;
+        shows::decide(s, vocabulary, tables, templates, &graph).map_err(|wrong| fault_at(
+            p, wrong,
+        ))?;
         right = Some(graph);
     }
     Ok(())

@@ -73,13 +73,7 @@ fn judge_read(vocabulary: &[u8], tables: Tables, page: &[u8]) -> Result<(), Refu
         return Err(not_root());
     }
     let mut shapes = judging::no_shapes(vocabulary);
-    let root = judging::judge_item(
-        vocabulary,
-        &tables.rules,
-        page,
-        start,
-        &mut shapes,
-    );
+    let root = judging::judge_item(vocabulary, &tables.rules, page, start, &mut shapes);
     let last = after_blank(page, root.next);
     page_end(page, last)?;
     wrong_element(root.wrong)

@@ -170,15 +170,15 @@ fn wrong_elements(
     let yields = reach::yielding(classes, count);
     let reached = reach::reached(graph, &tables.gaps, count, yields);
     let within = reach::contents_of(graph, &tables.contents, &tables.outer, count, yields);
-    let plain = reach::plainly_wrong(
+    let plain = reach::plainly_wrong(s, &vocabulary.rules, templates, graph, &within, reached);
+    let by_clause = elements::search_rules(
         s,
-        &vocabulary.rules,
-        templates,
+        vocabulary,
+        &tables.standing,
         graph,
-        &within,
+        templates,
         reached,
     );
-    let by_clause = elements::search_rules(s, vocabulary, &tables.standing, graph, templates, reached);
     patterns::lower(plain, by_clause)
 }
 
