@@ -245,7 +245,8 @@ fn search_template(
     search.search_items(start).wrong
 }
 
-// One clause, for the templates of a set, from the sets that are settled by its scheme. Template 0 has no element.
+// One clause, for the templates of a set, from the sets that are settled by its scheme. Template 0 has no element. The bytes, the graph and
+// the templates are no struct: it would be taken apart again here and in `settle_by`, which hands them on to `settle` as they are.
 fn search_clause(
     s: &[u8],
     clause: Clause,

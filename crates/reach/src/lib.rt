@@ -77,7 +77,8 @@ fn edges_of(graph: &Graph, n: usize, gaps: u64) -> u64
     all
 }
 
-// The edges from each template, by the gaps that are given, to the templates of a set.
+// The edges from each template, by the gaps that are given, to the templates of a set. The two public functions that call this keep these
+// parameters: a struct of them would be built in each for this one call.
 fn edge_table(graph: &Graph, gaps: &[u64; 32], count: usize, yields: u64) -> [u64; 32]
     ensures { (G : Summary) → Keeps graph.now G → EdgeTable G gaps.now count yields result }
 {

@@ -1,6 +1,6 @@
 -- Template 0 is empty; the items of the others are walked.
 use Rattle.languages.proofs.RoundLaws.{template_zero, template_list}
-use Rattle.languages.proofs.template_patterns.Goals as goal
+use Rattle.languages.proofs.Settler.template_patterns.Goals as goal
 
 pub returns-then-n-eq0 : goal.returns-then-n-eq0
 returns-then-n-eq0 c φs G M X shown are h = template_zero _ _ _ _ φs G M X shown _ c.if-n-eq0.true _ c.only.ensures
