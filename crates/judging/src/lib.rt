@@ -253,6 +253,7 @@ fn first_failing(
     ensures settled { Settled v.now shape result.settled }
 {
     let mut here = from;
+    // Counts the clauses beside the position that moves over them.
     let mut place: usize = 0;
     let mut settled = from.at;
     while here.at != to {

@@ -30,7 +30,7 @@ pub enum WrongShow {
 }
 
 // What is worked out of the templates of a job: the gaps of each, at any depth; the contents and the gaps among its outer items; and for
-// each element the templates in which it stands.
+// each element the templates in which it stands. The tables stay apart: what goes by them is lent one or two.
 #[derive(Clone, Copy)]
 pub struct TemplateTables {
     pub gaps: [u64; 32],
