@@ -39,6 +39,7 @@ module _ (t : Facts) where
     tabled_all end fs h few distinct = record {
       places = record { contents = contents; befores = befores; afters = afters };
       of_clause = refl;
+      few = few;
       kept = record {
         few = few;
         distinct = distinct;

@@ -59,6 +59,7 @@ pub record KeptPlaces (p : FactScheme) (fs : List Fact) : Type 0 where
 pub record StandsForFacts (r : Scheme) (fs : List Fact) : Type 0 where
   pub places : FactScheme
   pub of_clause : r ≡ Facts places
+  pub few : length fs ≤ most_facts
   pub kept : KeptPlaces places fs
 
 -- The morphism that a scheme stands for.
