@@ -309,6 +309,7 @@ fn search_rule(
         return lowest;
     }
     let mut here = from;
+    // Counts the clauses beside the position that moves over them.
     let mut place: usize = 0;
     let mut sets = [[0u64; 4]; 32];
     let mut at_hand = None;
