@@ -85,7 +85,9 @@ fn check_job(job: &[u8]) -> Result<(), Refusal>
     ensures { JobVerdict job.now (numbers_of (verdict_of result)) }
 {
     let mut heads = [0usize; 256];
-    let read = jobs::read_job(job, &mut heads).map_err(|e| verdicts::unreadable(e.form, e.at, 0))?;
+    let (read, _) = jobs::read_job(job, &mut heads).map_err(|e| verdicts::unreadable(
+        e.form, e.at, 0,
+    ))?;
     check_read(job, &heads, read)
 }
 
