@@ -1,6 +1,6 @@
 -- Tables with a number for each entry, as they are filled: the lengths of the items, and where in the buffer they end.
 use Prim.Native.Nat.{ℕ, ◌+◌, ◌-◌, ◌/◌, ◌%◌, ◌≤◌, ◌<◌}
-use mathlib.Core.Path.{◌≡◌, refl, ap, ◌∙◌}
+use mathlib.Core.Path.{◌≡◌, refl, sym, ap, ◌∙◌}
 use mathlib.Core.List.{List, [], ◌∷◌, ◌++◌}
 use mathlib.Core.Bool.{Bool, true, false}
 use native.Mathlib.Omega.{arith}
@@ -9,8 +9,8 @@ use lib.Seq.{get_or-set_same, get_or-set_other}
 use lib.Dec.{eqb}
 use borrow.Author.Tests.{eqb-true, eqb-false}
 use Rattle.memory.specs.Inner.Laid.{laid, Writes}
-use Rattle.memory.proofs.Laid.{laid_length, laid_append, laid_there, laid_before}
-use Rattle.proposals.specs.Inner.Bytes.{head_bytes, EndAt, items_at, headed_at, Stand}
+use Rattle.memory.proofs.Laid.{laid_length, laid_append, laid_there, laid_before, writes_same}
+use Rattle.proposals.specs.Inner.Bytes.{head_bytes, EndAt, items_at, headed_at, Counted, Repeated, Stand}
 
 -- The table's room, and what holds of the numbers of the first n entries.
 pub record Filled (P : ℕ → ℕ → Type 0) (n : ℕ) (table : List ℕ) : Type 0 where
@@ -74,3 +74,32 @@ module _ (templates : ℕ) (work out : List ℕ) (at r : ℕ) (after : List ℕ)
       filled_more (IsEnd templates work after r) i r ends l
       (filled_same (IsEnd templates work out at) (IsEnd templates work after r) i ends (λ k end e. end_kept out at end (items_at templates work k) (headed_at templates work i) r after w e) filled)
       (end_headed (i / 8) (i % 8) out at (items_at templates work i) r after fits w)
+
+-- ---- an entry that is repeated
+
+module _ (templates : ℕ) (work : List ℕ) (i : ℕ) (repeated : Repeated work (i / 8) (i % 8)) where
+  pub has_before : 8 ≤ i
+  has_before = let l : 0 < i / 8 = repeated.0 in omega arith
+
+  items_before : items_at templates work i ≡ items_at templates work (i - 8)
+  items_before =
+      let l : 0 < i / 8 = repeated.0 in
+      let p : i / 8 - 1 ≡ (i - 8) / 8 = omega arith in
+      let v : i % 8 ≡ (i - 8) % 8 = omega arith in
+      repeated.1 templates ∙ rw (p, v) refl
+
+  pub length_before : (lengths : List ℕ) → Counted templates work i lengths → get_or lengths (i - 8) 0 ≡ length (items_at templates work i)
+  length_before lengths counted = let l = has_before in counted (i - 8) (omega arith) ∙ ap length (sym items_before)
+
+  module _ (out : List ℕ) (at : ℕ) (ends : List ℕ) (stand : Stand templates work i out at ends) (size : ℕ) (e : size ≡ length (items_at templates work i)) where
+    abbrev end : ℕ
+    end = get_or ends (i - 8) 0
+
+    before : EndAt out at end (items_at templates work i)
+    before = let l = has_before in rw items_before (stand (i - 8) (omega arith))
+
+    pub end_below : (size ≤ end) × (end ≤ at)
+    end_below = (rw e before.long, before.below)
+
+    pub copies : (r : ℕ) (after : List ℕ) → Writes out at (take size (drop (end - size) out)) r after → Writes out at (items_at templates work i) r after
+    copies r after w = writes_same out at (take size (drop (end - size) out)) (items_at templates work i) r after (rw e (sym before.there)) w
