@@ -10,13 +10,14 @@ use Rattle.verdicts.specs.declared.Verdict.{Verdict}
 use Rattle.verdicts.specs.declared.Verdict.TheVariants.{Refused}
 use Rattle.verdicts.specs.Printed as printed
 use Rattle.verdicts.specs.Printed.{cover_numbers, numbers_of}
+use Rattle.commands.specs.declared.Position.{Position}
 use Rattle.commands.specs.declared.ReadError.{ReadError}
 use Rattle.commands.specs.Reading.{whole}
+use Rattle.programs.proofs.Laws.{agrees_with_whole, agrees_with_refuses}
 use Rattle.summaries.specs.Summaries.{Environment, entries}
 use Rattle.jobs.specs.declared.ScriptRead.{ScriptRead}
 use Rattle.jobs.specs.Job.{Script, Job, job}
 use Rattle.jobs.specs.Inner.Promises.{JobKept, JobReads}
-use Rattle.jobs.proofs.Alone.{kept_alone, refused_alone}
 use Rattle.jobs.specs.JobVerdict.{AllCovered, ScriptVerdict, start_uncovered, step_uncovered, JobVerdict, unreadable, readable}
 use Rattle.pages.specs.Inner.Gaps.{GapsTable}
 use Rattle.covering.specs.Inner.Promises.{Covers}
@@ -54,13 +55,13 @@ module _ (s : List ℕ) (j : Job) (end : ℕ) (reads : job s ≡ whole j end) wh
       }
 
 -- 1 to 8.
-pub refused : (s heads : List ℕ) (r : Result ScriptRead ReadError) → JobReads s heads r → (e : ReadError) → r ≡ Err e → (f : Refusal) → f ≡ printed.unreadable e.form e.at 0
+pub refused : (s heads : List ℕ) (r : Result (ScriptRead × Position) ReadError) → JobReads s heads r → (e : ReadError) → r ≡ Err e → (f : Refusal) → f ≡ printed.unreadable e.form e.at 0
     → JobVerdict s (numbers_of (Refused f))
-refused s heads r h e q f is = rw is (unreadable (refused_alone (JobKept s heads) (job s) r e q h))
+refused s heads r h e q f is = rw is (unreadable (agrees_with_refuses (JobKept s heads) (job s) r e q h))
 
 -- A job that was read whole has the verdict that is found for it.
-pub read_whole : (s heads : List ℕ) (r : Result ScriptRead ReadError) → JobReads s heads r → (read : ScriptRead) → r ≡ Ok read → (v : Verdict)
+pub read_whole : (s heads : List ℕ) (r : Result (ScriptRead × Position) ReadError) → JobReads s heads r → (read : ScriptRead) (at : Position) → r ≡ Ok (read, at) → (v : Verdict)
     → ((j : Job) (end : ℕ) → job s ≡ whole j end → JobKept s heads j read → ScriptVerdict j.script (entries j.proposal) (numbers_of v)) → JobVerdict s (numbers_of v)
-read_whole s heads r h read e v found =
-    let w = kept_alone (JobKept s heads) (job s) r read e h in
+read_whole s heads r h read at e v found =
+    let w = agrees_with_whole (JobKept s heads) (job s) r read at e h in
     readable w.reads (found w.tree w.end w.reads w.holds)

@@ -44,13 +44,13 @@ fn is_right(right: &Option<Graph>, graph: &Graph) -> bool
 // Each show in turn, the lowest point first. A show of the graph that was found right last is right as well.
 fn first_fault(
     s: &[u8],
-    rules: Tables,
+    vocabulary: Tables,
     tables: TemplateTables,
     templates: &Templates,
     points: &Points,
     heads: &[usize; 256],
 ) -> Result<(), Refusal>
-    ensures { (j : Job) → ReadAt s.now rules tables templates.now.count templates.now.starts points.now.count points.now.places heads.now j → AllCovered j.script (entries j.proposal) → ScriptVerdict j.script (entries j.proposal) (numbers_of (verdict_of result)) }
+    ensures { (j : Job) → ReadAt s.now vocabulary tables templates.now.count templates.now.starts points.now.count points.now.places heads.now j → AllCovered j.script (entries j.proposal) → ScriptVerdict j.script (entries j.proposal) (numbers_of (verdict_of result)) }
 {
     let mut right: Option<Graph> = None;
     for p in 0..points.count {
@@ -62,7 +62,9 @@ fn first_fault(
         if is_right(&right, &graph) {
             continue;
         }
-        shows::decide(s, rules, tables, templates, &graph).map_err(|wrong| fault_at(p, wrong))?;
+        shows::decide(s, vocabulary, tables, templates, &graph).map_err(|wrong| fault_at(
+            p, wrong,
+        ))?;
         right = Some(graph);
     }
     Ok(())
@@ -72,12 +74,10 @@ fn first_fault(
 fn check_read(s: &[u8], heads: &[usize; 256], read: ScriptRead) -> Result<(), Refusal>
     ensures { (j : Job) (end : ℕ) → job s.now ≡ whole j end → JobKept s.now heads.now j read → ScriptVerdict j.script (entries j.proposal) (numbers_of (verdict_of result)) }
 {
-    let templates = read.templates;
-    let points = read.points;
-    let gaps = pages::gaps_of(s, &templates);
-    covering::first_uncovered(s, &gaps, &points, heads).map_err(|cover| Refusal::Cover(cover))?;
-    let tables = shows::tables_of(s, gaps, &templates);
-    first_fault(s, read.tables, tables, &templates, &points, heads)
+    let gaps = pages::gaps_of(s, &read.templates);
+    covering::first_uncovered(s, &gaps, &read.points, heads).map_err(Refusal::Cover)?;
+    let tables = shows::tables_of(s, gaps, &read.templates);
+    first_fault(s, read.tables, tables, &read.templates, &read.points, heads)
 }
 
 // The verdict of a job: 1 to 8 where it cannot be read.
@@ -85,7 +85,9 @@ fn check_job(job: &[u8]) -> Result<(), Refusal>
     ensures { JobVerdict job.now (numbers_of (verdict_of result)) }
 {
     let mut heads = [0usize; 256];
-    let read = jobs::read_job(job, &mut heads).map_err(|e| verdicts::unreadable(e.form, e.at, 0))?;
+    let (read, _) = jobs::read_job(job, &mut heads).map_err(|e| verdicts::unreadable(
+        e.form, e.at, 0,
+    ))?;
     check_read(job, &heads, read)
 }
 

@@ -10,7 +10,7 @@ ghost use Rattle.clauses.specs.Inner.Promises.{alone, agree, TellsApart, IsPatte
 
 use commands::Position;
 use schemes::EMPTY;
-use strings::{AttributeValues, OUTSIDE, StringSet};
+use strings::{AttributeValues, OUTSIDE, StringSet, Values};
 use vocabularies::{Fact, Facts, FormulaHere, MOST_FACTS};
 
 // Whether attribute a with string s alone has the flag of a fact.
@@ -140,12 +140,13 @@ pub fn value_patterns(facts: Facts, a: u8, values: AttributeValues) -> [u64; 4]
     ensures { ValuePatterns facts a values result }
 {
     let absent = absence_patterns(values.absent);
-    let taken = values.strings;
-    if taken.any {
-        let others = pattern_sets::with(absent, attribute_pattern(facts, a, OUTSIDE));
-        return with_patterns(facts, others, a, strings::all());
+    match values.strings {
+        Values::Any => {
+            let others = pattern_sets::with(absent, attribute_pattern(facts, a, OUTSIDE));
+            with_patterns(facts, others, a, strings::all())
+        }
+        Values::Named(set) => with_patterns(facts, absent, a, set),
     }
-    with_patterns(facts, absent, a, taken.named)
 }
 
 // All patterns, or none.
@@ -190,7 +191,8 @@ pub struct Truths {
 }
 
 impl Truths {
-    // The patterns under which this formula and the one after it are true.
+    // The patterns under which this formula and the one after it are true. This and the next method are one step with another operation
+    // on sets, of which each one's promise is plainer than one by `F.post` for both.
     fn and(self, second: Truths) -> Truths
         ensures { (result.next ≡ second.next) × ((x : ℕ) → holds result.set x ≡ (holds self.set x && holds second.set x)) }
     {

@@ -20,7 +20,9 @@ use Rattle.commands.specs.declared.ReadError.{ReadError}
 use Rattle.commands.specs.Commands.{byte}
 use Rattle.commands.specs.Reading.{whole}
 use Rattle.vocabularies.specs.declared.Facts.{Facts}
+use Rattle.vocabularies.specs.declared.Rule as Tabled
 use Rattle.vocabularies.specs.Vocabulary.{Formula, Rule, Vocabulary, rule_of, is_some}
+use Rattle.vocabularies.specs.Inner.Promises.{no_rule}
 use Rattle.vocabularies.specs.VocabularyReading as Reading
 use Rattle.vocabularies.specs.Facts.{facts_of}
 use Rattle.vocabularies.specs.Inner.Promises.{FormulaReads, FactsRead}
@@ -151,9 +153,9 @@ module _ (s : List ℕ) (e : ℕ) (words starts : List ℕ) (count chosen : ℕ)
 
 -- ---- all rules
 
-no_rule : (o : Option Rule) → is_some o ≡ false → o ≡ none
-no_rule none h = refl
-no_rule (some R) h = absurd (false≢true (sym h))
+none_there : (o : Option Rule) → is_some o ≡ false → o ≡ none
+none_there none h = refl
+none_there (some R) h = absurd (false≢true (sym h))
 
 -- A test of elements of one name is passed in templates in which it stands.
 module _ (φs : List Items) (reached standing chosen : ℕ) (table : List ℕ) (e : ℕ) (is : standing ≡ get_or table e 0)
@@ -176,16 +178,16 @@ module _ (φs : List Items) (reached standing chosen : ℕ) (table : List ℕ) (
           (template_at φs n) (H n l) h in
           (l, common n ∙ and_both _ _ c (ap (λ (k : ℕ). member k n) is ∙ stands), h)
 
-module _ (s : List ℕ) (declared : ℕ) (clauses standing words starts : List ℕ) (count reached : ℕ) where
+module _ (s : List ℕ) (declared : ℕ) (rules : List Tabled.Rule) (standing words starts : List ℕ) (count reached : ℕ) where
   -- The rules of the elements below a number.
   abbrev pub Ruled : ℕ → MaybeWrong → Type 0
   Ruled e lowest = (φs : List Items) (G : Summary) (D : Vocabulary) (X : Formula → Sets) → Standing s φs G words starts count
-      → RulesStand s D declared clauses → Occurrences φs standing → ExactClauses φs G D X
+      → RulesStand s D declared rules → Occurrences φs standing → ExactClauses φs G D X
       → LowestWrong (Passing φs reached (λ n e' mark δ φ. told_if (ltb e' e) (wrong_by_clause φs G X D n e' δ φ))) lowest
 
-  module _ (φs : List Items) (G : Summary) (D : Vocabulary) (X : Formula → Sets) (R : RulesStand s D declared clauses) where
+  module _ (φs : List Items) (G : Summary) (D : Vocabulary) (X : Formula → Sets) (R : RulesStand s D declared rules) where
     undeclared : (e n : ℕ) (δ : List Attribute) (φ : Items) → member declared e ≡ false → wrong_by_clause φs G X D n e δ φ ≡ none
-    undeclared e n δ φ absent = ap (λ (o : Option Rule). clause_by φs G X o n δ φ) (no_rule (rule_of D.rules e) (sym (R.declares e) ∙ absent))
+    undeclared e n δ φ absent = ap (λ (o : Option Rule). clause_by φs G X o n δ φ) (none_there (rule_of D.rules e) (sym (R.declares e) ∙ absent))
 
     module _ (e n e' : ℕ) (δ : List Attribute) (φ : Items) where
       abbrev w : Option Breach
@@ -232,11 +234,11 @@ module _ (s : List ℕ) (declared : ℕ) (clauses standing words starts : List �
 
   pub ruled_more : (e : ℕ) (lowest : MaybeWrong) → Ruled e lowest → member declared e ≡ true
       → (chosen : ℕ) → ((k : ℕ) → member chosen k ≡ (member reached k && member (get_or standing e 0) k))
-      → (found : MaybeWrong) → SearchesRule s e (get_or clauses e 0) 0 words starts count chosen found
+      → (found : MaybeWrong) → SearchesRule s e (get_or rules e no_rule).clauses.at 0 words starts count chosen found
       → (lower : MaybeWrong) → lower ≡ lower_wrong lowest found → Ruled (e + 1) lower
   ruled_more e lowest before is_declared chosen common found searched lower is_lower φs G D X S R H exact =
       let (r, rule) = rule_found (rule_of D.rules e) (sym (R.declares e) ∙ is_declared) in
-      let from = get_or clauses e 0 in
+      let from = (get_or rules e no_rule).clauses.at in
       let (end, reads) = R.stands e r rule ((length s - from) + (length s - from) + 2) (omega arith) in
       let here = searched φs G X S ((length s - from) + (length s - from) + 2) end r.clauses reads (λ ψ m. exact e r ψ rule m) in
       rw is_lower (lowest_same φs reached
@@ -248,7 +250,7 @@ module _ (s : List ℕ) (declared : ℕ) (clauses standing words starts : List �
       (chosen_wider φs reached (get_or standing e 0) chosen standing e refl common H (λ n e' mark δ φ. first_clause φs G X 0 r.clauses n δ φ) found here)))
 
   pub ruled_all : (e : ℕ) (lowest : MaybeWrong) → Ruled e lowest → 64 ≤ e → declared < 2 ^ 64
-      → SearchesRules s declared clauses standing words starts count reached lowest
+      → SearchesRules s declared rules standing words starts count reached lowest
   ruled_all e lowest all l narrow φs G D X S R H exact = lowest_same φs reached
       (λ n e' mark δ φ. told_if (ltb e' e) (wrong_by_clause φs G X D n e' δ φ)) (λ n e' mark δ φ. wrong_by_clause φs G X D n e' δ φ)
       (λ n e' mark δ φ. go n e' δ φ (ltb e' e) refl) lowest (all φs G D X S R H exact)

@@ -140,13 +140,13 @@ struct Search<'a> {
     n: usize,
     graph: &'a Graph,
     takes: &'a [[u64; 4]; 8],
+    ghost there: { n < 32 },
 }
 
 impl Search<'_> {
     // The element e here, whose attributes stand at `start`: itself, if it has the clause's name, and those inside it.
     #[cycle(search_element_search_items)]
     fn search_element(&self, here: Position, e: u8, start: Position) -> FoundElement
-        requires { self.now.n < 32 }
         ensures forward { start.at ≤ result.next.at }
         ensures searched { SearchesElement self.now.s.now here.at e start self.now.clause self.now.graph.now self.now.takes.now self.now.n result }
     {
@@ -182,7 +182,6 @@ impl Search<'_> {
     // those of the items. After an item without a pattern there is none.
     #[cycle(search_element_search_items)]
     fn search_items(&self, start: Position) -> FoundItems
-        requires { self.now.n < 32 }
         ensures forward { start.at ≤ result.next.at }
         ensures searched { SearchesItems self.now.s.now start.at self.now.clause self.now.graph.now self.now.takes.now self.now.n result }
     {
@@ -246,7 +245,8 @@ fn search_template(
     search.search_items(start).wrong
 }
 
-// One clause, for the templates of a set, from the sets that are settled by its scheme. Template 0 has no element.
+// One clause, for the templates of a set, from the sets that are settled by its scheme. Template 0 has no element. The bytes, the graph and
+// the templates are no struct: it would be taken apart again here and in `settle_by`, which hands them on to `settle` as they are.
 fn search_clause(
     s: &[u8],
     clause: Clause,
@@ -297,18 +297,19 @@ fn settle_by(
 fn search_rule(
     s: &[u8],
     e: u8,
-    from: usize,
+    from: Position,
     graph: &Graph,
     templates: &Templates,
     chosen: u64,
 ) -> Option<Wrong>
-    ensures { SearchesRule s.now e from 0 graph.now templates.now.starts templates.now.count chosen result }
+    ensures { SearchesRule s.now e from.at 0 graph.now templates.now.starts templates.now.count chosen result }
 {
     let mut lowest = None;
     if chosen == 0 {
         return lowest;
     }
-    let mut here = Position::new(from);
+    let mut here = from;
+    // Counts the clauses beside the position that moves over them.
     let mut place: usize = 0;
     let mut sets = [[0u64; 4]; 32];
     let mut at_hand = None;
@@ -340,19 +341,20 @@ fn search_rule(
 // All clauses of all rules, for the templates that are reached; `standing` has the templates in which each element stands.
 pub fn search_rules(
     s: &[u8],
-    rules: Tables,
+    vocabulary: Tables,
     standing: &[u64; 64],
     graph: &Graph,
     templates: &Templates,
     reached: u64,
 ) -> Option<Wrong>
-    ensures { SearchesRules s.now rules.declared rules.clauses standing.now graph.now templates.now.starts templates.now.count reached result }
+    ensures { SearchesRules s.now vocabulary.declared vocabulary.rules standing.now graph.now templates.now.starts templates.now.count reached result }
 {
     let mut lowest = None;
     for e in 0..64 {
-        if sets::has(rules.declared, e as u8) {
+        if sets::has(vocabulary.declared, e as u8) {
             let chosen = sets::common(reached, standing[e]);
-            let found = search_rule(s, e as u8, rules.clauses[e], graph, templates, chosen);
+            let from = vocabulary.rules[e].clauses;
+            let found = search_rule(s, e as u8, from, graph, templates, chosen);
             lowest = patterns::lower(lowest, found);
         }
     }

@@ -2,8 +2,9 @@
 use Prim.Native.Nat.{ℕ, ◌<◌}
 use mathlib.Core.Path.{◌≡◌, refl, sym, ◌∙◌}
 use mathlib.Core.List.{List}
-use mathlib.Core.Bool.{Bool, true, false}
-use borrow.Author.Tests.{eq-eqb, ne_eqb}
+use mathlib.Core.Bool.{Bool, true, false, not}
+use borrow.Author.Tests.{not-true, not-false, eq-eqb, ne_eqb}
+use Rattle.std.specs.Prelude.{Option, None, Some}
 use Rattle.sets.specs.Sets.{member}
 use Rattle.sets.specs.Inner.Promises as Sets
 use Rattle.summaries.specs.Proposal.{root, edge, string, gap_from, attribute_gap_from, claim, any_at}
@@ -13,58 +14,49 @@ use Rattle.strings.specs.declared.Values.{Values}
 use Rattle.strings.specs.Inner.Promises.{holds_value, ValuesWithin}
 use Rattle.graphs.specs.Inner.Graphs.{holds}
 use Rattle.entries.specs.declared.Passing.{Passing}
-use Rattle.entries.specs.declared.Passing.TheVariants.{Wholly, WithoutRoots, Plugging, Filling}
-use Rattle.entries.specs.Inner.Passing.{passes_roots, plugs, fills}
+use Rattle.entries.specs.declared.Plugged.{Plugged}
+use Rattle.entries.specs.declared.Filled.{Filled}
+use Rattle.entries.specs.Inner.Passing.{plugs, fills}
 use Rattle.entries.specs.Inner.Entries.{ItemHolds}
 use Rattle.entries.proofs.Tests.{members_decide, values_decide}
 use Rattle.entries.proofs.Passings.{root_passes, root_stays_out, edge_passes, string_passes, any_passes, gap_passes, plugged_passes, attribute_passes, filled_passes}
 
--- Ways in which the roots pass, no gap is plugged, no attribute gap is filled.
-pub roots_pass : (how : Passing) → (how ≡ WithoutRoots → ⊥) → passes_roots how ≡ true
-roots_pass Wholly n = refl
-roots_pass WithoutRoots n = absurd (n refl)
-roots_pass (Plugging g roots) n = refl
-roots_pass (Filling h strings) n = refl
+-- No gap is plugged, or another; no attribute gap is filled, or another.
+pub plugs_none : (plug : Option Plugged) → ((p : Plugged) → plug ≡ Some p → ⊥) → (k : ℕ) → plugs plug k ≡ false
+plugs_none None n k = refl
+plugs_none (Some p) n k = absurd (n p refl)
 
-pub plugs_none : (how : Passing) → ((g roots : ℕ) → how ≡ Plugging g roots → ⊥) → (k : ℕ) → plugs how k ≡ false
-plugs_none Wholly n k = refl
-plugs_none WithoutRoots n k = refl
-plugs_none (Plugging g roots) n k = absurd (n g roots refl)
-plugs_none (Filling h strings) n k = refl
+pub plugs_other : (plug : Option Plugged) (p : Plugged) (k : ℕ) → plug ≡ Some p → (k ≡ p.gap → ⊥) → plugs plug k ≡ false
+plugs_other plug p k e n = rw e (ne_eqb k p.gap n)
 
-pub plugs_other : (how : Passing) (g roots k : ℕ) → how ≡ Plugging g roots → (k ≡ g → ⊥) → plugs how k ≡ false
-plugs_other how g roots k e n = rw e (ne_eqb k g n)
+pub fills_none : (fill : Option Filled) → ((f : Filled) → fill ≡ Some f → ⊥) → (k : ℕ) → fills fill k ≡ false
+fills_none None n k = refl
+fills_none (Some f) n k = absurd (n f refl)
 
-pub fills_none : (how : Passing) → ((h : ℕ) (strings : Values) → how ≡ Filling h strings → ⊥) → (k : ℕ) → fills how k ≡ false
-fills_none Wholly n k = refl
-fills_none WithoutRoots n k = refl
-fills_none (Plugging g roots) n k = refl
-fills_none (Filling h strings) n k = absurd (n h strings refl)
-
-pub fills_other : (how : Passing) (h : ℕ) (strings : Values) (k : ℕ) → how ≡ Filling h strings → (k ≡ h → ⊥) → fills how k ≡ false
-fills_other how h strings k e n = rw e (ne_eqb k h n)
+pub fills_other : (fill : Option Filled) (f : Filled) (k : ℕ) → fill ≡ Some f → (k ≡ f.gap → ⊥) → fills fill k ≡ false
+fills_other fill f k e n = rw e (ne_eqb k f.gap n)
 
 module _ (graph : List ℕ) (how : Passing) where
   pub as_item : (item known : Claim) → item ≡ known → (r : Bool) → ItemHolds graph how (meaning_of known) r → ItemHolds graph how (meaning_of item) r
   as_item item known e r h = rw e h
 
-  pub root_left_out : (n : ℕ) → how ≡ WithoutRoots → ItemHolds graph how (claim (root n)) true
-  root_left_out n e f R k = root_stays_out how R n (rw e)
+  pub root_left_out : (n : ℕ) → not how.roots ≡ true → ItemHolds graph how (claim (root n)) true
+  root_left_out n e f R k = root_stays_out how R n (not-true how.roots e)
 
-  pub root_held : (n roots : ℕ) (r : Bool) → passes_roots how ≡ true → ((m : ℕ) → member roots m ≡ holds graph (root m)) → r ≡ member roots n
+  pub root_held : (n roots : ℕ) (r : Bool) → not how.roots ≡ false → ((m : ℕ) → member roots m ≡ holds graph (root m)) → r ≡ member roots n
       → ItemHolds graph how (claim (root n)) r
-  root_held n roots r e is r-is f R k = root_passes how R n r e (k.same (root n) tt ∙ (sym (is n) ∙ sym r-is))
+  root_held n roots r e is r-is f R k = root_passes how R n r (not-false how.roots e) (k.same (root n) tt ∙ (sym (is n) ∙ sym r-is))
 
   -- The edges of a gap.
   module _ (n g edges : ℕ) (is : n < 32 → g < 8 → (m : ℕ) → member edges m ≡ holds graph (edge n g m)) where
     pub edge_held : (m : ℕ) (r : Bool) → r ≡ member edges m → ItemHolds graph how (claim (edge n g m)) r
     edge_held m r r-is f R k = edge_passes how R n g m r (k.same (edge n g m) (f.0, f.1) ∙ (sym (is f.0 f.1 m) ∙ sym r-is))
 
-    pub plugged_held : (gap roots : ℕ) → how ≡ Plugging gap roots → g ≡ gap → (r : Bool) → Sets.MembersWithin roots edges r → ItemHolds graph how (claim (gap_from g n)) r
-    plugged_held gap roots e q r v f R k =
-        plugged_passes how R g n (rw e (eq-eqb g gap q)) edges (λ m. k.same (edge n g m) (f.1, f.0) ∙ sym (is f.1 f.0 m)) r (rw e (members_decide roots edges r v))
+    pub plugged_held : (p : Plugged) → how.plug ≡ Some p → g ≡ p.gap → (r : Bool) → Sets.MembersWithin p.roots edges r → ItemHolds graph how (claim (gap_from g n)) r
+    plugged_held p e q r v f R k =
+        plugged_passes how R g n (rw e (eq-eqb g p.gap q)) edges (λ m. k.same (edge n g m) (f.1, f.0) ∙ sym (is f.1 f.0 m)) r (rw e (members_decide p.roots edges r v))
 
-  pub gap_held : (g n origins : ℕ) (r : Bool) → plugs how g ≡ false → (g < 8 → (m : ℕ) → member origins m ≡ holds graph (gap_from g m)) → r ≡ member origins n
+  pub gap_held : (g n origins : ℕ) (r : Bool) → plugs how.plug g ≡ false → (g < 8 → (m : ℕ) → member origins m ≡ holds graph (gap_from g m)) → r ≡ member origins n
       → ItemHolds graph how (claim (gap_from g n)) r
   gap_held g n origins r other is r-is f R k = gap_passes how R g n other r (k.same (gap_from g n) f.0 ∙ (sym (is f.0 n) ∙ sym r-is))
 
@@ -76,10 +68,10 @@ module _ (graph : List ℕ) (how : Passing) where
     pub any_held : (any : Values) → ((t : ℕ) → holds_value any t ≡ true) → (r : Bool) → ValuesWithin any values r → ItemHolds graph how (any_at n h) r
     any_held any e r v f R k = any_passes how R n h values (λ t. k.same (string n h t) (f.0, f.1) ∙ sym (is f.0 f.1 t)) r (values_decide _ _ any values (λ t. sym (e t)) (λ t. refl) r v)
 
-    pub filled_held : (gap : ℕ) (strings : Values) → how ≡ Filling gap strings → h ≡ gap → (r : Bool) → ValuesWithin strings values r → ItemHolds graph how (claim (attribute_gap_from h n)) r
-    filled_held gap strings e q r v f R k =
-        filled_passes how R h n (rw e (eq-eqb h gap q)) values (λ t. k.same (string n h t) (f.1, f.0) ∙ sym (is f.1 f.0 t)) r (rw e (values_decide _ _ strings values (λ t. refl) (λ t. refl) r v))
+    pub filled_held : (p : Filled) → how.fill ≡ Some p → h ≡ p.gap → (r : Bool) → ValuesWithin p.strings values r → ItemHolds graph how (claim (attribute_gap_from h n)) r
+    filled_held p e q r v f R k =
+        filled_passes how R h n (rw e (eq-eqb h p.gap q)) values (λ t. k.same (string n h t) (f.1, f.0) ∙ sym (is f.1 f.0 t)) r (rw e (values_decide _ _ p.strings values (λ t. refl) (λ t. refl) r v))
 
-  pub attribute_held : (h n origins : ℕ) (r : Bool) → fills how h ≡ false → (h < 8 → (m : ℕ) → member origins m ≡ holds graph (attribute_gap_from h m)) → r ≡ member origins n
+  pub attribute_held : (h n origins : ℕ) (r : Bool) → fills how.fill h ≡ false → (h < 8 → (m : ℕ) → member origins m ≡ holds graph (attribute_gap_from h m)) → r ≡ member origins n
       → ItemHolds graph how (claim (attribute_gap_from h n)) r
   attribute_held h n origins r other is r-is f R k = attribute_passes how R h n other r (k.same (attribute_gap_from h n) f.0 ∙ (sym (is f.0 n) ∙ sym r-is))

@@ -12,7 +12,7 @@ use Rattle.summaries.specs.Summaries.{Summary, Within, same_code, says_claim, he
 use Rattle.strings.specs.declared.Values.{Values}
 use Rattle.entries.specs.declared.Passing.{Passing}
 use Rattle.strings.specs.Inner.Promises.{holds_value}
-use Rattle.entries.specs.Inner.Passing.{passes_roots, plugs, plugged, fills, filled, stays, added, passed, Decides}
+use Rattle.entries.specs.Inner.Passing.{plugs, plugged, fills, filled, stays, added, passed, Decides}
 use Rattle.entries.proofs.Tests.{decides, decides_map}
 use Rattle.sets.proofs.Booleans.{or_left, or_right, or_cases, and_both, and_left, and_right, refuted}
 use Rattle.graphs.proofs.Claims.{says_itself, says_alone, says_any}
@@ -39,18 +39,18 @@ split_added false false false u v m = refl
 
 module _ (how : Passing) where
   pub passed_or : (S T : Summary) (c : Claim) → passed how (λ d. S d || T d) c ≡ (passed how S c || passed how T c)
-  passed_or S T (root n) = split (passes_roots how) (S (root n)) (T (root n))
-  passed_or S T (edge n g m) = split_added (S (edge n g m)) (T (edge n g m)) (plugs how g) (S (gap_from g n)) (T (gap_from g n)) (plugged how m)
-  passed_or S T (string n h s) = split_added (S (string n h s)) (T (string n h s)) (fills how h) (S (attribute_gap_from h n)) (T (attribute_gap_from h n)) (filled how s)
-  passed_or S T (gap_from g n) = split (not (plugs how g)) (S (gap_from g n)) (T (gap_from g n))
-  passed_or S T (attribute_gap_from h n) = split (not (fills how h)) (S (attribute_gap_from h n)) (T (attribute_gap_from h n))
+  passed_or S T (root n) = split how.roots (S (root n)) (T (root n))
+  passed_or S T (edge n g m) = split_added (S (edge n g m)) (T (edge n g m)) (plugs how.plug g) (S (gap_from g n)) (T (gap_from g n)) (plugged how.plug m)
+  passed_or S T (string n h s) = split_added (S (string n h s)) (T (string n h s)) (fills how.fill h) (S (attribute_gap_from h n)) (T (attribute_gap_from h n)) (filled how.fill s)
+  passed_or S T (gap_from g n) = split (not (plugs how.plug g)) (S (gap_from g n)) (T (gap_from g n))
+  passed_or S T (attribute_gap_from h n) = split (not (fills how.fill h)) (S (attribute_gap_from h n)) (T (attribute_gap_from h n))
 
   nothing_passes : (c : Claim) → passed how (λ d. false) c ≡ false
-  nothing_passes (root n) = rw (and-false (passes_roots how))
-  nothing_passes (edge n g m) = rw (and-false (plugs how g))
-  nothing_passes (string n h s) = rw (and-false (fills how h))
-  nothing_passes (gap_from g n) = rw (and-false (not (plugs how g)))
-  nothing_passes (attribute_gap_from h n) = rw (and-false (not (fills how h)))
+  nothing_passes (root n) = rw (and-false how.roots)
+  nothing_passes (edge n g m) = rw (and-false (plugs how.plug g))
+  nothing_passes (string n h s) = rw (and-false (fills how.fill h))
+  nothing_passes (gap_from g n) = rw (and-false (not (plugs how.plug g)))
+  nothing_passes (attribute_gap_from h n) = rw (and-false (not (fills how.fill h)))
 
   module _ (R : Summary) where
     abbrev pub Passes : Holding → Type 0
@@ -81,8 +81,8 @@ module _ (how : Passing) where
     adds_none : (c : Claim) → ((g n : ℕ) → says_claim (claim c) (gap_from g n) ≡ false) → ((h n : ℕ) → says_claim (claim c) (attribute_gap_from h n) ≡ false)
         → (d : Claim) → added how (says_claim (claim c)) d ≡ false
     adds_none c f g (root n) = refl
-    adds_none c f g (edge n k m) = rw (f k n) (and-false (plugs how k))
-    adds_none c f g (string n h s) = rw (g h n) (and-false (fills how h))
+    adds_none c f g (edge n k m) = rw (f k n) (and-false (plugs how.plug k))
+    adds_none c f g (string n h s) = rw (g h n) (and-false (fills how.fill h))
     adds_none c f g (gap_from k n) = refl
     adds_none c f g (attribute_gap_from h n) = refl
 
@@ -94,11 +94,11 @@ module _ (how : Passing) where
         ])
         (λ w. sym is ∙ w c (or_left _ _ (and_both _ _ st (says_itself c))))
 
-    pub root_passes : (n : ℕ) (b : Bool) → passes_roots how ≡ true → R (root n) ≡ b → Decides b (Passes (claim (root n)))
+    pub root_passes : (n : ℕ) (b : Bool) → how.roots ≡ true → R (root n) ≡ b → Decides b (Passes (claim (root n)))
     unfolding same_code
     root_passes n b e is = stays_passes (root n) e (adds_none (root n) (λ g m. refl) (λ h m. refl)) b is
 
-    pub root_stays_out : (n : ℕ) → passes_roots how ≡ false → Passes (claim (root n))
+    pub root_stays_out : (n : ℕ) → how.roots ≡ false → Passes (claim (root n))
     unfolding same_code
     root_stays_out n e d p = elim (or_cases (stays how d && says_claim (claim (root n)) d) (added how (says_claim (claim (root n))) d) p) [
       | inl h ↦ let q : root n ≡ d = says_alone (root n) d (and_right (stays how d) _ h) in
@@ -118,11 +118,11 @@ module _ (how : Passing) where
     any_passes n h there is b v = decides_map b (λ w d p. covers w d (stays_or d p)) (λ w t e. sym (is t) ∙ w (string n h t) (or_left _ _ (says_any n h t))) v
       where
         stays_or : (d : Claim) → passed how (says_claim (any_at n h)) d ≡ true → says_claim (any_at n h) d ≡ true
-        stays_or (root m) p = absurd (false≢true (sym (and-false (passes_roots how)) ∙ (sym (or-false _) ∙ p)))
-        stays_or (edge m g k) p = absurd (false≢true (sym (and-false (plugs how g)) ∙ p))
-        stays_or (string m k s) p = sym (rw (and-false (fills how k)) (or-false _)) ∙ p
-        stays_or (gap_from g m) p = absurd (false≢true (sym (and-false (not (plugs how g))) ∙ (sym (or-false _) ∙ p)))
-        stays_or (attribute_gap_from k m) p = absurd (false≢true (sym (and-false (not (fills how k))) ∙ (sym (or-false _) ∙ p)))
+        stays_or (root m) p = absurd (false≢true (sym (and-false how.roots) ∙ (sym (or-false _) ∙ p)))
+        stays_or (edge m g k) p = absurd (false≢true (sym (and-false (plugs how.plug g)) ∙ p))
+        stays_or (string m k s) p = sym (rw (and-false (fills how.fill k)) (or-false _)) ∙ p
+        stays_or (gap_from g m) p = absurd (false≢true (sym (and-false (not (plugs how.plug g))) ∙ (sym (or-false _) ∙ p)))
+        stays_or (attribute_gap_from k m) p = absurd (false≢true (sym (and-false (not (fills how.fill k))) ∙ (sym (or-false _) ∙ p)))
 
         covers : Within (λ t. true) (holds_value there) → (d : Claim) → says_claim (any_at n h) d ≡ true → R d ≡ true
         covers w (root m) p = absurd (false≢true p)
@@ -136,47 +136,47 @@ module _ (how : Passing) where
 
     -- Origins of a gap that is not plugged, and of one that is: edges to the roots plugged in stand for those.
     module _ (g n : ℕ) where
-      adds_edges : (d : Claim) → added how (says_claim (claim (gap_from g n))) d ≡ true → (plugs how g ≡ true) × (m : ℕ) × (edge n g m ≡ d) × (plugged how m ≡ true)
+      adds_edges : (d : Claim) → added how (says_claim (claim (gap_from g n))) d ≡ true → (plugs how.plug g ≡ true) × (m : ℕ) × (edge n g m ≡ d) × (plugged how.plug m ≡ true)
       unfolding same_code
       adds_edges (root k) p = absurd (false≢true p)
       adds_edges (edge k l m) p =
-          let a : plugs how l ≡ true = and_left _ _ p in
-          let b : (says_claim (claim (gap_from g n)) (gap_from l k) && plugged how m) ≡ true = and_right (plugs how l) _ p in
+          let a : plugs how.plug l ≡ true = and_left _ _ p in
+          let b : (says_claim (claim (gap_from g n)) (gap_from l k) && plugged how.plug m) ≡ true = and_right (plugs how.plug l) _ p in
           let q : gap_from g n ≡ gap_from l k = says_alone (gap_from g n) (gap_from l k) (and_left _ _ b) in
           let r : g ≡ l = cc in
           let r' : n ≡ k = cc in
           (rw r a, m, rw (r, r'), and_right (says_claim (claim (gap_from g n)) (gap_from l k)) _ b)
-      adds_edges (string k h s) p = absurd (false≢true (sym (and-false (fills how h)) ∙ p))
+      adds_edges (string k h s) p = absurd (false≢true (sym (and-false (fills how.fill h)) ∙ p))
       adds_edges (gap_from k l) p = absurd (false≢true p)
       adds_edges (attribute_gap_from h k) p = absurd (false≢true p)
 
-      pub gap_passes : plugs how g ≡ false → (b : Bool) → R (gap_from g n) ≡ b → Decides b (Passes (claim (gap_from g n)))
+      pub gap_passes : plugs how.plug g ≡ false → (b : Bool) → R (gap_from g n) ≡ b → Decides b (Passes (claim (gap_from g n)))
       gap_passes other b is = stays_passes (gap_from g n) (rw other) (λ d. refuted _ λ p. false≢true (sym other ∙ (adds_edges d p).0)) b is
 
-      module _ (e : plugs how g ≡ true) (targets : ℕ) (is : (m : ℕ) → R (edge n g m) ≡ member targets m) where
-        to_edges : Passes (claim (gap_from g n)) → (m : ℕ) → plugged how m ≡ true → member targets m ≡ true
+      module _ (e : plugs how.plug g ≡ true) (targets : ℕ) (is : (m : ℕ) → R (edge n g m) ≡ member targets m) where
+        to_edges : Passes (claim (gap_from g n)) → (m : ℕ) → plugged how.plug m ≡ true → member targets m ≡ true
         to_edges w m p = sym (is m) ∙ w (edge n g m) (or_right (says_claim (claim (gap_from g n)) (edge n g m)) _ (and_both _ _ e (and_both _ _ (says_itself (gap_from g n)) p)))
 
-        from_edges : ((m : ℕ) → plugged how m ≡ true → member targets m ≡ true) → Passes (claim (gap_from g n))
+        from_edges : ((m : ℕ) → plugged how.plug m ≡ true → member targets m ≡ true) → Passes (claim (gap_from g n))
         from_edges w d p = elim (or_cases (stays how d && says_claim (claim (gap_from g n)) d) (added how (says_claim (claim (gap_from g n))) d) p) [
           | inl h ↦ let q : gap_from g n ≡ d = says_alone (gap_from g n) d (and_right (stays how d) _ h) in
-              let z : not (plugs how g) ≡ true = ap (stays how) q ∙ and_left (stays how d) _ h in
+              let z : not (plugs how.plug g) ≡ true = ap (stays how) q ∙ and_left (stays how d) _ h in
               absurd (false≢true (rw e at z))
           | inr h ↦ let a = adds_edges d h in rw (← a.2) (is a.1 ∙ w a.1 a.3)
         ]
 
-        pub plugged_passes : (b : Bool) → Decides b (Within (plugged how) (member targets)) → Decides b (Passes (claim (gap_from g n)))
+        pub plugged_passes : (b : Bool) → Decides b (Within (plugged how.plug) (member targets)) → Decides b (Passes (claim (gap_from g n)))
         plugged_passes b w = decides_map b from_edges to_edges w
 
     -- The same for attribute gaps, with strings.
     module _ (h n : ℕ) where
-      adds_strings : (d : Claim) → added how (says_claim (claim (attribute_gap_from h n))) d ≡ true → (fills how h ≡ true) × (t : ℕ) × (string n h t ≡ d) × (filled how t ≡ true)
+      adds_strings : (d : Claim) → added how (says_claim (claim (attribute_gap_from h n))) d ≡ true → (fills how.fill h ≡ true) × (t : ℕ) × (string n h t ≡ d) × (filled how.fill t ≡ true)
       unfolding same_code
       adds_strings (root k) p = absurd (false≢true p)
-      adds_strings (edge k l m) p = absurd (false≢true (sym (and-false (plugs how l)) ∙ p))
+      adds_strings (edge k l m) p = absurd (false≢true (sym (and-false (plugs how.plug l)) ∙ p))
       adds_strings (string k l t) p =
-          let a : fills how l ≡ true = and_left _ _ p in
-          let b : (says_claim (claim (attribute_gap_from h n)) (attribute_gap_from l k) && filled how t) ≡ true = and_right (fills how l) _ p in
+          let a : fills how.fill l ≡ true = and_left _ _ p in
+          let b : (says_claim (claim (attribute_gap_from h n)) (attribute_gap_from l k) && filled how.fill t) ≡ true = and_right (fills how.fill l) _ p in
           let q : attribute_gap_from h n ≡ attribute_gap_from l k = says_alone (attribute_gap_from h n) (attribute_gap_from l k) (and_left _ _ b) in
           let r : h ≡ l = cc in
           let r' : n ≡ k = cc in
@@ -184,20 +184,20 @@ module _ (how : Passing) where
       adds_strings (gap_from k l) p = absurd (false≢true p)
       adds_strings (attribute_gap_from k l) p = absurd (false≢true p)
 
-      pub attribute_passes : fills how h ≡ false → (b : Bool) → R (attribute_gap_from h n) ≡ b → Decides b (Passes (claim (attribute_gap_from h n)))
+      pub attribute_passes : fills how.fill h ≡ false → (b : Bool) → R (attribute_gap_from h n) ≡ b → Decides b (Passes (claim (attribute_gap_from h n)))
       attribute_passes other b is = stays_passes (attribute_gap_from h n) (rw other) (λ d. refuted _ λ p. false≢true (sym other ∙ (adds_strings d p).0)) b is
 
-      module _ (e : fills how h ≡ true) (there : Values) (is : (t : ℕ) → R (string n h t) ≡ holds_value there t) where
-        to_strings : Passes (claim (attribute_gap_from h n)) → Within (filled how) (holds_value there)
+      module _ (e : fills how.fill h ≡ true) (there : Values) (is : (t : ℕ) → R (string n h t) ≡ holds_value there t) where
+        to_strings : Passes (claim (attribute_gap_from h n)) → Within (filled how.fill) (holds_value there)
         to_strings w t p = sym (is t) ∙ w (string n h t) (or_right (says_claim (claim (attribute_gap_from h n)) (string n h t)) _ (and_both _ _ e (and_both _ _ (says_itself (attribute_gap_from h n)) p)))
 
-        from_strings : Within (filled how) (holds_value there) → Passes (claim (attribute_gap_from h n))
+        from_strings : Within (filled how.fill) (holds_value there) → Passes (claim (attribute_gap_from h n))
         from_strings w d p = elim (or_cases (stays how d && says_claim (claim (attribute_gap_from h n)) d) (added how (says_claim (claim (attribute_gap_from h n))) d) p) [
           | inl k ↦ let q : attribute_gap_from h n ≡ d = says_alone (attribute_gap_from h n) d (and_right (stays how d) _ k) in
-              let z : not (fills how h) ≡ true = ap (stays how) q ∙ and_left (stays how d) _ k in
+              let z : not (fills how.fill h) ≡ true = ap (stays how) q ∙ and_left (stays how d) _ k in
               absurd (false≢true (rw e at z))
           | inr k ↦ let a = adds_strings d k in rw (← a.2) (is a.1 ∙ w a.1 a.3)
         ]
 
-        pub filled_passes : (b : Bool) → Decides b (Within (filled how) (holds_value there)) → Decides b (Passes (claim (attribute_gap_from h n)))
+        pub filled_passes : (b : Bool) → Decides b (Within (filled how.fill) (holds_value there)) → Decides b (Passes (claim (attribute_gap_from h n)))
         filled_passes b w = decides_map b from_strings to_strings w

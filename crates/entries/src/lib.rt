@@ -10,7 +10,7 @@ ghost use Rattle.summaries.specs.Proposal.{root, gap_from, attribute_gap_from, H
 ghost use Rattle.summaries.specs.Summaries.{Summary, Strings, Within, fragment, plug_summary, plug_string_summary, says_claim, says_string, held};
 ghost use Rattle.summaries.specs.Inner.Listed.{Listed, HoldingFits, meaning_of, string_meaning_of};
 ghost use Rattle.graphs.specs.Inner.Graphs.{holds, Keeps, nothing};
-ghost use Rattle.entries.specs.Inner.Passing.{passed, Decides};
+ghost use Rattle.entries.specs.Inner.Passing.{passed, by_roots, by_plug, by_fill, wholly, without_roots, plugging, filling, Decides};
 ghost use Rattle.entries.specs.Inner.Entries.{Loads, Unloads, ItemHolds, WithRoot, origin_of, with_origin};
 
 use commands::{Context, Position};
@@ -21,17 +21,71 @@ use summaries::{Claim, StringClaim};
 // Gaps are below 8, and so are attribute gaps.
 const GAPS: u8 = 8;
 
-// What of an entry passes into the value that a statement makes.
+// A value with these roots is plugged into a gap, whose origins become edges to the roots.
 #[derive(Clone, Copy)]
-pub enum Passing {
-    // All of it.
-    Wholly,
-    // All but its roots.
-    WithoutRoots,
-    // All but the origins of a gap, which become edges to the roots that are plugged in.
-    Plugging { gap: u8, roots: u64 },
-    // All but the origins of an attribute gap, which takes these strings.
-    Filling { gap: u8, strings: Values },
+pub struct Plugged {
+    pub gap: u8,
+    pub roots: u64,
+}
+
+// Strings are plugged into an attribute gap, whose origins take them.
+#[derive(Clone, Copy)]
+pub struct Filled {
+    pub gap: u8,
+    pub strings: Values,
+}
+
+// What of an entry passes into the value that a statement makes: its roots or not, and all else but for the origins of the gap that is
+// plugged and of the attribute gap that is filled.
+#[derive(Clone, Copy)]
+pub struct Passing {
+    pub roots: bool,
+    pub plug: Option<Plugged>,
+    pub fill: Option<Filled>,
+}
+
+// All of an entry passes.
+pub fn wholly() -> Passing
+    ensures { result ≡ wholly }
+{
+    Passing {
+        roots: true,
+        plug: None,
+        fill: None,
+    }
+}
+
+// All but the roots passes.
+pub fn without_roots() -> Passing
+    ensures { result ≡ without_roots }
+{
+    Passing {
+        roots: false,
+        plug: None,
+        fill: None,
+    }
+}
+
+// All passes, with a gap plugged.
+pub fn plugging(gap: u8, roots: u64) -> Passing
+    ensures { result ≡ plugging gap roots }
+{
+    Passing {
+        roots: true,
+        plug: Some(Plugged { gap, roots }),
+        fill: None,
+    }
+}
+
+// All passes, with an attribute gap filled.
+pub fn filling(gap: u8, strings: Values) -> Passing
+    ensures { result ≡ filling gap strings }
+{
+    Passing {
+        roots: true,
+        plug: None,
+        fill: Some(Filled { gap, strings }),
+    }
 }
 
 // The items from here on are added to a graph.
@@ -45,7 +99,8 @@ pub fn load(s: &[u8], here: Position, graph: &mut Graph)
     }
 }
 
-// The items from here on, which were added to a graph that held nothing, are forgotten.
+// The items from here on, which were added to a graph that held nothing, are forgotten. The loop is that of `load`: what it keeps is another
+// fact, so that a loop for both, with the step as a closure, would need the fact as a ghost argument as well.
 fn unload(s: &[u8], here: Position, graph: &mut Graph)
     ensures { Unloads s.now here.at graph.old graph.new }
 {
@@ -67,14 +122,17 @@ fn edge_holds(edges: u64, m: u8) -> bool
 fn string_holds(values: Values, t: u8) -> bool
     ensures { result ≡ holds_value values t }
 {
-    values.any || strings::has(values.named, t)
+    match values {
+        Values::Any => true,
+        Values::Named(set) => strings::has(set, t),
+    }
 }
 
 // A root passes unless roots are left out.
 fn root_holds(graph: &Graph, n: u8, how: Passing) -> bool
     ensures { ItemHolds graph.now how (claim (root n)) result }
 {
-    if let Passing::WithoutRoots = how {
+    if !how.roots {
         return true;
     }
     sets::is_member(graphs::roots(graph), n)
@@ -84,10 +142,8 @@ fn root_holds(graph: &Graph, n: u8, how: Passing) -> bool
 fn gap_holds(graph: &Graph, g: u8, n: u8, how: Passing) -> bool
     ensures { ItemHolds graph.now how (claim (gap_from g n)) result }
 {
-    match how {
-        Passing::Plugging { gap, roots } if g == gap => {
-            sets::is_within(roots, graphs::edges(graph, n, g))
-        }
+    match how.plug {
+        Some(plug) if g == plug.gap => sets::is_within(plug.roots, graphs::edges(graph, n, g)),
         _ => sets::is_member(graphs::origins(graph, g), n),
     }
 }
@@ -96,9 +152,9 @@ fn gap_holds(graph: &Graph, g: u8, n: u8, how: Passing) -> bool
 fn attribute_holds(graph: &Graph, h: u8, n: u8, how: Passing) -> bool
     ensures { ItemHolds graph.now how (claim (attribute_gap_from h n)) result }
 {
-    match how {
-        Passing::Filling { gap, strings } if h == gap => {
-            strings::values_within(strings, graphs::strings_at(graph, n, h))
+    match how.fill {
+        Some(fill) if h == fill.gap => {
+            strings::values_within(fill.strings, graphs::strings_at(graph, n, h))
         }
         _ => sets::is_member(graphs::attribute_origins(graph, h), n),
     }
@@ -213,13 +269,15 @@ fn fragment_holds(graph: &Graph, t: u8, gaps: u64) -> bool
 }
 
 // Whether one entry lies within another, both given by where their items stand. The graph is lent empty and handed back empty.
+// Here and in the three below a graph is filled, asked and emptied by three lines. With the question as a closure these would be one line,
+// beside a function that has to say of the closure what each of the four now says by itself.
 pub fn entry_within(s: &[u8], from: Position, there: Position, graph: &mut Graph) -> bool
     requires { Keeps graph.old nothing }
     ensures decides { (xs ys : List Holding) → Listed Context.TemplateHoldings s.now from.at xs → Listed Context.TemplateHoldings s.now there.at ys → Decides result (Within (held says_claim xs) (held says_claim ys)) }
     ensures empty { Keeps graph.new nothing }
 {
     load(s, there, graph);
-    let holds = items_hold(s, from, graph, Passing::Wholly);
+    let holds = items_hold(s, from, graph, wholly());
     unload(s, there, graph);
     holds
 }
@@ -241,8 +299,8 @@ fn plug_holds(s: &[u8], first: Position, gap: u8, second: Position, graph: &Grap
     ensures { (xs ys : List Holding) (R : Summary) → Listed Context.TemplateHoldings s.now first.at xs → Listed Context.TemplateHoldings s.now second.at ys → Keeps graph.now R → Decides result (Within (plug_summary gap (held says_claim xs) (held says_claim ys)) R) }
 {
     let roots = roots_of(s, second);
-    items_hold(s, first, graph, Passing::Plugging { gap, roots })
-        && items_hold(s, second, graph, Passing::WithoutRoots)
+    items_hold(s, first, graph, plugging(gap, roots))
+        && items_hold(s, second, graph, without_roots())
 }
 
 // Whether the plug of the second entry into a gap of the first lies within the entry whose items stand there.
@@ -278,11 +336,7 @@ pub fn fill_within(
     ensures empty { Keeps graph.new nothing }
 {
     load(s, there, graph);
-    let how = Passing::Filling {
-        gap: attribute,
-        strings,
-    };
-    let holds = items_hold(s, from, graph, how);
+    let holds = items_hold(s, from, graph, filling(attribute, strings));
     unload(s, there, graph);
     holds
 }
@@ -294,40 +348,52 @@ pub fn strings_entry_within(s: &[u8], from: Position, there: Position) -> bool
     strings::values_within(strings_of(s, from), strings_of(s, there))
 }
 
-// The origins of the gap that is plugged become edges to the roots that are plugged in. No gap is 8 or higher.
-fn pass_gap(graph: &mut Graph, gap: u8, roots: u64)
-    ensures { (S : Summary) → Keeps graph.old S → Keeps graph.new (passed (Passing.Plugging gap roots) S) }
+// The roots pass or not.
+fn pass_roots(graph: &mut Graph, roots: bool)
+    ensures { (S : Summary) → Keeps graph.old S → Keeps graph.new (passed (by_roots roots) S) }
 {
-    if GAPS <= gap {
-        return;
+    if !roots {
+        graphs::drop_roots(graph);
     }
-    let open = graphs::origins(graph, gap);
-    graphs::add_edges(graph, open, gap, roots);
-    graphs::drop_origins(graph, gap);
 }
 
-// The origins of the attribute gap that is filled take its strings.
-fn pass_attribute(graph: &mut Graph, gap: u8, strings: Values)
-    ensures { (S : Summary) → Keeps graph.old S → Keeps graph.new (passed (Passing.Filling gap strings) S) }
+// The origins of the gap that is plugged become edges to the roots that are plugged in. No gap is 8 or higher.
+fn pass_gap(graph: &mut Graph, plug: Option<Plugged>)
+    ensures { (S : Summary) → Keeps graph.old S → Keeps graph.new (passed (by_plug plug) S) }
 {
-    if GAPS <= gap {
+    let Some(plug) = plug else {
+        return;
+    };
+    if GAPS <= plug.gap {
         return;
     }
-    let open = graphs::attribute_origins(graph, gap);
-    graphs::add_strings(graph, open, gap, strings);
-    graphs::drop_attribute_origins(graph, gap);
+    let open = graphs::origins(graph, plug.gap);
+    graphs::add_edges(graph, open, plug.gap, plug.roots);
+    graphs::drop_origins(graph, plug.gap);
+}
+
+// The origins of the attribute gap that is filled take its strings. It goes as `pass_gap`, over other words and other claims.
+fn pass_attribute(graph: &mut Graph, fill: Option<Filled>)
+    ensures { (S : Summary) → Keeps graph.old S → Keeps graph.new (passed (by_fill fill) S) }
+{
+    let Some(fill) = fill else {
+        return;
+    };
+    if GAPS <= fill.gap {
+        return;
+    }
+    let open = graphs::attribute_origins(graph, fill.gap);
+    graphs::add_strings(graph, open, fill.gap, fill.strings);
+    graphs::drop_attribute_origins(graph, fill.gap);
 }
 
 // The graph holds what passes of what it held.
 pub fn pass(graph: &mut Graph, how: Passing)
     ensures { (S : Summary) → Keeps graph.old S → Keeps graph.new (passed how S) }
 {
-    match how {
-        Passing::Wholly => {}
-        Passing::WithoutRoots => graphs::drop_roots(graph),
-        Passing::Plugging { gap, roots } => pass_gap(graph, gap, roots),
-        Passing::Filling { gap, strings } => pass_attribute(graph, gap, strings),
-    }
+    pass_roots(graph, how.roots);
+    pass_gap(graph, how.plug);
+    pass_attribute(graph, how.fill);
 }
 
 // The first graph then holds its value with that of the second in place of a gap; the second is left without its roots.
@@ -335,8 +401,8 @@ pub fn plug(graph: &mut Graph, gap: u8, second: &mut Graph)
     ensures { (S T : Summary) → Keeps graph.old S → Keeps second.old T → Keeps graph.new (plug_summary gap S T) }
 {
     let roots = graphs::roots(second);
-    pass(graph, Passing::Plugging { gap, roots });
-    pass(second, Passing::WithoutRoots);
+    pass(graph, plugging(gap, roots));
+    pass(second, without_roots());
     graphs::join(graph, second);
 }
 

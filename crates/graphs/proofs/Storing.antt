@@ -2,7 +2,7 @@
 use Prim.Native.Nat.{ℕ, ◌+◌, ◌*◌, ◌^◌, ◌<◌}
 use mathlib.Core.Path.{◌≡◌, refl, sym, ap, ◌∙◌}
 use mathlib.Core.List.{List}
-use mathlib.Core.Bool.{Bool, true, false, ◌&&◌, ◌||◌, or-false, or_assoc, or_comm, and-true, and-false, and_comm, and-or_distrib_left, and-or_distrib_right}
+use mathlib.Core.Bool.{Bool, true, false, ◌&&◌, ◌||◌, or-false, or_assoc, or_comm, and-true, and-false}
 use native.Mathlib.Omega.{arith}
 use lib.ListN.{length, get_or, set, length-set}
 use lib.Seq.{get_or-set_same, get_or-set_other}
@@ -10,8 +10,6 @@ use lib.Dec.{eqb}
 use borrow.Author.Tests.{eqb-true, eqb-false}
 use Rattle.sets.specs.Sets.{member}
 use Rattle.sets.proofs.Laws.{member_zero}
-use Rattle.strings.specs.declared.Values.{Values}
-use Rattle.strings.specs.Inner.Promises.{holds_value}
 use Rattle.summaries.specs.Proposal.{Claim, root, edge, string, gap_from, attribute_gap_from, Holding, claim, any_at}
 use Rattle.summaries.specs.Summaries.{Summary}
 use Rattle.graphs.specs.Inner.Graphs.{holding_word, holding_bit, is_kept, holds, InWords, Keeps}
@@ -94,8 +92,8 @@ module _ (words : List ℕ) (R : Summary) (K : Keeps words R) where
 
 -- ---- a word with more members
 
-put_first : (a b c d : Bool) → ((a || b) || (c && d)) ≡ (((d && c) || a) || b)
-put_first a b c d = or_comm (a || b) (c && d) ∙ rw (and_comm c d) (sym (or_assoc (d && c) a b))
+put_first : (a b c : Bool) → ((a || b) || c) ≡ ((c || a) || b)
+put_first a b c = or_comm (a || b) c ∙ sym (or_assoc c a b)
 
 module _ (words : List ℕ) (R : Summary) (K : Keeps words R) (n g : ℕ) (few : n < 32) (low : g < 8) (v : ℕ) where
   module _ (to : ℕ → Bool) (either : (k : ℕ) → member v k ≡ (member (get_or words (288 + n * 8 + g) 0) k || to k)) where
@@ -123,21 +121,21 @@ module _ (words : List ℕ) (R : Summary) (K : Keeps words R) (n g : ℕ) (few :
         go (gap_from k m) w l = K.same (gap_from k m) w ∙ sym (other words (288 + n * 8 + g) v l (claim (gap_from k m)) (λ e. omega arith))
         go (attribute_gap_from k m) w l = K.same (attribute_gap_from k m) w ∙ sym (other words (288 + n * 8 + g) v l (claim (attribute_gap_from k m)) (λ e. omega arith))
 
-  module _ (any : Bool) (either : (k : ℕ) → member v k ≡ ((eqb k n && any) || member (get_or words (17 + g) 0) k)) where
-    any_added : (c : Claim) → InWords c → added_at true g (λ s. any) (λ k. eqb k n) R c ≡ holds (set words (17 + g) v) c
+  module _ (either : (k : ℕ) → member v k ≡ (eqb k n || member (get_or words (17 + g) 0) k)) where
+    any_added : (c : Claim) → InWords c → added_at true g (λ s. true) (λ k. eqb k n) R c ≡ holds (set words (17 + g) v) c
     any_added c w = let room = K.room in go c w (omega arith)
       where
-        go : (c : Claim) → InWords c → 17 + g < length words → added_at true g (λ s. any) (λ k. eqb k n) R c ≡ holds (set words (17 + g) v) c
+        go : (c : Claim) → InWords c → 17 + g < length words → added_at true g (λ s. true) (λ k. eqb k n) R c ≡ holds (set words (17 + g) v) c
         go (root m) w l = K.same (root m) w ∙ sym (other words (17 + g) v l (claim (root m)) (λ e. omega arith))
         go (edge m k t) w l =
             rw (or-false (R (edge m k t))) (K.same (edge m k t) w ∙ sym (other words (17 + g) v l (claim (edge m k t)) (λ e. omega arith)))
         go (string m k s) w l = rw (other words (17 + g) v l (claim (string m k s)) (λ e. omega arith)) (by (eqb k g) refl)
           where
-            by : (a : Bool) → eqb k g ≡ a → (R (string m k s) || (a && (any && eqb m n))) ≡ (is_kept (set words (17 + g) v) (any_at m k) || is_kept words (claim (string m k s)))
+            by : (a : Bool) → eqb k g ≡ a → (R (string m k s) || (a && eqb m n)) ≡ (is_kept (set words (17 + g) v) (any_at m k) || is_kept words (claim (string m k s)))
             by true e =
                 let p : k ≡ g = eqb-true k g e in
                 rw (p, K.same (string m g s) (w.0, low), get_or-set_same words (17 + g) v 0 l, either m)
-                (put_first (is_kept words (any_at m g)) (is_kept words (claim (string m g s))) any (eqb m n))
+                (put_first (is_kept words (any_at m g)) (is_kept words (claim (string m g s))) (eqb m n))
             by false e =
                 rw (or-false (R (string m k s)), other words (17 + g) v l (any_at m k) (λ z. let f = eqb-false k g e in f (omega arith))) (K.same (string m k s) w)
         go (gap_from k m) w l = K.same (gap_from k m) w ∙ sym (other words (17 + g) v l (claim (gap_from k m)) (λ e. omega arith))
@@ -156,34 +154,12 @@ module _ (words : List ℕ) (g : ℕ) (low : g < 8) (i : ℕ) where
   attribute_origins_drop e = rw e (stored_keeps words (9 + g) 0 (omega arith) (omega arith) (without_attribute_gap g) (λ R K. attribute_origins_dropped words R K g low))
 
 module _ (words : List ℕ) (n g : ℕ) (few : n < 32) (low : g < 8) where
-  named_add : (i v : ℕ) → i ≡ 288 + n * 8 + g → v < 2 ^ 64 → (to : ℕ → Bool) → ((k : ℕ) → member v k ≡ (member (get_or words i 0) k || to k))
+  pub named_add : (i v : ℕ) → i ≡ 288 + n * 8 + g → v < 2 ^ 64 → (to : ℕ → Bool) → ((k : ℕ) → member v k ≡ (member (get_or words i 0) k || to k))
       → (R : Summary) → Keeps words R → Keeps (set words i v) (added_at true g to (λ k. eqb k n) R)
   named_add i v e l to either =
       rw e (stored_keeps words (288 + n * 8 + g) v l (omega arith) (added_at true g to (λ k. eqb k n)) (λ R K. named_added words R K n g few low v to (rw e at either)))
 
-  any_add : (i v : ℕ) → i ≡ 17 + g → v < 2 ^ 64 → (any : Bool) → ((k : ℕ) → member v k ≡ ((eqb k n && any) || member (get_or words i 0) k))
-      → (R : Summary) → Keeps words R → Keeps (set words i v) (added_at true g (λ s. any) (λ k. eqb k n) R)
-  any_add i v e l any either =
-      rw e (stored_keeps words (17 + g) v l (omega arith) (added_at true g (λ s. any) (λ k. eqb k n)) (λ R K. any_added words R K n g few low v any (rw e at either)))
-
--- Named strings and any string, one after the other.
-values_same : (g n : ℕ) (values : Values) (R : Summary) (c : Claim)
-    → added_at true g (holds_value values) (λ k. eqb k n) R c ≡ added_at true g (λ s. values.any) (λ k. eqb k n) (added_at true g (member values.named.word) (λ k. eqb k n) R) c
-values_same g n values R (root m) = refl
-values_same g n values R (edge m k t) = sym (or-false _)
-values_same g n values R (string m k s) = both (R (string m k s)) (eqb k g) values.any (member values.named.word s) (eqb m n)
-  where
-    both : (r q a b e : Bool) → (r || (q && ((a || b) && e))) ≡ ((r || (q && (b && e))) || (q && (a && e)))
-    both r q a b e =
-        rw (and-or_distrib_right a b e, and-or_distrib_left q (a && e) (b && e), or_comm (q && (a && e)) (q && (b && e)))
-        (sym (or_assoc r (q && (b && e)) (q && (a && e))))
-values_same g n values R (gap_from k m) = refl
-values_same g n values R (attribute_gap_from k m) = refl
-
-pub values_add : (words : List ℕ) (n g : ℕ) → n < 32 → g < 8 → (values : Values) (i v j w : ℕ) → i ≡ 288 + n * 8 + g → v < 2 ^ 64
-    → ((k : ℕ) → member v k ≡ (member (get_or words i 0) k || member values.named.word k)) → j ≡ 17 + g → w < 2 ^ 64
-    → ((k : ℕ) → member w k ≡ ((eqb k n && values.any) || member (get_or (set words i v) j 0) k))
-    → (R : Summary) → Keeps words R → Keeps (set (set words i v) j w) (added_at true g (holds_value values) (λ k. eqb k n) R)
-values_add words n g few low values i v j w e l named f m any R K =
-    keeps_same _ _ _ (λ c g'. values_same g n values R c)
-    (any_add (set words i v) n g few low j w f m values.any any _ (named_add words n g few low i v e l (member values.named.word) named R K))
+  pub any_add : (i v : ℕ) → i ≡ 17 + g → v < 2 ^ 64 → ((k : ℕ) → member v k ≡ (eqb k n || member (get_or words i 0) k))
+      → (R : Summary) → Keeps words R → Keeps (set words i v) (added_at true g (λ s. true) (λ k. eqb k n) R)
+  any_add i v e l either =
+      rw e (stored_keeps words (17 + g) v l (omega arith) (added_at true g (λ s. true) (λ k. eqb k n)) (λ R K. any_added words R K n g few low v (rw e at either)))

@@ -75,13 +75,14 @@ pub fn strings_at(graph: &Graph, n: u8, h: u8) -> Values
     ensures { n < 32 → h < 8 → (t : ℕ) → holds_value result t ≡ holds graph.now (string n h t) }
 {
     let takers = graph[ANY_STRINGS + (h % 8) as usize];
-    Values {
-        named: strings::of_number(graph[word_at(STRINGS, n, h)]),
-        any: sets::has(takers, n % 64),
+    if sets::has(takers, n % 64) {
+        return Values::Any;
     }
+    Values::Named(strings::of_number(graph[word_at(STRINGS, n, h)]))
 }
 
-// The templates from which open gap g may come.
+// The templates from which open gap g may come. Gaps and attribute gaps have their own words and their own claims, here and below: one
+// function for both would take the sort as an argument and have a contract by cases.
 pub fn origins(graph: &Graph, g: u8) -> u64
     ensures { g < 8 → (n : ℕ) → member result n ≡ holds graph.now (gap_from g n) }
 {
@@ -181,10 +182,16 @@ fn add_edges_at(graph: &mut Graph, n: u8, g: u8, to: u64)
 fn add_strings_at(graph: &mut Graph, n: u8, h: u8, values: Values)
     ensures { n < 32 → h < 8 → (R : Summary) → Keeps graph.old R → Keeps graph.new (added_at true h (holds_value values) (λ k. eqb k n) R) }
 {
-    let i = word_at(STRINGS, n, h);
-    graph[i] = sets::union(graph[i], values.named.word);
-    let k = ANY_STRINGS + (h % 8) as usize;
-    graph[k] = sets::with_if(graph[k], n % 64, values.any);
+    match values {
+        Values::Any => {
+            let i = ANY_STRINGS + (h % 8) as usize;
+            graph[i] = sets::with(graph[i], n % 64);
+        }
+        Values::Named(set) => {
+            let i = word_at(STRINGS, n, h);
+            graph[i] = sets::union(graph[i], set.word);
+        }
+    }
 }
 
 // Gap g also has edges from the templates of one set to those of another.
@@ -198,7 +205,8 @@ pub fn add_edges(graph: &mut Graph, from: u64, g: u8, to: u64)
     }
 }
 
-// Attribute gap h of the templates of a set can also take these values.
+// Attribute gap h of the templates of a set can also take these values. The loop is that of `add_edges`: with the step as a closure it would
+// need a contract of what each call does to the graph, which is longer than the loop.
 pub fn add_strings(graph: &mut Graph, at: u64, h: u8, values: Values)
     ensures { h < 8 → (R : Summary) → Keeps graph.old R → Keeps graph.new (added_at true h (holds_value values) (member at) R) }
 {

@@ -14,7 +14,9 @@ use Rattle.verdicts.specs.Printed.{Writing}
 use Rattle.verdicts.specs.Printed.{unreadable as unreadable_at}
 use Rattle.verdicts.specs.TheVerdict.{TheVerdict}
 use Rattle.verdicts.proofs.Told.{form_refuses}
+use Rattle.commands.specs.declared.Position.{Position}
 use Rattle.commands.specs.declared.ReadError.{ReadError}
+use Rattle.programs.proofs.Laws.{WholeAs, agrees_with_whole, agrees_with_refuses}
 use Rattle.summaries.specs.Summaries.{Environment}
 use Rattle.summaries.specs.ProposalOf.{proposal_of}
 use Rattle.summaries.specs.WrittenProposal.{written_proposal}
@@ -23,7 +25,6 @@ use Rattle.jobs.specs.Job.{Script, script}
 use Rattle.jobs.specs.LeastEntries.{Least, proposal_bytes}
 use Rattle.jobs.specs.Inference.{script_slice, work_words, outcome, zeros, stored_at, Infers, unreadable, work_too_short, does_not_fit, proposal_written, Completes}
 use Rattle.jobs.specs.Inner.Promises.{ScriptKept, SliceReads}
-use Rattle.jobs.proofs.Alone.{WholeAlone, alone_holds, alone_refuses}
 use Rattle.jobs.proofs.Tables.{alone_whole, script_tables}
 use Rattle.round_trip.specs.InRange.{Bytes}
 use Rattle.least_entries.proofs.Accepted.{accepted_if_any}
@@ -61,13 +62,13 @@ counted {a} {b} {c} {d} E e f = ap (λ (k : ℕ). written_proposal (proposal_of 
 
 -- Reading, where a refusal is told with the slice.
 module _ (P : ReadError → Refusal → Type 0) where
-  abbrev pub Told : Result ScriptRead ReadError → Result ScriptRead Refusal → Type 0
+  abbrev pub Told : Result (ScriptRead × Position) ReadError → Result (ScriptRead × Position) Refusal → Type 0
   Told x y = MatchResult x (λ v. y ≡ Ok v) (λ e. IsErrAnd y (P e))
 
-  pub told_read : (s : List ℕ) (x : Result ScriptRead ReadError) (y : Result ScriptRead Refusal) → Told x y → (v : ScriptRead) → y ≡ Ok v → SliceReads s x → SliceReads s (Ok v)
+  pub told_read : (s : List ℕ) (x : Result (ScriptRead × Position) ReadError) (y : Result (ScriptRead × Position) Refusal) → Told x y → (v : ScriptRead × Position) → y ≡ Ok v → SliceReads s x → SliceReads s (Ok v)
   told_read s x y cases v q h = go x (subst (Told x) q cases) h
     where
-      go : (w : Result ScriptRead ReadError) → Told w (Ok v) → SliceReads s w → SliceReads s (Ok v)
+      go : (w : Result (ScriptRead × Position) ReadError) → Told w (Ok v) → SliceReads s w → SliceReads s (Ok v)
       go (Ok u) e h = let same : u ≡ v = cc in rw (← same) h
       go (Err u) e h = absurd e
 
@@ -77,19 +78,19 @@ module _ (s work buffer : List ℕ) (place : ℕ) where
   Answers r work' buffer' = TheVerdict (Infers s work buffer place) (outcome r work' buffer') × Completes s place (outcome r work' buffer')
 
   pub unreadable_answers : (e : ReadError) → SliceReads s (Err e) → Answers (Err (unreadable_at e.form e.at 0)) work buffer
-  unreadable_answers e h = (the_outcome (unreadable (alone_refuses (ScriptKept s) (script_slice s) e h)), λ n. absurd (form_refuses e.form n))
+  unreadable_answers e h = (the_outcome (unreadable (agrees_with_refuses (ScriptKept s) (script_slice s) (Err e) e refl h)), λ n. absurd (form_refuses e.form n))
 
-  pub told_answers : (P : ReadError → Refusal → Type 0) (x : Result ScriptRead ReadError) (y : Result ScriptRead Refusal) → Told P x y → (r : Refusal) → y ≡ Err r
+  pub told_answers : (P : ReadError → Refusal → Type 0) (x : Result (ScriptRead × Position) ReadError) (y : Result (ScriptRead × Position) Refusal) → Told P x y → (r : Refusal) → y ≡ Err r
       → ((e : ReadError) → P e r → r ≡ unreadable_at e.form e.at 0) → SliceReads s x → (z : Writing) → z ≡ Err r → Answers z work buffer
   told_answers P x y cases r q told h z is = rw is (go x (subst (Told P x) q cases) h)
     where
-      go : (w : Result ScriptRead ReadError) → Told P w (Err r) → SliceReads s w → Answers (Err r) work buffer
+      go : (w : Result (ScriptRead × Position) ReadError) → Told P w (Err r) → SliceReads s w → Answers (Err r) work buffer
       go (Ok v) e h = let n : ◌≡◌ {A = ℕ} 0 1 = cc in absurd (omega arith)
       go (Err u) e h = rw (told u e) (unreadable_answers u h)
 
-  module _ (read : ScriptRead) (h : SliceReads s (Ok read)) where
-    abbrev pub read_whole : WholeAlone (ScriptKept s) (script_slice s) read
-    read_whole = alone_holds (ScriptKept s) (script_slice s) read h
+  module _ (read : ScriptRead) (end : Position) (h : SliceReads s (Ok (read, end))) where
+    abbrev pub read_whole : WholeAs (λ π at. ScriptKept s π read) (script_slice s) end
+    read_whole = agrees_with_whole (ScriptKept s) (script_slice s) (Ok (read, end)) read end refl h
 
     pub tables_are : TablesAre read_whole.tree s read
     unfolding script_slice

@@ -54,7 +54,9 @@ pub fn infer(job: &[u8], work: &mut [u64], buffer: &mut [u8], place: usize) -> W
     ensures untouched { job.now ≡ job.now }
     ensures accepted_if_any { Completes job.now place (outcome result work.new buffer.new) }
 {
-    let read = jobs::read_script_slice(job).map_err(|e| verdicts::unreadable(e.form, e.at, 0))?;
+    let (read, _) = jobs::read_script_slice(job).map_err(|e| verdicts::unreadable(
+        e.form, e.at, 0,
+    ))?;
     if work.len() < WORK_WORDS {
         return Err(Refusal::NoRoom(WORK_WORDS));
     }

@@ -33,7 +33,6 @@ use Rattle.jobs.specs.declared.ScriptRead.{ScriptRead}
 use Rattle.jobs.specs.Job.{Script, Job, script, job}
 use Rattle.jobs.specs.Inference.{script_slice}
 use Rattle.jobs.specs.Inner.Promises.{ScriptKept, JobKept, short, FewEnough, EndedAt, ScriptReads, SliceReads, JobReads}
-use Rattle.jobs.proofs.Alone.{whole_alone, refusal_alone}
 
 -- What is read after each part.
 module _ (s : List ℕ) where
@@ -158,7 +157,7 @@ module _ (s : List ℕ) where
   slice_is = alone_is s (script s)
 
   pub slice_refused : (e : ReadError) → ScriptReads s (Err e) → SliceReads s (Err e)
-  slice_refused e reads = refusal_alone (ScriptKept s) (script_slice s) e (slice_is ∙ rw (agrees_with_refuses (ScriptKept s) (short s (script s)) (Err e) e refl reads))
+  slice_refused e reads = refused_agrees_with (ScriptKept s) (script_slice s) e (slice_is ∙ rw (agrees_with_refuses (ScriptKept s) (short s (script s)) (Err e) e refl reads))
 
   module _ (r : ScriptRead) (end : Position) (reads : ScriptReads s (Ok (r, end))) where
     slice_there : WholeAs (λ π at. ScriptKept s π r) (short s (script s)) end
@@ -168,10 +167,10 @@ module _ (s : List ℕ) where
     slice_stops = slice_is ∙ whole_then (λ π at. ScriptKept s π r) (short s (script s)) end slice_there (stops s)
 
     pub slice_longer : (e : ReadError) → EndedAt s end.at (Err e) → SliceReads s (Err e)
-    slice_longer e h = refusal_alone (ScriptKept s) (script_slice s) e (slice_stops ∙ more_follows s slice_there.tree end e h)
+    slice_longer e h = refused_agrees_with (ScriptKept s) (script_slice s) e (slice_stops ∙ more_follows s slice_there.tree end e h)
 
-    pub slice_whole : length s ≤ end.at → SliceReads s (Ok r)
-    slice_whole l = whole_alone (ScriptKept s) (script_slice s) slice_there.tree end.at r (slice_stops ∙ nothing_follows s slice_there.tree end.at l) slice_there.holds
+    pub slice_whole : length s ≤ end.at → SliceReads s (Ok (r, end))
+    slice_whole l = whole_agrees_with (ScriptKept s) (script_slice s) r end slice_there.tree end.at (slice_stops ∙ nothing_follows s slice_there.tree end.at l) refl slice_there.holds
 
 -- A job: its script is refused, or is there.
 module _ (s : List ℕ) where
@@ -184,7 +183,7 @@ module _ (s : List ℕ) where
   job_is = alone_is s (and_then (script s) after_script) ∙ ap (λ (r : Read Job). and_then r (stops s)) (short_then s (script s) after_script)
 
   pub script_refused : (e : ReadError) (heads : List ℕ) → ScriptReads s (Err e) → JobReads s heads (Err e)
-  script_refused e heads reads = refusal_alone (JobKept s heads) (job s) e (job_is ∙ rw (agrees_with_refuses (ScriptKept s) (short s (script s)) (Err e) e refl reads))
+  script_refused e heads reads = refused_agrees_with (JobKept s heads) (job s) e (job_is ∙ rw (agrees_with_refuses (ScriptKept s) (short s (script s)) (Err e) e refl reads))
 
   module _ (r : ScriptRead) (next : Position) (reads : ScriptReads s (Ok (r, next))) where
     there : WholeAs (λ π end. ScriptKept s π r) (short s (script s)) next
@@ -215,7 +214,7 @@ module _ (s : List ℕ) where
 
       pub proposal_refused : (e : ReadError) → ProposalReads r.templates.count r.points.count s 0 next.at heads (Err e) → JobReads s heads (Err e)
       proposal_refused e h =
-          refusal_alone (JobKept s heads) (job s) e (job_goes ∙ rw (agrees_refuses KeptHere heads_from (Err e) e refl (h_agrees (Err e) h)))
+          refused_agrees_with (JobKept s heads) (job s) e (job_goes ∙ rw (agrees_refuses KeptHere heads_from (Err e) e refl (h_agrees (Err e) h)))
 
       module _ (end : Position) (h : ProposalReads r.templates.count r.points.count s 0 next.at heads (Ok end)) where
         h_tree : WholeAs KeptHere heads_from end
@@ -228,8 +227,8 @@ module _ (s : List ℕ) where
         job_stops = job_goes ∙ rw (h_tree.reads, ← h_tree.ends)
 
         pub job_longer : (e : ReadError) → EndedAt s end.at (Err e) → JobReads s heads (Err e)
-        job_longer e q = refusal_alone (JobKept s heads) (job s) e (job_stops ∙ more_follows s whole_job end e q)
+        job_longer e q = refused_agrees_with (JobKept s heads) (job s) e (job_stops ∙ more_follows s whole_job end e q)
 
-        pub job_whole : length s ≤ end.at → JobReads s heads (Ok r)
-        job_whole l = whole_alone (JobKept s heads) (job s) whole_job end.at r (job_stops ∙ nothing_follows s whole_job end.at l)
+        pub job_whole : length s ≤ end.at → JobReads s heads (Ok (r, end))
+        job_whole l = whole_agrees_with (JobKept s heads) (job s) r end whole_job end.at (job_stops ∙ nothing_follows s whole_job end.at l) refl
             (record { of_script = there.holds; proposal = h_tree.holds })

@@ -61,22 +61,22 @@ fn read_script(s: &[u8]) -> Result<(ScriptRead, Position), ReadError>
 }
 
 // A script that is a slice of its own.
-pub fn read_script_slice(s: &[u8]) -> Result<ScriptRead, ReadError>
+pub fn read_script_slice(s: &[u8]) -> Result<(ScriptRead, Position), ReadError>
     ensures { SliceReads s.now result }
 {
     let (read, end) = read_script(s)?;
     ended(s, end)?;
-    Ok(read)
+    Ok((read, end))
 }
 
 // A job: the script, then the proposal. An array that is lent with zeros gets the offsets of the items under each head of the
 // proposal.
-pub fn read_job(s: &[u8], heads: &mut [usize; 256]) -> Result<ScriptRead, ReadError>
+pub fn read_job(s: &[u8], heads: &mut [usize; 256]) -> Result<(ScriptRead, Position), ReadError>
     requires { heads.old ≡ replicate 256 0 }
     ensures { JobReads s.now heads.new result }
 {
     let (read, next) = read_script(s)?;
     let end = summaries::read_proposal(s, next, read.templates.count, read.points.count, heads)?;
     ended(s, end)?;
-    Ok(read)
+    Ok((read, end))
 }

@@ -16,6 +16,7 @@ use Rattle.commands.specs.declared.Position.{Position}
 use Rattle.commands.specs.declared.ReadError.{ReadError}
 use Rattle.commands.specs.Commands.{byte}
 use Rattle.commands.specs.Reading.{whole, enough}
+use Rattle.commands.specs.Inner.Parts.{Agrees}
 use Rattle.vocabularies.specs.declared.Tables.{Tables}
 use Rattle.vocabularies.specs.Vocabulary.{Vocabulary, declared}
 use Rattle.vocabularies.specs.VocabularyReading.{vocabulary, alone, vocabulary_slice}
@@ -28,6 +29,7 @@ use Rattle.pages.specs.ItemReading.{items, page_slice}
 use Rattle.pages.specs.Inner.Steps.{item_here}
 use Rattle.pages.proofs.Whole.{never_unfinished, items_whole}
 use Rattle.pages.proofs.Steps.{ElementFirst, text_first, blank_first, gap_first, element_first, end_first}
+use Rattle.programs.proofs.Laws.{WholeAs, agrees_whole, agrees_refuses, agrees_with_whole, agrees_with_refuses}
 use Rattle.judging.specs.declared.Judged.{Judged}
 use Rattle.pages.specs.PageVerdict.{PageVerdict}
 use Rattle.judging.specs.Inner.Judgement.{first_wrong, is_none, is_alone, wrong_verdict, judged, page_verdict}
@@ -37,8 +39,7 @@ use Rattle.judging.proofs.Booleans.{by_test}
 use Rattle.judging.proofs.AttributeLaws.{no_template}
 use Rattle.judging.proofs.ItemLaws.{or_none}
 use Rattle.judge.specs.Inner.Answers.{not_root, Solid, AfterBlank, JudgesRead, VocabularyReads, PageReads}
-use Rattle.jobs.specs.Inner.Promises.{AgreesAlone}
-use Rattle.jobs.proofs.Alone.{WholeAlone, kept_alone, refused_alone, TellsAs, told_err, told_ok, unreadable_at}
+use Rattle.jobs.proofs.Told.{TellsAs, told_err, told_ok, unreadable_at}
 use Rattle.jobs.proofs.Tables.{alone_whole}
 use Rattle.judge.proofs.BlankLaws.{none_left}
 
@@ -138,17 +139,17 @@ is_alone_then false r w h q = cc
 
 -- ---- any vocabulary and any page
 
-module _ (v p : List ℕ) (x : Result Tables ReadError) (A : VocabularyReads v x) (x' : Result Tables Refusal) (tells : TellsAs (unreadable_at 0) x x') where
+module _ (v p : List ℕ) (x : Result (Tables × Position) ReadError) (A : VocabularyReads v x) (x' : Result (Tables × Position) Refusal) (tells : TellsAs (unreadable_at 0) x x') where
   pub vocabulary_refused : (f : Refusal) → x' ≡ Err f → Refused f ≡ page_verdict v p
   unfolding page_verdict vocabulary_slice
   vocabulary_refused f q =
       let (e, is, told) = told_err (unreadable_at 0) x x' tells f q in
-      rw (told, refused_alone (Describes v) (alone v (vocabulary v)) x e is A)
+      rw (told, agrees_with_refuses (Describes v) (alone v (vocabulary v)) x e is A)
 
-  module _ (t : Tables) (q : x' ≡ Ok t) where
-    read : WholeAlone (Describes v) (vocabulary_slice v) t
+  module _ (t : Tables) (at : Position) (q : x' ≡ Ok (t, at)) where
+    read : WholeAs (λ D end. Describes v D t) (vocabulary_slice v) at
     unfolding vocabulary_slice
-    read = kept_alone (Describes v) (alone v (vocabulary v)) x t (told_ok (unreadable_at 0) x x' tells t q) A
+    read = agrees_with_whole (Describes v) (alone v (vocabulary v)) x t at (told_ok (unreadable_at 0) x x' tells (t, at) q) A
 
     abbrev D : Vocabulary
     D = read.tree
@@ -157,20 +158,20 @@ module _ (v p : List ℕ) (x : Result Tables ReadError) (A : VocabularyReads v x
     unfolding page_verdict
     under = rw read.reads
 
-    module _ (y : Result (Unit {0}) ReadError) (B : PageReads t.declared p y) (y' : Result (Unit {0}) Refusal) (tells_page : TellsAs (unreadable_at 1) y y') where
-      page_reads : AgreesAlone (λ (φ : Items) u. Unit {0}) (page_slice D p) y
+    module _ (y : Result Position ReadError) (B : PageReads t.declared p y) (y' : Result Position Refusal) (tells_page : TellsAs (unreadable_at 1) y y') where
+      page_reads : Agrees (page_slice D p) y
       unfolding page_slice
-      page_reads = subst (λ (ruled : ℕ → Bool). AgreesAlone (λ (φ : Items) (u : Unit {0}). Unit {0}) (alone p (items (enough p) Page ruled p 0 0)) y) (fun_ext read.holds.declares) B
+      page_reads = subst (λ (ruled : ℕ → Bool). Agrees (alone p (items (enough p) Page ruled p 0 0)) y) (fun_ext read.holds.declares) B
 
       pub page_refused : (f : Refusal) → y' ≡ Err f → Refused f ≡ page_verdict v p
       page_refused f z =
           let (e, is, told) = told_err (unreadable_at 1) y y' tells_page f z in
-          rw told (sym (ap (judged D) (refused_alone (λ (φ : Items) u. Unit {0}) (page_slice D p) y e is page_reads)) ∙ under)
+          rw told (sym (ap (judged D) (agrees_refuses (λ (φ : Items) end. Unit {0}) (page_slice D p) y e is page_reads)) ∙ under)
 
-      pub page_judged : (u : Unit {0}) → y' ≡ Ok u → (r : Verdict) → JudgesRead v p t r → r ≡ page_verdict v p
+      pub page_judged : (next : Position) → y' ≡ Ok next → (r : Verdict) → JudgesRead v p t r → r ≡ page_verdict v p
       unfolding page_slice
-      page_judged u z r R =
-          let w = kept_alone (λ (φ : Items) u. Unit {0}) (page_slice D p) y u (told_ok (unreadable_at 1) y y' tells_page u z) page_reads in
+      page_judged next z r R =
+          let w = agrees_whole (λ (φ : Items) end. Unit {0}) (page_slice D p) y next (told_ok (unreadable_at 1) y y' tells_page next z) page_reads in
           let reads = alone_whole p (items (enough p) Page (declared D.rules) p 0 0) w.reads in
           R D read.holds w.tree w.end reads ∙ (sym (ap (judged D) w.reads) ∙ under)
 

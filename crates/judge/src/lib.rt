@@ -73,44 +73,39 @@ fn judge_read(vocabulary: &[u8], tables: Tables, page: &[u8]) -> Result<(), Refu
         return Err(not_root());
     }
     let mut shapes = judging::no_shapes(vocabulary);
-    let root = judging::judge_item(
-        vocabulary,
-        &tables.attributes,
-        &tables.contents,
-        &tables.clauses,
-        page,
-        start,
-        &mut shapes,
-    );
+    let root = judging::judge_item(vocabulary, &tables.rules, page, start, &mut shapes);
     let last = after_blank(page, root.next);
     page_end(page, last)?;
     wrong_element(root.wrong)
 }
 
 // The vocabulary of a slice: 1 to 7 where it cannot be read.
-fn read_vocabulary(vocabulary: &[u8]) -> Result<Tables, ReadError>
+fn read_vocabulary(vocabulary: &[u8]) -> Result<(Tables, Position), ReadError>
     ensures { VocabularyReads vocabulary.now result }
 {
     jobs::not_too_many(vocabulary)?;
     let (tables, end) = vocabularies::read_vocabulary(vocabulary)?;
     jobs::ended(vocabulary, end)?;
-    Ok(tables)
+    Ok((tables, end))
 }
 
 // 1 to 8 where a slice is no page whose elements have rules.
-fn read_page(declared: u64, page: &[u8]) -> Result<(), ReadError>
+fn read_page(declared: u64, page: &[u8]) -> Result<Position, ReadError>
     ensures { PageReads declared page.now result }
 {
     jobs::not_too_many(page)?;
     let end = pages::read_page(declared, page)?;
-    jobs::ended(page, end)
+    jobs::ended(page, end)?;
+    Ok(end)
 }
 
 // 1 to 8, the vocabulary before the page; then the judgement.
 fn judge_slices(vocabulary: &[u8], page: &[u8]) -> Result<(), Refusal>
     ensures { verdict_of result ≡ page_verdict vocabulary.now page.now }
 {
-    let tables = read_vocabulary(vocabulary).map_err(|e| verdicts::unreadable(e.form, e.at, 0))?;
+    let (tables, _) = read_vocabulary(vocabulary).map_err(|e| verdicts::unreadable(
+        e.form, e.at, 0,
+    ))?;
     read_page(tables.declared, page).map_err(|e| verdicts::unreadable(e.form, e.at, 1))?;
     judge_read(vocabulary, tables, page)
 }

@@ -6,11 +6,13 @@ use mathlib.Core.Path.{◌≡◌, refl, sym, ap, subst, ◌∙◌}
 use mathlib.Core.List.{List, [], ◌∷◌, ◌++◌, append_assoc, append-nil}
 use mathlib.Core.Bool.{Bool}
 use native.Mathlib.Omega.{arith}
-use lib.ListN.{length}
+use lib.ListN.{length, get_or}
 use Rattle.verdicts.specs.declared.Breach.{Breach}
 use Rattle.commands.specs.declared.Position.{Position}
 use Rattle.commands.specs.Reading.{whole}
+use Rattle.vocabularies.specs.declared.Rule.{Rule}
 use Rattle.vocabularies.specs.Vocabulary.{Vocabulary, rule_of, declared}
+use Rattle.vocabularies.specs.Inner.Promises.{no_rule}
 use Rattle.vocabularies.proofs.Laws.{rule_found}
 use Rattle.pages.specs.declared.Kind.TheVariants.{Page}
 use Rattle.pages.specs.declared.ItemHere.{ItemHere}
@@ -27,7 +29,7 @@ use Rattle.judging.specs.declared.Judged.{Judged}
 use Rattle.judging.specs.declared.Listed.{Listed}
 use Rattle.judging.specs.declared.Named.{Named}
 use Rattle.judging.specs.Inner.Judgement.{FirstWrong, breach_under, or_else, of_element, first_wrong, first_wrong_item}
-use Rattle.judging.specs.Inner.Promises.{broken_by, step_next, Counted, Containing, Remembered, Names, TellsOutcome, rule_at, Tabled, ItemJudged, JudgesItem, ItemsJudged, JudgesItems}
+use Rattle.judging.specs.Inner.Promises.{broken_by, step_next, Counted, Containing, Remembered, Names, TellsOutcome, Tabled, ItemJudged, JudgesItem, ItemsJudged, JudgesItems}
 use Rattle.judging.proofs.AttributeLaws.{no_template}
 
 pub or_none : (w : FirstWrong) → or_else w None ≡ w
@@ -57,10 +59,10 @@ module _ (D : Vocabulary) (p : List ℕ) where
     ] refl
 
     -- An element: itself, by the tests of its rule, before those inside it.
-    module _ (v allowed held from : List ℕ) (T : Tabled v D allowed held from) (e : ℕ) (start : Position) (opens : h ≡ Element e start)
+    module _ (v : List ℕ) (rules : List Rule) (T : Tabled v D rules) (e : ℕ) (start : Position) (opens : h ≡ Element e start)
         (named : Named) (strings : List ℕ) (N : Names p start.at named strings)
         (list : Listed) (order : List Standing) (L : JudgesItems D p named.next.at list order)
-        (outcome : Values.Option Breach) (R : TellsOutcome v (rule_at allowed held from e) (record { names = named.names; contents = list.contents }) strings order outcome) where
+        (outcome : Values.Option Breach) (R : TellsOutcome v (get_or rules e no_rule) (record { names = named.names; contents = list.contents }) strings order outcome) where
       pub element_judged : JudgesItem D p at (record { next = list.next; wrong = of_element (broken_by outcome) at list.wrong })
       unfolding first_wrong_item
       element_judged f depth end i reads =
@@ -161,19 +163,19 @@ module _ (D : Vocabulary) (p : List ℕ) where
           (rw (← j.finds))
 
 -- The state of the walk over a list.
-pub record Going (v attributes contents clauses p : List ℕ) (at₀ : ℕ) (order : List Standing) (shapes : List Known) (at : ℕ) (inside : Contents) (wrong : FirstWrong) : Type 0 where
+pub record Going (v : List ℕ) (rules : List Rule) (p : List ℕ) (at₀ : ℕ) (order : List Standing) (shapes : List Known) (at : ℕ) (inside : Contents) (wrong : FirstWrong) : Type 0 where
   pub forward : at₀ ≤ at
   pub room : length order ≡ 64
   pub counted : Counted inside
   pub remembered : Remembered v shapes
-  pub judging : (D : Vocabulary) → Tabled v D attributes contents clauses → (f depth : ℕ) (φ : Items) (end : ℕ) → items f Page (declared D.rules) p depth at₀ ≡ whole φ end
+  pub judging : (D : Vocabulary) → Tabled v D rules → (f depth : ℕ) (φ : Items) (end : ℕ) → items f Page (declared D.rules) p depth at₀ ≡ whole φ end
       → Judging D p depth φ end order at inside wrong
 
 -- Over blank text nothing else changes.
-pub going_blank : (v attributes contents clauses p : List ℕ) (at₀ : ℕ) (order : List Standing) (shapes : List Known) (at : ℕ) (inside : Contents) (wrong : FirstWrong)
-    → Going v attributes contents clauses p at₀ order shapes at inside wrong → (h : ItemHere) → h ≡ item_here p at → (next : Position) → h ≡ Blank next → at < next.at
-    → Going v attributes contents clauses p at₀ order shapes next.at inside wrong
-going_blank v attributes contents clauses p at₀ order shapes at inside wrong g h is next e on = record {
+pub going_blank : (v : List ℕ) (rules : List Rule) (p : List ℕ) (at₀ : ℕ) (order : List Standing) (shapes : List Known) (at : ℕ) (inside : Contents) (wrong : FirstWrong)
+    → Going v rules p at₀ order shapes at inside wrong → (h : ItemHere) → h ≡ item_here p at → (next : Position) → h ≡ Blank next → at < next.at
+    → Going v rules p at₀ order shapes next.at inside wrong
+going_blank v rules p at₀ order shapes at inside wrong g h is next e on = record {
   forward = omega (arith, g.forward);
   room = g.room;
   counted = g.counted;

@@ -15,7 +15,7 @@ use Rattle.sets.specs.Sets.{member}
 use Rattle.sets.specs.Inner.Promises.{MembersWithin}
 use Rattle.vocabularies.specs.Vocabulary.{Formula, conj, disj, neg, truth, attr, content, order, value, is_in}
 use Rattle.vocabularies.specs.Vocabulary as Vocabularies
-use Rattle.vocabularies.specs.Inner.Promises.{RuleTables}
+use Rattle.vocabularies.specs.Inner.Promises.{RuleKept}
 use Rattle.pages.specs.Items.{Attribute}
 use Rattle.pages.specs.RightPages.{names}
 use Rattle.verdicts.specs.declared.Breach.{Breach}
@@ -99,44 +99,44 @@ module _ (δ : List Attribute) (w : List ℕ) (shape : Shape) (strings : List �
     values = value_same;
   }
 
-  module _ (v : List ℕ) (R : Vocabularies.Rule) (allowed held from : ℕ) (T : RuleTables v R allowed held from) where
+  module _ (v : List ℕ) (R : Vocabularies.Rule) (rule : Rule) (T : RuleKept v R rule) where
     abbrev Broken : Option Breach → Type 0
     Broken o = o ≡ breach_under R δ w
 
-    names_wrong : MembersWithin shape.names allowed false → Broken (some Breaches.Attribute)
+    names_wrong : MembersWithin shape.names rule.attributes false → Broken (some Breaches.Attribute)
     unfolding breach_under
-    names_wrong h = rw (within_lists shape.names allowed (names δ) R.attributes N.has T.allows false h)
+    names_wrong h = rw (within_lists shape.names rule.attributes (names δ) R.attributes N.has T.allows false h)
 
-    module _ (names_right : MembersWithin shape.names allowed true) where
-      contents_wrong : MembersWithin shape.contents held false → Broken (some Content)
+    module _ (names_right : MembersWithin shape.names rule.attributes true) where
+      contents_wrong : MembersWithin shape.contents rule.contents false → Broken (some Content)
       unfolding breach_under
       contents_wrong h =
           rw (
-            within_lists shape.names allowed (names δ) R.attributes N.has T.allows true names_right,
-            within_lists shape.contents held w R.contents C.has T.holds false h,
+            within_lists shape.names rule.attributes (names δ) R.attributes N.has T.allows true names_right,
+            within_lists shape.contents rule.contents w R.contents C.has T.holds false h,
           )
 
-      clauses_tell : MembersWithin shape.contents held true → (o : Option Breach) → FirstFails (table_atoms shape strings order) v from 0 o → Broken o
+      clauses_tell : MembersWithin shape.contents rule.contents true → (o : Option Breach) → FirstFails (table_atoms shape strings order) v rule.clauses.at 0 o → Broken o
       unfolding breach_under
       clauses_tell h o H =
           let f = length v + length v + 2 in
           let q = T.stands f (omega arith) in
           let e : o ≡ first_failing (is_false (atoms_of δ w)) 0 R.clauses = H f q.0 R.clauses q.1 ∙ same_failing _ _ table_same 0 R.clauses in
           rw (
-            within_lists shape.names allowed (names δ) R.attributes N.has T.allows true names_right,
-            within_lists shape.contents held w R.contents C.has T.holds true h,
+            within_lists shape.names rule.attributes (names δ) R.attributes N.has T.allows true names_right,
+            within_lists shape.contents rule.contents w R.contents C.has T.holds true h,
           ) e
 
 -- What the three tests tell, in the code's order.
 module _ (v : List ℕ) (rule : Rule) (shape : Shape) (strings : List ℕ) (order : List Standing) where
   pub names_fail : (t : Bool) → MembersWithin shape.names rule.attributes t → t ≡ false → TellsOutcome v rule shape strings order (Some Breaches.Attribute)
-  names_fail t h e R δ w count T N C = names_wrong δ w shape strings order count N C v R _ _ _ T (subst (MembersWithin shape.names rule.attributes) e h)
+  names_fail t h e R δ w count T N C = names_wrong δ w shape strings order count N C v R rule T (subst (MembersWithin shape.names rule.attributes) e h)
 
   module _ (t u : Bool) (h : MembersWithin shape.names rule.attributes t) (e : t ≡ true) (h' : MembersWithin shape.contents rule.contents u) where
     pub contents_fail : u ≡ false → TellsOutcome v rule shape strings order (Some Content)
     contents_fail e' R δ w count T N C =
-        contents_wrong δ w shape strings order count N C v R _ _ _ T (subst (MembersWithin shape.names rule.attributes) e h) (subst (MembersWithin shape.contents rule.contents) e' h')
+        contents_wrong δ w shape strings order count N C v R rule T (subst (MembersWithin shape.names rule.attributes) e h) (subst (MembersWithin shape.contents rule.contents) e' h')
 
     pub clauses_decide : u ≡ true → (r : Values.Option Breach) → FirstFails (table_atoms shape strings order) v rule.clauses.at 0 (broken_by r) → TellsOutcome v rule shape strings order r
     clauses_decide e' r H R δ w count T N C =
-        clauses_tell δ w shape strings order count N C v R _ _ _ T (subst (MembersWithin shape.names rule.attributes) e h) (subst (MembersWithin shape.contents rule.contents) e' h') (broken_by r) H
+        clauses_tell δ w shape strings order count N C v R rule T (subst (MembersWithin shape.names rule.attributes) e h) (subst (MembersWithin shape.contents rule.contents) e' h') (broken_by r) H

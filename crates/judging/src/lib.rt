@@ -6,7 +6,7 @@ ghost use Rattle.sets.specs.Sets.{member};
 ghost use Rattle.strings.specs.Inner.Promises.{set_number};
 ghost use Rattle.vocabularies.specs.Vocabulary.{Vocabulary};
 ghost use Rattle.pages.specs.Inner.Steps.{item_here};
-ghost use Rattle.judging.specs.Inner.Promises.{first_place, last_place, table_atoms, broken_by, Holds, Decides, FirstFails, Settled, Remembered, Names, Counted, Containing, TellsOutcome, Tabled, rule_at, step_next, JudgesItem, JudgesItems};
+ghost use Rattle.judging.specs.Inner.Promises.{first_place, last_place, table_atoms, broken_by, Holds, Decides, FirstFails, Settled, Remembered, Names, Counted, Containing, TellsOutcome, Tabled, step_next, JudgesItem, JudgesItems};
 
 use commands::Position;
 use pages::{AttributeHere, ItemHere, TEXT};
@@ -253,6 +253,7 @@ fn first_failing(
     ensures settled { Settled v.now shape result.settled }
 {
     let mut here = from;
+    // Counts the clauses beside the position that moves over them.
     let mut place: usize = 0;
     let mut settled = from.at;
     while here.at != to {
@@ -424,19 +425,6 @@ fn add_content(order: &mut [Standing; 64], inside: Contents, c: u8) -> Contents
     }
 }
 
-// The rule of an element.
-fn rule_of(attributes: &[u64; 64], contents: &[u64; 64], clauses: &[usize; 64], e: u8) -> Rule
-    requires { e < 64 }
-    ensures { result ≡ rule_at attributes.now contents.now clauses.now e }
-{
-    let i = e as usize;
-    Rule {
-        attributes: attributes[i],
-        contents: contents[i],
-        clauses: Position::new(clauses[i]),
-    }
-}
-
 // An item that is no element has nothing in it.
 fn judge_leaf(item: ItemHere) -> Judged
     ensures { result ≡ record { next = step_next item; wrong = None } }
@@ -451,14 +439,12 @@ fn judge_leaf(item: ItemHere) -> Judged
     }
 }
 
-// The item here, under the rules whose tables are given. An element is judged before those inside it. `shapes` has the shapes of some
+// The item here, under the rules of a vocabulary. An element is judged before those inside it. `shapes` has the shapes of some
 // that were judged, and from where on all elements of such a shape meet the clauses.
 #[cycle(judge_item_judge_items)]
 pub fn judge_item(
     v: &[u8],
-    attributes: &[u64; 64],
-    contents: &[u64; 64],
-    clauses: &[usize; 64],
+    rules: &[Rule; 64],
     p: &[u8],
     here: Position,
     shapes: &mut [Known; 64],
@@ -466,7 +452,7 @@ pub fn judge_item(
     requires { Remembered v.now shapes.old }
     ensures remembered { Remembered v.now shapes.new }
     ensures forward { (step_next (item_here p.now here.at)).at ≤ result.next.at }
-    ensures judged { (D : Vocabulary) → Tabled v.now D attributes.now contents.now clauses.now → JudgesItem D p.now here.at result }
+    ensures judged { (D : Vocabulary) → Tabled v.now D rules.now → JudgesItem D p.now here.at result }
 {
     let item = pages::item_here(p, here);
     let ItemHere::Element(e, start) = item else {
@@ -476,14 +462,12 @@ pub fn judge_item(
     let named = read_attributes(p, start, &mut strings);
     let inside = named.next;
     let mut order = [Standing { first: 0, last: 0 }; 64];
-    let list = judge_items(
-        v, attributes, contents, clauses, p, inside, &mut order, shapes,
-    );
+    let list = judge_items(v, rules, p, inside, &mut order, shapes);
     let shape = Shape {
         names: named.names,
         contents: list.contents,
     };
-    let rule = rule_of(attributes, contents, clauses, e);
+    let rule = rules[e as usize];
     let outcome = outcome_of(v, rule, shape, &strings, &order, shapes);
     let wrong = match outcome {
         Some(breach) => Some(WrongElement {
@@ -502,9 +486,7 @@ pub fn judge_item(
 #[cycle(judge_item_judge_items)]
 fn judge_items(
     v: &[u8],
-    attributes: &[u64; 64],
-    contents: &[u64; 64],
-    clauses: &[usize; 64],
+    rules: &[Rule; 64],
     p: &[u8],
     here: Position,
     order: &mut [Standing; 64],
@@ -513,7 +495,7 @@ fn judge_items(
     requires { (length order.old ≡ 64) × Remembered v.now shapes.old }
     ensures remembered { Remembered v.now shapes.new }
     ensures forward { here.at ≤ result.next.at }
-    ensures judged { (D : Vocabulary) → Tabled v.now D attributes.now contents.now clauses.now → JudgesItems D p.now here.at result order.new }
+    ensures judged { (D : Vocabulary) → Tabled v.now D rules.now → JudgesItems D p.now here.at result order.new }
 {
     let mut place = here;
     let mut inside = Contents { set: 0, count: 0 };
@@ -529,7 +511,7 @@ fn judge_items(
                 place = next;
             }
             ItemHere::Element(e, _) => {
-                let judged = judge_item(v, attributes, contents, clauses, p, place, shapes);
+                let judged = judge_item(v, rules, p, place, shapes);
                 inside = add_content(order, inside, e);
                 wrong = wrong.or(judged.wrong);
                 place = judged.next;

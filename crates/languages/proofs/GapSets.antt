@@ -1,18 +1,16 @@
 -- The sets of the templates to which a gap has edges, joined.
 use Prim.Native.Nat.{ℕ, suc, ◌+◌, ◌<◌, ◌≤◌}
-use mathlib.Core.Path.{◌≡◌, refl, sym, subst, ◌∙◌}
+use mathlib.Core.Path.{◌≡◌, sym, ◌∙◌}
 use mathlib.Core.List.{List, []}
-use mathlib.Core.Bool.{true, false, ◌&&◌, ◌||◌, false≢true}
+use mathlib.Core.Bool.{true, ◌&&◌, false≢true}
 use mathlib.Core.Logic.{◌⊎◌, ⊎_elim}
 use native.Mathlib.Decide.{ℕ_discrete}
 use native.Mathlib.Omega.{arith}
 use lib.ListN.{length, get_or, set, length-set}
 use lib.Seq.{get_or-set_same, get_or-set_other}
-use borrow.Author.Tests.{lt-ltb}
-use Rattle.std.specs.Prelude.{Option, Some, None}
+use Rattle.std.specs.Prelude.{Option}
 use Rattle.sets.specs.Sets.{member}
-use Rattle.sets.specs.Inner.Promises.{NextMember}
-use Rattle.sets.proofs.Steps.{IsMember, next_is, is_before, none_between, passed_by}
+use Rattle.sets.proofs.Steps.{IsMember, is_before}
 use Rattle.pages.specs.Items.{Items}
 use Rattle.summaries.specs.Proposal.{edge}
 use Rattle.summaries.specs.Summaries.{Summary}
@@ -20,7 +18,7 @@ use Rattle.patterns.specs.Inner.Morphisms.{Morphism}
 use Rattle.patterns.specs.Inner.Given.{Bounded}
 use Rattle.patterns.specs.Inner.Rounds.{Sets, any_below}
 use Rattle.patterns.proofs.Tests.{any_below_lem, below_any}
-use Rattle.sets.proofs.Booleans.{or_left, or_right, or_cases, and_both, and_left, and_right, alike, refuted}
+use Rattle.sets.proofs.Booleans.{and_both, and_left, and_right, alike, refuted}
 use Rattle.pattern_sets.specs.Inner.PatternSets.{holds}
 use Rattle.graphs.specs.Inner.Graphs.{Keeps}
 use Rattle.graphs.specs.Inner.Graphs as Graphs
@@ -35,35 +33,6 @@ module _ (templates : ℕ) (sets : List (List ℕ)) where
     pub next_is_held : IsMember templates next
     pub complete : (k y : ℕ) → is_before next k ≡ true → member templates k ≡ true → holds (get_or sets k []) y ≡ true → holds r y ≡ true
     pub sound : (y : ℕ) → holds r y ≡ true → (k : ℕ) × (k < 32) × (member templates k ≡ true) × (holds (get_or sets k []) y ≡ true)
-
-  pub union_none : (next : Option ℕ) (r : List ℕ) → NextMember templates 0 next → ((y : ℕ) → holds r y ≡ false) → UnionTo next r
-  union_none next r f none = record {
-    next_is_held = next_is templates 0 next f;
-    complete = λ k y b h p. absurd (false≢true (sym (none_between templates 0 next f k (omega arith) b) ∙ h));
-    sound = λ y h. absurd (false≢true (sym (none y) ∙ h));
-  }
-
-  module _ (m : ℕ) (onto : Option ℕ) (r more : List ℕ) (low : m < 32) (f : NextMember templates (m + 1) onto)
-      (both : (y : ℕ) → holds more y ≡ (holds r y || holds (get_or sets m []) y)) (so_far : UnionTo (Some m) r) where
-    pub union_more : UnionTo onto more
-    union_more = record {
-      next_is_held = next_is templates (m + 1) onto f;
-      complete = λ k y b h p. both y ∙ ⊎_elim
-          (λ (q : k < m). or_left (holds r y) (holds (get_or sets m []) y) (so_far.complete k y (lt-ltb k m q) h p))
-          (λ (q : k ≡ m). or_right (holds r y) (holds (get_or sets m []) y) (subst (λ (i : ℕ). holds (get_or sets i []) y ≡ true) q p))
-          (passed_by templates m onto f k h b);
-      sound = λ y h. ⊎_elim
-          (λ (q : holds r y ≡ true). so_far.sound y q)
-          (λ (q : holds (get_or sets m []) y ≡ true). (m, low, so_far.next_is_held.1, q))
-          (or_cases (holds r y) (holds (get_or sets m []) y) (sym (both y) ∙ h));
-    }
-
-  -- Where no template is next, and where the next number is none of a template's.
-  pub union_all : (r : List ℕ) → UnionTo None r → UnionOf templates sets r
-  union_all r so_far = record { complete = λ k y h p q. so_far.complete k y refl p q; sound = so_far.sound }
-
-  pub union_past : (m : ℕ) (r : List ℕ) → 32 ≤ m → UnionTo (Some m) r → UnionOf templates sets r
-  union_past m r l so_far = record { complete = λ k y h p q. so_far.complete k y (lt-ltb k m (omega arith)) p q; sound = so_far.sound }
 
 -- ---- a table that is filled from its beginning
 

@@ -1,11 +1,10 @@
 -- A round of pattern sets as words is that of the definitions: a template's set is worked out, or kept if it takes from none that has
 -- changed.
-use Prim.Native.Nat.{ℕ, suc, ◌+◌, ◌<◌, ◌≤◌}
+use Prim.Native.Nat.{ℕ, suc, ◌<◌, ◌≤◌}
 use mathlib.Core.Path.{◌≡◌, refl, sym, ap, ◌∙◌}
 use mathlib.Core.List.{List, [], ◌∷◌}
-use mathlib.Core.Bool.{Bool, true, false, ◌&&◌, ◌||◌, false≢true}
+use mathlib.Core.Bool.{Bool, true, false, ◌&&◌, false≢true}
 use mathlib.Core.Logic.{◌⊎◌}
-use native.Mathlib.Decide.{ℕ_discrete}
 use native.Mathlib.Omega.{arith}
 use lib.ListN.{length, get_or}
 use lib.Dec.{eqb}
@@ -118,14 +117,6 @@ module _ (r : Scheme) (s graph starts : List ℕ) (φs : List Items) (G : Summar
 module _ (graph : List ℕ) (n : ℕ) where
   abbrev pub TargetsTo : ℕ → ℕ → Type 0
   TargetsTo all g = (k m : ℕ) → k < g → Graphs.holds graph (edge n k m) ≡ true → member all m ≡ true
-
-  pub targets_more : (all g larger own : ℕ) → g < 8 → ((m : ℕ) → member own m ≡ Graphs.holds graph (edge n g m))
-      → ((k : ℕ) → member larger k ≡ (member all k || member own k)) → TargetsTo all g → TargetsTo larger (g + 1)
-  targets_more all g larger own low edges is so_far k m h e = is m ∙ go (ℕ_discrete k g)
-    where
-      go : Dec (k ≡ g) → (member all m || member own m) ≡ true
-      go (yes q) = or_right (member all m) (member own m) (edges m ∙ rw (← q) e)
-      go (no ne) = or_left (member all m) (member own m) (so_far k m (omega arith) e)
 
 -- ---- a round
 

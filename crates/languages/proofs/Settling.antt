@@ -2,13 +2,13 @@
 use Prim.Native.Nat.{ℕ, zero, suc, ◌+◌, ◌-◌, ◌%◌, ◌<◌, ◌≤◌}
 use mathlib.Core.Path.{◌≡◌, refl, sym, subst, ◌∙◌}
 use mathlib.Core.List.{List, [], ◌∷◌}
-use mathlib.Core.Bool.{Bool, true, false, not, ◌&&◌, ◌||◌, false≢true}
-use mathlib.Core.Logic.{◌⊎◌, inl, inr, ⊎_elim}
+use mathlib.Core.Bool.{true, false, ◌&&◌, false≢true}
+use mathlib.Core.Logic.{inl, inr, ⊎_elim}
 use native.Mathlib.Decide.{ℕ_discrete}
 use native.Mathlib.Omega.{arith}
 use lib.ListN.{length, get_or, replicate}
-use lib.Dec.{eqb, leb}
-use borrow.Author.Tests.{eq-eqb, le-leb, leb-true}
+use lib.Dec.{leb}
+use borrow.Author.Tests.{le-leb, leb-true}
 use Rattle.std.specs.Prelude.{Option, Some, None}
 use Rattle.sets.specs.Sets.{member}
 use Rattle.sets.proofs.Laws.{member_zero}
@@ -17,35 +17,19 @@ use Rattle.summaries.specs.Summaries.{Summary}
 use Rattle.patterns.specs.Inner.Morphisms.{Morphism}
 use Rattle.patterns.specs.Inner.Rounds.{Sets, iterate, round, rounds, Settled}
 use Rattle.patterns.specs.Inner.Exactness.{Exact}
-use Rattle.sets.proofs.Booleans.{or_left, and_both, and_left, and_right, alike}
+use Rattle.sets.proofs.Booleans.{and_both, and_left, and_right, alike}
 use Rattle.patterns.proofs.Members.{members, members_more, members_most}
 use Rattle.patterns.proofs.Growing.{round_more}
 use Rattle.patterns.proofs.Settling.{iterate_grows}
 use Rattle.patterns.proofs.Exact.{exact}
-use Rattle.pattern_sets.specs.Inner.PatternSets.{holds, IsEmpty}
+use Rattle.pattern_sets.specs.Inner.PatternSets.{holds}
 use Rattle.pattern_sets.proofs.Laws.{holds_empty}
 use Rattle.schemes.specs.declared.Scheme.{Scheme}
 use Rattle.languages.specs.Inner.Tables.{SetsAre, Lent, Shown}
-use Rattle.languages.specs.Inner.Promises.{TargetsTable, OnlyChanged, CameOf, Rounds, WithinSet, Lacks, Grown, Grows, SettlesAt, Settles}
+use Rattle.languages.specs.Inner.Promises.{TargetsTable, OnlyChanged, CameOf, Rounds, Lacks, Grown, Grows, SettlesAt, Settles}
 use Rattle.languages.proofs.Uses.{lawful, is_as, held_below}
 
 -- ---- larger sets
-
-pub tells_within : (a b d : List ℕ) → ((y : ℕ) → holds d y ≡ (holds a y && not (holds b y))) → (t : Bool) → IsEmpty d t → WithinSet a b t
-tells_within a b d is true empty = λ x h. go x h (holds b x) refl
-  where
-    go : (x : ℕ) → holds a x ≡ true → (t : Bool) → holds b x ≡ t → holds b x ≡ true
-    go x h true e = e
-    go x h false e = absurd (false≢true (sym (empty x) ∙ is x ∙ rw (h, e)))
-tells_within a b d is false (x, l, h) = (x, l, and_left (holds a x) (not (holds b x)) (sym (is x) ∙ h), lacks (holds b x) (and_right (holds a x) (not (holds b x)) (sym (is x) ∙ h)))
-  where
-    lacks : (t : Bool) → not t ≡ true → t ≡ false
-    lacks true e = absurd (false≢true e)
-    lacks false e = refl
-
-within_true : (a b : List ℕ) (t : Bool) → t ≡ true → WithinSet a b t → (x : ℕ) → holds a x ≡ true → holds b x ≡ true
-within_true a b true e w = w
-within_true a b false e w = absurd (false≢true e)
 
 module _ (count : ℕ) (before after : List (List ℕ)) where
   -- The sets before a place lie within the next; those that grew are members.
@@ -53,63 +37,6 @@ module _ (count : ℕ) (before after : List (List ℕ)) where
     pub grows : (k x : ℕ) → k < n → holds (get_or before k []) x ≡ true → holds (get_or after k []) x ≡ true
     pub others : (k x : ℕ) → k < n → member more k ≡ false → holds (get_or after k []) x ≡ true → holds (get_or before k []) x ≡ true
     pub some : (more ≡ 0 → ⊥) → Lacks count after before
-
-  pub grown_none : GrownTo 0 0
-  grown_none = record {
-    grows = λ k x h. absurd (omega arith);
-    others = λ k x h. absurd (omega arith);
-    some = λ ne. absurd (ne refl);
-  }
-
-  module _ (more n : ℕ) (low : n < 32) (there : n ≤ count) (so_far : GrownTo more n) (t : Bool) (e : t ≡ true) (into : WithinSet (get_or before n []) (get_or after n []) t) where
-    up_to : (k x : ℕ) → k < n + 1 → Dec (k ≡ n) → holds (get_or before k []) x ≡ true → holds (get_or after k []) x ≡ true
-    up_to k x h (yes q) = rw q (within_true (get_or before n []) (get_or after n []) t e into x)
-    up_to k x h (no ne) = so_far.grows k x (omega arith)
-
-    -- A set that is the same.
-    pub grown_same : (u : Bool) → u ≡ true → WithinSet (get_or after n []) (get_or before n []) u → GrownTo more (n + 1)
-    grown_same u q back = record {
-      grows = λ k x h. up_to k x h (ℕ_discrete k n);
-      others = λ k x h m. others_as k x h m (ℕ_discrete k n);
-      some = so_far.some;
-    }
-      where
-        others_as : (k x : ℕ) → k < n + 1 → member more k ≡ false → Dec (k ≡ n) → holds (get_or after k []) x ≡ true → holds (get_or before k []) x ≡ true
-        others_as k x h m (yes p) = rw p (within_true (get_or after n []) (get_or before n []) u q back x)
-        others_as k x h m (no ne) = so_far.others k x (omega arith) m
-
-    -- A set that grew.
-    pub grown_more : (u : Bool) → u ≡ false → WithinSet (get_or after n []) (get_or before n []) u
-        → (larger : ℕ) → ((k : ℕ) → member larger k ≡ (eqb k n || member more k)) → GrownTo larger (n + 1)
-    grown_more true q back larger is = absurd (false≢true (sym q))
-    grown_more false q (y, ly, has, lacks) larger is = record {
-      grows = λ k x h. up_to k x h (ℕ_discrete k n);
-      others = λ k x h m. others_as k x h m (ℕ_discrete k n);
-      some = λ ne. record { row = n; pattern = y; row_low = low; row_there = there; pattern_there = ly; is_held = has; is_not = lacks };
-    }
-      where
-        others_as : (k x : ℕ) → k < n + 1 → member larger k ≡ false → Dec (k ≡ n) → holds (get_or after k []) x ≡ true → holds (get_or before k []) x ≡ true
-        others_as k x h m (yes p) = absurd (false≢true (sym m ∙ (is k ∙ or_left (eqb k n) (member more k) (eq-eqb k n p))))
-        others_as k x h m (no ne) = so_far.others k x (omega arith) (or_second (eqb k n) (member more k) (sym (is k) ∙ m))
-          where
-            or_second : (p q : Bool) → (p || q) ≡ false → q ≡ false
-            or_second true q e = absurd (false≢true (sym e))
-            or_second false q e = e
-
-  -- A set that lacks a pattern that it had.
-  pub grown_lost : (n : ℕ) → n < 32 → n ≤ count → (t : Bool) → t ≡ false → WithinSet (get_or before n []) (get_or after n []) t → Grows count before after 0
-  grown_lost n low there true e w = absurd (false≢true (sym e))
-  grown_lost n low there false e (x, l, h, k) = inr (refl, record { row = n; pattern = x; row_low = low; row_there = there; pattern_there = l; is_held = h; is_not = k })
-
-  pub grown_all : (more n : ℕ) → (count < n) ⊎ (32 ≤ n) → GrownTo more n → Grows count before after more
-  grown_all more n ended so_far = inl (record {
-    within = λ k x l h. so_far.grows k x (past k l h);
-    others = λ k x l h m. alike (holds (get_or after k []) x) (holds (get_or before k []) x) (so_far.others k x (past k l h) m) (so_far.grows k x (past k l h));
-    some = so_far.some;
-  })
-    where
-      past : (k : ℕ) → k < 32 → k ≤ count → k < n
-      past k l h = ⊎_elim (λ (e : count < n). omega arith) (λ (e : 32 ≤ n). omega arith) ended
 
 -- ---- the rounds that are left
 

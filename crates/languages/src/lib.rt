@@ -17,7 +17,8 @@ use graphs::Graph;
 use pages::{AttributeHere, ItemHere, TEXT, Templates};
 use schemes::{EMPTY, Scheme};
 
-// The patterns of the templates of a set, from the sets of all templates.
+// The patterns of the templates of a set, from the sets of all templates. `reach::union_of` joins words, from a first one on: a function for
+// both would take the join and what it promises, and be no plainer.
 fn union_of(templates: u64, sets: &[[u64; 4]; 32]) -> [u64; 4]
     ensures { UnionOf templates sets.now result }
 {
@@ -55,7 +56,7 @@ pub fn string_reaches(graph: &Graph, n: usize, h: u8) -> bool
     !strings::is_empty(values)
 }
 
-// Whether template n's attribute gap h has something to take, a string or absence.
+// Whether template n's attribute gap h has something to take, a string or absence; `string_reaches` leaves absence out.
 fn takes_something(graph: &Graph, n: usize, h: u8) -> bool
     requires { n < 32 }
     ensures { (G : Summary) → Keeps graph.now G → h < 8 → result ≡ value_takes G n (open_gap h) }
@@ -148,7 +149,7 @@ pub fn with_gap(r: Scheme, line: Line, takes: &[[u64; 4]; 8], g: u8) -> Line
     line_of(joined)
 }
 
-// A list with an element e more, which has a pattern or none.
+// A list with an element e more, which has a pattern or none: `yields` is a fact about the element, which callers have worked out.
 pub fn with_element(r: Scheme, line: Line, e: u8, yields: bool) -> Line
     requires { e < 64 }
     ensures { LineWithElement r line e yields result }
@@ -177,6 +178,7 @@ struct Walk<'a> {
     graph: &'a Graph,
     n: usize,
     takes: &'a [[u64; 4]; 8],
+    ghost there: { n < 32 },
 }
 
 impl Walk<'_> {
@@ -184,7 +186,7 @@ impl Walk<'_> {
     // inside it has a pattern.
     #[cycle(element_patterns_list_patterns)]
     fn element_patterns(&self, here: Position, e: u8) -> Patterned
-        requires { (e < 64) × (self.now.n < 32) }
+        requires { e < 64 }
         ensures forward { here.at ≤ result.next.at }
         ensures patterned { ElementPatterns self.now.s.now here.at e self.now.r self.now.graph.now self.now.n self.now.takes.now result }
     {
@@ -211,7 +213,6 @@ impl Walk<'_> {
     // item has no pattern, the list has none.
     #[cycle(element_patterns_list_patterns)]
     fn list_patterns(&self, start: Position) -> Patterned
-        requires { self.now.n < 32 }
         ensures forward { start.at ≤ result.next.at }
         ensures patterned { ListPatterns self.now.s.now start.at self.now.r self.now.graph.now self.now.n self.now.takes.now result }
     {
@@ -259,32 +260,6 @@ impl Walk<'_> {
     }
 }
 
-// The set of template n, from the sets of the round before. Template 0 is empty.
-fn template_patterns(
-    s: &[u8],
-    r: Scheme,
-    graph: &Graph,
-    templates: &Templates,
-    sets: &[[u64; 4]; 32],
-    n: usize,
-) -> [u64; 4]
-    requires { n < 32 }
-    ensures { IsRound r s.now graph.now templates.now.starts sets.now n result }
-{
-    if n == 0 {
-        return pattern_sets::only(EMPTY);
-    }
-    let takes = gaps_from(graph, sets, n);
-    let walk = Walk {
-        s,
-        r,
-        graph,
-        n,
-        takes: &takes,
-    };
-    walk.list_patterns(Position::new(templates.starts[n])).set
-}
-
 // The templates to which template n has edges.
 fn targets(graph: &Graph, n: usize) -> u64
     requires { n < 32 }
@@ -321,30 +296,58 @@ fn keeps_set(targets: u64, changed: Option<u64>) -> bool
     sets::common(targets, others) == 0
 }
 
-// A round: the sets of all templates, from those of the round before, of which these have changed in it, if there was one.
-fn round(
-    s: &[u8],
+// What rounds are made with: a scheme, and the templates and edges of a summary graph.
+#[derive(Clone, Copy)]
+struct Settler<'a> {
+    s: &'a [u8],
     r: Scheme,
-    graph: &Graph,
-    templates: &Templates,
-    targets: &[u64; 32],
-    sets: &[[u64; 4]; 32],
-    changed: Option<u64>,
-) -> [[u64; 4]; 32]
-    ensures { Rounds r s.now graph.now templates.now.starts targets.now sets.now templates.now.count changed result }
-{
-    let mut next = [[0u64; 4]; 32];
-    for n in 0..32 {
-        if templates.count < n {
-            return next;
+    graph: &'a Graph,
+    templates: &'a Templates,
+}
+
+impl Settler<'_> {
+    // The set of template n, from the sets of the round before. Template 0 is empty.
+    fn template_patterns(&self, sets: &[[u64; 4]; 32], n: usize) -> [u64; 4]
+        requires { n < 32 }
+        ensures { IsRound self.now.r self.now.s.now self.now.graph.now self.now.templates.now.starts sets.now n result }
+    {
+        if n == 0 {
+            return pattern_sets::only(EMPTY);
         }
-        next[n] = if keeps_set(targets[n], changed) {
-            sets[n]
-        } else {
-            template_patterns(s, r, graph, templates, sets, n)
+        let takes = gaps_from(self.graph, sets, n);
+        let walk = Walk {
+            s: self.s,
+            r: self.r,
+            graph: self.graph,
+            n,
+            takes: &takes,
         };
+        walk.list_patterns(Position::new(self.templates.starts[n]))
+            .set
     }
-    next
+
+    // A round: the sets of all templates, from those of the round before, of which these have changed in it, if there was one.
+    fn round(
+        &self,
+        targets: &[u64; 32],
+        sets: &[[u64; 4]; 32],
+        changed: Option<u64>,
+    ) -> [[u64; 4]; 32]
+        ensures { Rounds self.now.r self.now.s.now self.now.graph.now self.now.templates.now.starts targets.now sets.now self.now.templates.now.count changed result }
+    {
+        let mut next = [[0u64; 4]; 32];
+        for n in 0..32 {
+            if self.templates.count < n {
+                return next;
+            }
+            next[n] = if keeps_set(targets[n], changed) {
+                sets[n]
+            } else {
+                self.template_patterns(sets, n)
+            };
+        }
+        next
+    }
 }
 
 // Whether every pattern of the one set is one of the other.
@@ -385,12 +388,18 @@ pub fn settle(
 ) -> usize
     ensures { Settles r s.now graph.now templates.now.starts templates.now.count result sets.new }
 {
+    let settler = Settler {
+        s,
+        r,
+        graph,
+        templates,
+    };
     let targets = all_targets(graph, templates.count);
     *sets = [[0u64; 4]; 32];
     let mut changed = None;
     let mut made = 0;
     loop {
-        let next = round(s, r, graph, templates, &targets, sets, changed);
+        let next = settler.round(&targets, sets, changed);
         let more = grown(sets, &next, templates.count);
         *sets = next;
         made += 1;

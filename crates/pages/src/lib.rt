@@ -357,6 +357,7 @@ pub fn read_templates(
         declared,
         s,
     };
+    // Counts the templates beside the position that moves over them.
     let mut count: usize = 0;
     let mut starts = [0usize; 32];
     let mut p = here;

@@ -41,23 +41,22 @@ with_pattern s x w h e y = go (ℕ_discrete (y / 64) (x / 64))
         let r : get_or (set s (x / 64) w) (y / 64) 0 ≡ get_or s (y / 64) 0 = get_or-set_other s (x / 64) (y / 64) w 0 n in
         rw (r, ne_eqb y x (λ q. n (ap (λ (k : ℕ). k / 64) q)))
 
--- Four words, each made of two by an operation on their members.
-module _ (op : Bool → Bool → Bool) (nothing : op false false ≡ false) (a b : List ℕ) (la : length a ≡ 4) (lb : length b ≡ 4) (u₀ u₁ u₂ u₃ : ℕ)
-    (e₀ : (k : ℕ) → member u₀ k ≡ op (member (get_or a 0 0) k) (member (get_or b 0 0) k))
-    (e₁ : (k : ℕ) → member u₁ k ≡ op (member (get_or a 1 0) k) (member (get_or b 1 0) k))
-    (e₂ : (k : ℕ) → member u₂ k ≡ op (member (get_or a 2 0) k) (member (get_or b 2 0) k))
-    (e₃ : (k : ℕ) → member u₃ k ≡ op (member (get_or a 3 0) k) (member (get_or b 3 0) k)) where
-  word_by_word : (q k : ℕ) → member (get_or (u₀ ∷ u₁ ∷ u₂ ∷ u₃ ∷ []) q 0) k ≡ op (member (get_or a q 0) k) (member (get_or b q 0) k)
-  word_by_word zero k = e₀ k
-  word_by_word (suc zero) k = e₁ k
-  word_by_word (suc (suc zero)) k = e₂ k
-  word_by_word (suc (suc (suc zero))) k = e₃ k
-  word_by_word (suc (suc (suc (suc q)))) k =
-      let x : get_or a (suc (suc (suc (suc q)))) 0 ≡ 0 = get_or-eq_default a 0 (omega arith) in
-      let y : get_or b (suc (suc (suc (suc q)))) 0 ≡ 0 = get_or-eq_default b 0 (omega arith) in
-      rw (x, y, member_zero) (sym nothing)
+-- Words, each made of two by an operation on their members.
+module _ (op : Bool → Bool → Bool) (nothing : op false false ≡ false) (a b words : List ℕ) (la : length a ≡ 4) (lb : length b ≡ 4) (lw : length words ≡ 4)
+    (each : (i : ℕ) → i < 4 → (k : ℕ) → member (get_or words i 0) k ≡ op (member (get_or a i 0) k) (member (get_or b i 0) k)) where
+  word_by_word : (i k : ℕ) → member (get_or words i 0) k ≡ op (member (get_or a i 0) k) (member (get_or b i 0) k)
+  word_by_word i k = go (ltb i 4) refl
+    where
+      go : (t : Bool) → ltb i 4 ≡ t → member (get_or words i 0) k ≡ op (member (get_or a i 0) k) (member (get_or b i 0) k)
+      go true e = each i (ltb-true i 4 e) k
+      go false e =
+          let l : 4 ≤ i = ltb-false i 4 e in
+          let x : get_or a i 0 ≡ 0 = get_or-eq_default a 0 (omega arith) in
+          let y : get_or b i 0 ≡ 0 = get_or-eq_default b 0 (omega arith) in
+          let z : get_or words i 0 ≡ 0 = get_or-eq_default words 0 (omega arith) in
+          rw (x, y, z, member_zero) (sym nothing)
 
-  pub pattern_by_pattern : (y : ℕ) → holds (u₀ ∷ u₁ ∷ u₂ ∷ u₃ ∷ []) y ≡ op (holds a y) (holds b y)
+  pub pattern_by_pattern : (y : ℕ) → holds words y ≡ op (holds a y) (holds b y)
   unfolding holds
   pattern_by_pattern y = word_by_word (y / 64) (y % 64)
 

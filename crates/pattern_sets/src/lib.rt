@@ -1,7 +1,7 @@
 // Sets of fact patterns, the numbers 0 to 255, as four words.
 #![tactic(auto)]
 
-ghost use Rattle.std.specs.Prelude.{◌≡◌, not, ◌&&◌, ◌||◌, true, false, ℕ, ◌<◌, ◌≤◌, eqb};
+ghost use Rattle.std.specs.Prelude.{◌≡◌, not, ◌&&◌, ◌||◌, true, false, ℕ, ◌<◌, ◌≤◌, eqb, get_or};
 ghost use Rattle.pattern_sets.specs.Inner.PatternSets.{holds, NextPattern, IsEmpty, Same};
 ghost use Rattle.pattern_sets.specs.Inner.Images.{AllFlagged, ShiftedMembers, Shifted, Image, raised_at, crossed_at, raised_by, crossed_by, joined_by, Apart, Joined};
 
@@ -40,37 +40,30 @@ pub fn only(x: u8) -> [u64; 4]
     }
 }
 
+// A set of the words that f makes of the words of two sets.
+fn by_words<F: Fn(u64, u64) -> u64>(a: [u64; 4], b: [u64; 4], f: F) -> [u64; 4]
+    requires { F.IsAlwaysCallable f }
+    ensures { (i : ℕ) → i < 4 → F.post f (get_or a i 0) (get_or b i 0) (get_or result i 0) }
+{
+    [f(a[0], b[0]), f(a[1], b[1]), f(a[2], b[2]), f(a[3], b[3])]
+}
+
 pub fn union(a: [u64; 4], b: [u64; 4]) -> [u64; 4]
     ensures { (y : ℕ) → holds result y ≡ (holds a y || holds b y) }
 {
-    [
-        sets::union(a[0], b[0]),
-        sets::union(a[1], b[1]),
-        sets::union(a[2], b[2]),
-        sets::union(a[3], b[3]),
-    ]
+    by_words(a, b, sets::union)
 }
 
 pub fn intersection(a: [u64; 4], b: [u64; 4]) -> [u64; 4]
     ensures { (y : ℕ) → holds result y ≡ (holds a y && holds b y) }
 {
-    [
-        sets::common(a[0], b[0]),
-        sets::common(a[1], b[1]),
-        sets::common(a[2], b[2]),
-        sets::common(a[3], b[3]),
-    ]
+    by_words(a, b, sets::common)
 }
 
 pub fn difference(a: [u64; 4], b: [u64; 4]) -> [u64; 4]
     ensures { (y : ℕ) → holds result y ≡ (holds a y && not (holds b y)) }
 {
-    [
-        sets::without(a[0], b[0]),
-        sets::without(a[1], b[1]),
-        sets::without(a[2], b[2]),
-        sets::without(a[3], b[3]),
-    ]
+    by_words(a, b, sets::without)
 }
 
 // The patterns that have flag i.
@@ -97,7 +90,8 @@ fn shifted_word(word: u64, n: u32) -> u64
     word << n
 }
 
-// Each pattern moved to the one with flag i, if it lacks it; what else is there does not matter.
+// Each pattern moved to the one with flag i, if it lacks it; what else is there does not matter. Here and below i is a loop's counter, of
+// which `0..8` says the bound: a type of flags would have to be made of it, and would say no more.
 fn shifted(set: [u64; 4], i: u8) -> [u64; 4]
     requires { i < 8 }
     ensures { Shifted set i result }
@@ -208,6 +202,7 @@ pub fn is_empty(set: [u64; 4]) -> bool
     same(set, empty())
 }
 
+// The promise is told by patterns, as callers use it; a bare `==` would tell of words.
 pub fn same(a: [u64; 4], b: [u64; 4]) -> bool
     ensures { Same a b result }
 {

@@ -183,6 +183,7 @@ fn read_statements(
     ensures { StatementsRead s.now templates 0 0 here.at result }
 {
     let mut at = here;
+    // Counts the statements beside the position that moves over them.
     let mut count = 0;
     let mut places = [0usize; 32];
     let mut named = 0;

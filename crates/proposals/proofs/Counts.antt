@@ -1,12 +1,12 @@
 -- How many members of a set are below a limit: the digits that are set among its lowest ones.
-use Prim.Native.Nat.{ℕ, zero, suc, ◌+◌, ◌*◌, ◌/◌, ◌%◌, ◌^◌, ◌≤◌, ◌<◌}
+use Prim.Native.Nat.{ℕ, zero, suc, ◌+◌, ◌*◌, ◌/◌, ◌%◌, ◌^◌, ◌<◌}
 use native.Mathlib.Omega.{arith}
 use native.Mathlib.Nat.{mod-lt, mod-eq_of_lt, mod-one, pow-suc, mul_comm}
 use mathlib.Core.Path.{◌≡◌, refl, sym, ap, ◌∙◌}
 use mathlib.Core.Bool.{Bool, true, false, cond}
 use lib.Arith.{mod-mul}
 use lib.Pow.{pow_pos, pow-lt}
-use lib.Count.{ones_in, ones, ones_cat, ones-le}
+use lib.Count.{ones_in, ones, ones_cat}
 use lib.Dec.{eqb}
 use borrow.Author.Tests.{eqb-true, eqb-false}
 use Rattle.sets.specs.Sets.{member}
@@ -41,6 +41,3 @@ ones_all k n l = ap ones (sym (mod-eq_of_lt l)) ∙ ones_below k n
 -- The number with one digit, as the machine shifts it.
 pub shifted : (k : ℕ) → k < 64 → 1 * 2 ^ k % 0x1_0000_0000_0000_0000 ≡ 2 ^ k
 shifted k l = let e : 1 * 2 ^ k ≡ 2 ^ k = omega arith in rw e (mod-eq_of_lt (pow-lt l))
-
-pub few_below : (k n : ℕ) → ones (n % 2 ^ k) ≤ k
-few_below k n = ones-le k (n % 2 ^ k) (mod-lt n (pow_pos k))

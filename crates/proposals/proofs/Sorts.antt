@@ -1,59 +1,16 @@
 -- The sorts of items of a template variable: what a graph has of each, and how many bytes they are at most.
 use Prim.Native.Nat.{ℕ, ◌+◌, ◌≤◌, ◌<◌}
-use mathlib.Core.Path.{◌≡◌, refl, sym, ap, subst, ◌∙◌}
+use mathlib.Core.Path.{◌≡◌, refl}
 use native.Mathlib.Omega.{arith}
 use lib.ListN.{length, length-append}
 use Rattle.sets.specs.Sets.{member}
-use Rattle.strings.specs.declared.Values.{Values}
-use Rattle.strings.specs.Inner.Promises.{holds_value}
-use Rattle.summaries.specs.Proposal.{root, edge, string, gap_from, attribute_gap_from}
 use Rattle.summaries.specs.Summaries.{Summary}
-use Rattle.summaries.specs.ProposalOf.{unlisted}
 use Rattle.proposals.specs.declared.Prefix.{Prefix}
 use Rattle.proposals.specs.declared.Sort.{Sort}
 use Rattle.proposals.specs.declared.Sort.TheVariants.{Roots, Edges, Listed, Any, Origins, AttributeOrigins}
-use Rattle.proposals.specs.Inner.Bytes.{prefix_bytes, members, firsts, seconds, limit, prefix_of, listed_of, is_held, MayStand, MayBe, place_bytes, row_bytes, sort_bytes, template_bytes}
+use Rattle.proposals.specs.Inner.Bytes.{prefix_bytes, members, firsts, seconds, limit, prefix_of, is_held, MayStand, MayBe, place_bytes, row_bytes, sort_bytes, template_bytes}
 use Rattle.proposals.proofs.Each.{each_most}
 use Rattle.proposals.proofs.Members.{members_most, members_same}
-
--- ---- the members of each sort
-
-module _ (S : Summary) (sort : Sort) (a b r : ℕ) (stands : MayStand sort a b) where
-  HasMembers : Type 0
-  HasMembers = (k : ℕ) → MayBe sort k → member r k ≡ is_held S sort a b k
-
-  -- By the sort.
-  of_sort : (s : Sort) → sort ≡ s → (MayStand s a b → (k : ℕ) → MayBe s k → member r k ≡ is_held S s a b k) → HasMembers
-  unfolding HasMembers
-  of_sort s e h k m = h (subst (λ (t : Sort). MayStand t a b) e stands) k (subst (λ (t : Sort). MayBe t k) e m) ∙ sym (ap (λ (t : Sort). is_held S t a b k) e)
-
-  pub of_roots : sort ≡ Roots → ((k : ℕ) → member r k ≡ S (root k)) → (k : ℕ) → MayBe sort k → member r k ≡ is_held S sort a b k
-  unfolding HasMembers
-  of_roots e h = of_sort Roots e (λ f k m. h k)
-
-  pub of_edges : sort ≡ Edges → (a < 32 → b < 8 → (k : ℕ) → member r k ≡ S (edge a b k)) → (k : ℕ) → MayBe sort k → member r k ≡ is_held S sort a b k
-  unfolding HasMembers
-  of_edges e h = of_sort Edges e (λ f k m. h f.0 f.1 k)
-
-  pub of_listed : sort ≡ Listed → (v : Values) → (a < 32 → b < 8 → (t : ℕ) → holds_value v t ≡ S (string a b t)) → ((k : ℕ) → member r k ≡ listed_of (holds_value v) k)
-      → (k : ℕ) → MayBe sort k → member r k ≡ is_held S sort a b k
-  unfolding HasMembers
-  of_listed e v same h = of_sort Listed e (λ f k m. h k ∙ rw (same f.0 f.1 k, same f.0 f.1 unlisted))
-
-  pub of_any : sort ≡ Any → ((k : ℕ) → k < 8 → member r k ≡ S (string a k unlisted)) → (k : ℕ) → MayBe sort k → member r k ≡ is_held S sort a b k
-  unfolding HasMembers
-  of_any e h = of_sort Any e (λ f k m. h k m)
-
-  pub of_origins : sort ≡ Origins → (a < 8 → (k : ℕ) → member r k ≡ S (gap_from a k)) → (k : ℕ) → MayBe sort k → member r k ≡ is_held S sort a b k
-  unfolding HasMembers
-  of_origins e h = of_sort Origins e (λ f k m. h f k)
-
-  pub of_attribute_origins : sort ≡ AttributeOrigins → (a < 8 → (k : ℕ) → member r k ≡ S (attribute_gap_from a k)) → (k : ℕ) → MayBe sort k → member r k ≡ is_held S sort a b k
-  unfolding HasMembers
-  of_attribute_origins e h = of_sort AttributeOrigins e (λ f k m. h f k)
-
-pub any_stands : (sort : Sort) (a b : ℕ) → sort ≡ Any → MayStand sort a b → a < 32
-any_stands sort a b e f = subst (λ (s : Sort). MayStand s a b) e f
 
 -- ---- the sorts one after another
 

@@ -9,7 +9,6 @@ ghost use Rattle.summaries.specs.Proposal.{string};
 ghost use Rattle.summaries.specs.ProposalOf.{unlisted, proposal_of};
 ghost use Rattle.summaries.specs.WrittenProposal.{written_proposal};
 ghost use Rattle.states.specs.Inner.States.{point_words, entries_in};
-ghost use Rattle.states.specs.Inner.Promises.{HasPoint};
 ghost use Rattle.jobs.specs.Inference.{stored_at};
 ghost use Rattle.graphs.specs.Inner.Graphs.{holds};
 ghost use Rattle.memory.specs.Inner.Laid.{Writes};
@@ -50,44 +49,75 @@ const VARIABLES: usize = 8;
 
 const ENTRIES: usize = 256;
 
-// A number for each entry: entry 8 p + v is that of variable v at point p.
+// A number for each entry: entry 8 p + v is that of variable v at point p. An array for the most points there may be, since the project has
+// no heap; how many there are stands beside it.
 pub type EntryTable = [usize; ENTRIES];
-
-// How many bytes a prefix is.
-fn prefix_length(prefix: Prefix) -> usize
-    ensures { (result ≡ length (prefix_bytes prefix)) × (result ≤ 3) }
-{
-    match prefix {
-        Prefix::Bare(_) => 1,
-        Prefix::One(_, _) => 2,
-        Prefix::Two(_, _, _) => 3,
-    }
-}
-
-// A prefix is laid from an offset on; the next offset. So does every writer below.
-fn put_prefix(out: &mut [u8], at: usize, prefix: Prefix) -> usize
-    requires { at + length (prefix_bytes prefix) ≤ length out.old }
-    ensures { Writes out.old at (prefix_bytes prefix) result out.new }
-{
-    match prefix {
-        Prefix::Bare(c) => memory::put(out, at, &[c]),
-        Prefix::One(c, a) => memory::put(out, at, &[c, a]),
-        Prefix::Two(c, a, b) => memory::put(out, at, &[c, a, b]),
-    }
-}
-
-// A prefix and the last operand behind it.
-fn put_item(out: &mut [u8], at: usize, prefix: Prefix, k: u8) -> usize
-    requires { at + length (item_bytes (prefix_bytes prefix) k) ≤ length out.old }
-    ensures { Writes out.old at (item_bytes (prefix_bytes prefix) k) result out.new }
-{
-    let n = put_prefix(out, at, prefix);
-    memory::put(out, n, &[k])
-}
 
 // The bytes are counted before any is written, so a function that counts stands beside each that writes. They are no twins: members are
 // counted in one step and written one by one, and only a buffer has an end. One walk for both would go over a trait of sinks, with laws of
 // room in each contract, and be no plainer.
+
+// A writer lays bytes into a buffer from an offset on, and hands back the next offset. Both stay parameters: a struct that holds the buffer
+// as `&mut` has to promise in each contract, and in each loop's invariant, that it still holds the same one, and `Writes` is plainer.
+
+impl Prefix {
+    // How many bytes a prefix is.
+    fn length(self) -> usize
+        ensures { (result ≡ length (prefix_bytes self)) × (result ≤ 3) }
+    {
+        match self {
+            Prefix::Bare(_) => 1,
+            Prefix::One(_, _) => 2,
+            Prefix::Two(_, _, _) => 3,
+        }
+    }
+
+    // They are written.
+    fn put(self, out: &mut [u8], at: usize) -> usize
+        requires { at + length (prefix_bytes self) ≤ length out.old }
+        ensures { Writes out.old at (prefix_bytes self) result out.new }
+    {
+        match self {
+            Prefix::Bare(c) => memory::put(out, at, &[c]),
+            Prefix::One(c, a) => memory::put(out, at, &[c, a]),
+            Prefix::Two(c, a, b) => memory::put(out, at, &[c, a, b]),
+        }
+    }
+
+    // The prefix is written, and the last operand behind it.
+    fn put_item(self, out: &mut [u8], at: usize, k: u8) -> usize
+        requires { at + length (item_bytes (prefix_bytes self) k) ≤ length out.old }
+        ensures { Writes out.old at (item_bytes (prefix_bytes self) k) result out.new }
+    {
+        let n = self.put(out, at);
+        memory::put(out, n, &[k])
+    }
+
+    // The bytes of the members of a set below a limit, behind the prefix.
+    fn members_length(self, set: u64, below: u8) -> usize
+        requires { below ≤ 64 }
+        ensures { result ≡ length (members (prefix_bytes self) below (member set)) }
+    {
+        count_members(set, below) * (self.length() + 1)
+    }
+
+    // They are written, member by member.
+    fn put_members(self, out: &mut [u8], at: usize, set: u64, below: u8) -> usize
+        requires { (at + length (members (prefix_bytes self) below (member set)) ≤ length out.old) × (below ≤ 64) }
+        ensures { Writes out.old at (members (prefix_bytes self) below (member set)) result out.new }
+    {
+        let mut n = at;
+        let mut from = 0;
+        while let Some(k) = sets::next_member(set, from) {
+            if below <= k {
+                return n;
+            }
+            n = self.put_item(out, n, k);
+            from = k + 1;
+        }
+        n
+    }
+}
 
 // How many members of a set are below a limit.
 fn count_members(set: u64, below: u8) -> usize
@@ -100,85 +130,72 @@ fn count_members(set: u64, below: u8) -> usize
     u64::count_ones(set % (1 << below)) as usize
 }
 
-// The bytes of the members of a set below a limit, behind a prefix.
-fn members_length(prefix: Prefix, set: u64, below: u8) -> usize
-    requires { below ≤ 64 }
-    ensures { result ≡ length (members (prefix_bytes prefix) below (member set)) }
-{
-    count_members(set, below) * (prefix_length(prefix) + 1)
-}
-
-// They are written, member by member.
-fn put_members(out: &mut [u8], at: usize, prefix: Prefix, set: u64, below: u8) -> usize
-    requires { (at + length (members (prefix_bytes prefix) below (member set)) ≤ length out.old) × (below ≤ 64) }
-    ensures { Writes out.old at (members (prefix_bytes prefix) below (member set)) result out.new }
-{
-    let mut n = at;
-    let mut from = 0;
-    while let Some(k) = sets::next_member(set, from) {
-        if below <= k {
-            return n;
+// A sort decides four things, of which the bytes of its items are made: a closure for each of them would be no plainer than the sort.
+impl Sort {
+    // How many first operands the items of a sort have.
+    fn firsts(self, templates: u8) -> u8
+        requires { templates < 32 }
+        ensures { result ≡ firsts templates self }
+    {
+        match self {
+            Sort::Roots => 1,
+            Sort::Edges | Sort::Listed | Sort::Any => templates + 1,
+            Sort::Origins | Sort::AttributeOrigins => 8,
         }
-        n = put_item(out, n, prefix, k);
-        from = k + 1;
     }
-    n
-}
 
-// How many first operands the items of a sort have.
-fn firsts_of(sort: Sort, templates: u8) -> u8
-    requires { templates < 32 }
-    ensures { result ≡ firsts templates sort }
-{
-    match sort {
-        Sort::Roots => 1,
-        Sort::Edges | Sort::Listed | Sort::Any => templates + 1,
-        Sort::Origins | Sort::AttributeOrigins => 8,
+    // How many second operands they have.
+    fn seconds(self) -> u8
+        ensures { result ≡ seconds self }
+    {
+        match self {
+            Sort::Edges | Sort::Listed => 8,
+            Sort::Roots | Sort::Any | Sort::Origins | Sort::AttributeOrigins => 1,
+        }
     }
-}
 
-// How many second operands they have.
-fn seconds_of(sort: Sort) -> u8
-    ensures { result ≡ seconds sort }
-{
-    match sort {
-        Sort::Edges | Sort::Listed => 8,
-        Sort::Roots | Sort::Any | Sort::Origins | Sort::AttributeOrigins => 1,
+    // Below which number their members are.
+    fn limit(self, templates: u8) -> u8
+        requires { templates < 32 }
+        ensures { result ≡ limit templates self }
+    {
+        match self {
+            Sort::Roots | Sort::Edges | Sort::Origins | Sort::AttributeOrigins => templates + 1,
+            Sort::Listed => strings::OUTSIDE,
+            Sort::Any => 8,
+        }
     }
-}
 
-// Below which number their members are.
-fn limit_of(sort: Sort, templates: u8) -> u8
-    requires { templates < 32 }
-    ensures { result ≡ limit templates sort }
-{
-    match sort {
-        Sort::Roots | Sort::Edges | Sort::Origins | Sort::AttributeOrigins => templates + 1,
-        Sort::Listed => strings::OUTSIDE,
-        Sort::Any => 8,
-    }
-}
-
-// What stands before a member.
-fn prefix_of(sort: Sort, a: u8, b: u8) -> Prefix
-    ensures { result ≡ prefix_of sort a b }
-{
-    match sort {
-        Sort::Roots => Prefix::Bare(sort as u8),
-        Sort::Any | Sort::Origins | Sort::AttributeOrigins => Prefix::One(sort as u8, a),
-        Sort::Edges | Sort::Listed => Prefix::Two(sort as u8, a, b),
+    // What stands before a member.
+    fn prefix(self, a: u8, b: u8) -> Prefix
+        ensures { result ≡ prefix_of self a b }
+    {
+        match self {
+            Sort::Roots => Prefix::Bare(self as u8),
+            Sort::Any | Sort::Origins | Sort::AttributeOrigins => Prefix::One(self as u8, a),
+            Sort::Edges | Sort::Listed => Prefix::Two(self as u8, a, b),
+        }
     }
 }
 
 // The strings that are listed: none beside any string.
-#[tactic(auto, using(crate::proofs::Values::listed_none, crate::proofs::Values::listed_named))]
 fn listed(values: Values) -> u64
     ensures { (k : ℕ) → member result k ≡ listed_of (holds_value values) k }
 {
-    if values.any {
-        return 0;
+    match values {
+        Values::Any => 0,
+        Values::Named(set) => set.word,
     }
-    values.named.word
+}
+
+// Whether any string is taken, and with it those that no item lists.
+fn takes_any(values: Values) -> bool
+    ensures { result ≡ holds_value values unlisted }
+{
+    match values {
+        Values::Any => true,
+        Values::Named(_) => false,
+    }
 }
 
 // The attribute gaps of a template that take any string.
@@ -189,142 +206,141 @@ fn any_gaps(graph: &Graph, n: u8) -> u64
     let mut gaps: u64 = 0;
     for h in 0..8 {
         let values = graphs::strings_at(graph, n, h);
-        gaps = sets::with_if(gaps, h, values.any);
+        gaps = sets::with_if(gaps, h, takes_any(values));
     }
     gaps
 }
 
-// The members of the items of a sort with these operands.
-fn members_of(graph: &Graph, sort: Sort, a: u8, b: u8) -> u64
-    requires { MayStand sort a b }
-    ensures { (k : ℕ) → MayBe sort k → member result k ≡ is_held (holds graph.now) sort a b k }
-{
-    match sort {
-        Sort::Roots => graphs::roots(graph),
-        Sort::Edges => graphs::edges(graph, a, b),
-        Sort::Listed => listed(graphs::strings_at(graph, a, b)),
-        Sort::Any => any_gaps(graph, a),
-        Sort::Origins => graphs::origins(graph, a),
-        Sort::AttributeOrigins => graphs::attribute_origins(graph, a),
-    }
-}
-
-// The bytes of the items of a sort with these operands.
-fn place_length(graph: &Graph, templates: u8, sort: Sort, a: u8, b: u8) -> usize
-    requires { (templates < 32) × (a < firsts templates sort) × (b < seconds sort) }
-    ensures { result ≡ length (place_bytes templates (holds graph.now) sort a b) }
-{
-    let set = members_of(graph, sort, a, b);
-    members_length(prefix_of(sort, a, b), set, limit_of(sort, templates))
-}
-
-// They are written.
-fn put_place(
-    out: &mut [u8],
-    at: usize,
-    graph: &Graph,
+// A graph whose items are listed, and the number of the last template. The methods take a sort and operands one by one, as the loops go over
+// them: a struct of them would be built for each call and taken apart in each clause.
+#[derive(Clone, Copy)]
+struct Listing<'a> {
+    graph: &'a Graph,
     templates: u8,
-    sort: Sort,
-    a: u8,
-    b: u8,
-) -> usize
-    requires { (at + length (place_bytes templates (holds graph.now) sort a b) ≤ length out.old) × (templates < 32) × (a < firsts templates sort) × (b < seconds sort) }
-    ensures { Writes out.old at (place_bytes templates (holds graph.now) sort a b) result out.new }
-{
-    let set = members_of(graph, sort, a, b);
-    put_members(
-        out,
-        at,
-        prefix_of(sort, a, b),
-        set,
-        limit_of(sort, templates),
-    )
+    ghost few: { templates < 32 },
 }
 
-// The bytes of those with any second operand.
-fn row_length(graph: &Graph, templates: u8, sort: Sort, a: u8) -> usize
-    requires { (templates < 32) × (a < firsts templates sort) }
-    ensures { result ≡ length (row_bytes templates (holds graph.now) sort a) }
-{
-    let count = seconds_of(sort);
-    let mut total: usize = 0;
-    for b in 0..count {
-        total += place_length(graph, templates, sort, a, b);
+impl Listing<'_> {
+    // The members of the items of a sort with these operands.
+    fn members_of(&self, sort: Sort, a: u8, b: u8) -> u64
+        requires { MayStand sort a b }
+        ensures { (k : ℕ) → MayBe sort k → member result k ≡ is_held (holds self.now.graph.now) sort a b k }
+    {
+        match sort {
+            Sort::Roots => graphs::roots(self.graph),
+            Sort::Edges => graphs::edges(self.graph, a, b),
+            Sort::Listed => listed(graphs::strings_at(self.graph, a, b)),
+            Sort::Any => any_gaps(self.graph, a),
+            Sort::Origins => graphs::origins(self.graph, a),
+            Sort::AttributeOrigins => graphs::attribute_origins(self.graph, a),
+        }
     }
-    total
-}
 
-// They are written, second operand by second operand.
-fn put_row(out: &mut [u8], at: usize, graph: &Graph, templates: u8, sort: Sort, a: u8) -> usize
-    requires { (at + length (row_bytes templates (holds graph.now) sort a) ≤ length out.old) × (templates < 32) × (a < firsts templates sort) }
-    ensures { Writes out.old at (row_bytes templates (holds graph.now) sort a) result out.new }
-{
-    let count = seconds_of(sort);
-    let mut n = at;
-    for b in 0..count {
-        n = put_place(out, n, graph, templates, sort, a, b);
+    // The bytes of the items of a sort with these operands.
+    fn place_length(&self, sort: Sort, a: u8, b: u8) -> usize
+        requires { (a < firsts self.now.templates sort) × (b < seconds sort) }
+        ensures { result ≡ length (place_bytes self.now.templates (holds self.now.graph.now) sort a b) }
+    {
+        let set = self.members_of(sort, a, b);
+        sort.prefix(a, b)
+            .members_length(set, sort.limit(self.templates))
     }
-    n
-}
 
-// The bytes of all items of a sort.
-fn sort_length(graph: &Graph, templates: u8, sort: Sort) -> usize
-    requires { templates < 32 }
-    ensures { result ≡ length (sort_bytes templates (holds graph.now) sort) }
-{
-    let count = firsts_of(sort, templates);
-    let mut total: usize = 0;
-    for a in 0..count {
-        total += row_length(graph, templates, sort, a);
+    // They are written.
+    fn put_place(&self, out: &mut [u8], at: usize, sort: Sort, a: u8, b: u8) -> usize
+        requires { (at + length (place_bytes self.now.templates (holds self.now.graph.now) sort a b) ≤ length out.old) × (a < firsts self.now.templates sort) × (b < seconds sort) }
+        ensures { Writes out.old at (place_bytes self.now.templates (holds self.now.graph.now) sort a b) result out.new }
+    {
+        let set = self.members_of(sort, a, b);
+        sort.prefix(a, b)
+            .put_members(out, at, set, sort.limit(self.templates))
     }
-    total
-}
 
-// They are written, first operand by first operand.
-fn put_sort(out: &mut [u8], at: usize, graph: &Graph, templates: u8, sort: Sort) -> usize
-    requires { (at + length (sort_bytes templates (holds graph.now) sort) ≤ length out.old) × (templates < 32) }
-    ensures { Writes out.old at (sort_bytes templates (holds graph.now) sort) result out.new }
-{
-    let count = firsts_of(sort, templates);
-    let mut n = at;
-    for a in 0..count {
-        n = put_row(out, n, graph, templates, sort, a);
+    // The bytes of those with any second operand.
+    fn row_length(&self, sort: Sort, a: u8) -> usize
+        requires { a < firsts self.now.templates sort }
+        ensures { result ≡ length (row_bytes self.now.templates (holds self.now.graph.now) sort a) }
+    {
+        let count = sort.seconds();
+        let mut total: usize = 0;
+        for b in 0..count {
+            total += self.place_length(sort, a, b);
+        }
+        total
     }
-    n
-}
 
-// The bytes of all items of a template variable.
-fn template_length(graph: &Graph, templates: u8) -> usize
-    requires { templates < 32 }
-    ensures { result ≡ length (template_bytes templates (holds graph.now)) }
-{
-    sort_length(graph, templates, Sort::Roots)
-        + sort_length(graph, templates, Sort::Edges)
-        + sort_length(graph, templates, Sort::Listed)
-        + sort_length(graph, templates, Sort::Any)
-        + sort_length(graph, templates, Sort::Origins)
-        + sort_length(graph, templates, Sort::AttributeOrigins)
-}
+    // They are written, second operand by second operand.
+    fn put_row(&self, out: &mut [u8], at: usize, sort: Sort, a: u8) -> usize
+        requires { (at + length (row_bytes self.now.templates (holds self.now.graph.now) sort a) ≤ length out.old) × (a < firsts self.now.templates sort) }
+        ensures { Writes out.old at (row_bytes self.now.templates (holds self.now.graph.now) sort a) result out.new }
+    {
+        let count = sort.seconds();
+        let mut n = at;
+        for b in 0..count {
+            n = self.put_place(out, n, sort, a, b);
+        }
+        n
+    }
 
-// They are written, sort by sort.
-fn put_template(out: &mut [u8], at: usize, graph: &Graph, templates: u8) -> usize
-    requires { (at + length (template_bytes templates (holds graph.now)) ≤ length out.old) × (templates < 32) }
-    ensures { Writes out.old at (template_bytes templates (holds graph.now)) result out.new }
-{
-    let roots = put_sort(out, at, graph, templates, Sort::Roots);
-    let edges = put_sort(out, roots, graph, templates, Sort::Edges);
-    let listed = put_sort(out, edges, graph, templates, Sort::Listed);
-    let any = put_sort(out, listed, graph, templates, Sort::Any);
-    let origins = put_sort(out, any, graph, templates, Sort::Origins);
-    put_sort(out, origins, graph, templates, Sort::AttributeOrigins)
+    // The bytes of all items of a sort.
+    fn sort_length(&self, sort: Sort) -> usize
+        ensures { result ≡ length (sort_bytes self.now.templates (holds self.now.graph.now) sort) }
+    {
+        let count = sort.firsts(self.templates);
+        let mut total: usize = 0;
+        for a in 0..count {
+            total += self.row_length(sort, a);
+        }
+        total
+    }
+
+    // They are written, first operand by first operand.
+    fn put_sort(&self, out: &mut [u8], at: usize, sort: Sort) -> usize
+        requires { at + length (sort_bytes self.now.templates (holds self.now.graph.now) sort) ≤ length out.old }
+        ensures { Writes out.old at (sort_bytes self.now.templates (holds self.now.graph.now) sort) result out.new }
+    {
+        let count = sort.firsts(self.templates);
+        let mut n = at;
+        for a in 0..count {
+            n = self.put_row(out, n, sort, a);
+        }
+        n
+    }
+
+    // The bytes of all items of a template variable.
+    #[tactic(auto, using(crate::proofs::Sorts::sorts_most))]
+    fn template_length(&self) -> usize
+        ensures { result ≡ length (template_bytes self.now.templates (holds self.now.graph.now)) }
+    {
+        self.sort_length(Sort::Roots)
+            + self.sort_length(Sort::Edges)
+            + self.sort_length(Sort::Listed)
+            + self.sort_length(Sort::Any)
+            + self.sort_length(Sort::Origins)
+            + self.sort_length(Sort::AttributeOrigins)
+    }
+
+    // They are written, sort by sort.
+    #[tactic(auto, using(crate::proofs::Sorts::template_length))]
+    fn put_template(&self, out: &mut [u8], at: usize) -> usize
+        requires { at + length (template_bytes self.now.templates (holds self.now.graph.now)) ≤ length out.old }
+        ensures { Writes out.old at (template_bytes self.now.templates (holds self.now.graph.now)) result out.new }
+    {
+        let roots = self.put_sort(out, at, Sort::Roots);
+        let edges = self.put_sort(out, roots, Sort::Edges);
+        let listed = self.put_sort(out, edges, Sort::Listed);
+        let any = self.put_sort(out, listed, Sort::Any);
+        let origins = self.put_sort(out, any, Sort::Origins);
+        self.put_sort(out, origins, Sort::AttributeOrigins)
+    }
 }
 
 // The bytes of the items of a string variable.
 fn strings_length(values: Values) -> usize
     ensures { result ≡ length (string_bytes (holds_value values)) }
 {
-    let n = members_length(Prefix::Bare(ONE_STRING), listed(values), strings::OUTSIDE);
-    if values.any {
+    let n = Prefix::Bare(ONE_STRING).members_length(listed(values), strings::OUTSIDE);
+    if takes_any(values) {
         return n + 1;
     }
     n
@@ -335,69 +351,142 @@ fn put_strings(out: &mut [u8], at: usize, values: Values) -> usize
     requires { at + length (string_bytes (holds_value values)) ≤ length out.old }
     ensures { Writes out.old at (string_bytes (holds_value values)) result out.new }
 {
-    let n = put_members(
-        out,
-        at,
-        Prefix::Bare(ONE_STRING),
-        listed(values),
-        strings::OUTSIDE,
-    );
-    if values.any {
+    let n = Prefix::Bare(ONE_STRING).put_members(out, at, listed(values), strings::OUTSIDE);
+    if takes_any(values) {
         return memory::put(out, n, &[ANY_STRING]);
     }
     n
 }
 
-// The bytes of the items of a variable at a point.
-fn entry_length(work: &[u64], templates: u8, p: usize, v: usize) -> usize
-    requires { HasPoint work.now p × (templates < 32) × (v < 8) }
-    ensures { result ≡ length (entry_bytes templates (entry_at work.now p) v) }
-{
-    if v < 4 {
-        if states::is_blank(work, p, v) {
-            return 0;
+// The entries in a work area, the number of the last template, and how many points there are. The public functions take the three apart,
+// and keep their contracts.
+#[derive(Clone, Copy)]
+struct Entries<'a> {
+    work: &'a [u64],
+    templates: u8,
+    points: usize,
+    ghost few: { templates < 32 },
+    ghost few_points: { points ≤ 32 },
+    ghost there: { points * point_words ≤ length work.now },
+}
+
+impl Entries<'_> {
+    // The bytes of the items of a variable at a point.
+    fn entry_length(&self, p: usize, v: usize) -> usize
+        requires { (p < self.now.points) × (v < 8) }
+        ensures { result ≡ length (entry_bytes self.now.templates (entry_at self.now.work.now p) v) }
+    {
+        if v < 4 {
+            if states::is_blank(self.work, p, v) {
+                return 0;
+            }
+            let graph = states::graph_at(self.work, p, v);
+            let listing = Listing {
+                graph: &graph,
+                templates: self.templates,
+            };
+            return listing.template_length();
         }
-        let graph = states::graph_at(work, p, v);
-        return template_length(&graph, templates);
+        strings_length(states::values_at(self.work, p, v - 4))
     }
-    strings_length(states::values_at(work, p, v - 4))
-}
 
-// They are written.
-fn put_entry(out: &mut [u8], at: usize, work: &[u64], templates: u8, p: usize, v: usize) -> usize
-    requires { (at + length (entry_bytes templates (entry_at work.now p) v) ≤ length out.old) × HasPoint work.now p × (templates < 32) × (v < 8) }
-    ensures { Writes out.old at (entry_bytes templates (entry_at work.now p) v) result out.new }
-{
-    if v < 4 {
-        let graph = states::graph_at(work, p, v);
-        return put_template(out, at, &graph, templates);
+    // They are written.
+    fn put_entry(&self, out: &mut [u8], at: usize, p: usize, v: usize) -> usize
+        requires { (at + length (entry_bytes self.now.templates (entry_at self.now.work.now p) v) ≤ length out.old) × (p < self.now.points) × (v < 8) }
+        ensures { Writes out.old at (entry_bytes self.now.templates (entry_at self.now.work.now p) v) result out.new }
+    {
+        if v < 4 {
+            let graph = states::graph_at(self.work, p, v);
+            let listing = Listing {
+                graph: &graph,
+                templates: self.templates,
+            };
+            return listing.put_template(out, at);
+        }
+        put_strings(out, at, states::values_at(self.work, p, v - 4))
     }
-    put_strings(out, at, states::values_at(work, p, v - 4))
-}
 
-// Whether a variable has the same entry as at the point before.
-fn is_repeated(work: &[u64], p: usize, v: usize) -> bool
-    requires { HasPoint work.now p × (v < 8) }
-    ensures { result ≡ true → Repeated work.now p v }
-{
-    if p == 0 {
-        return false;
+    // Whether a variable has the same entry as at the point before.
+    fn is_repeated(&self, p: usize, v: usize) -> bool
+        requires { (p < self.now.points) × (v < 8) }
+        ensures { result ≡ true → Repeated self.now.work.now p v }
+    {
+        if p == 0 {
+            return false;
+        }
+        let before = p - 1;
+        states::same_entry(self.work, before, p, v)
     }
-    let before = p - 1;
-    states::same_entry(work, before, p, v)
-}
 
-// The bytes of the items of an entry, where those of the entries before it were counted.
-fn next_length(work: &[u64], templates: u8, i: usize, lengths: &EntryTable) -> usize
-    requires { HasPoint work.now (i / 8) × (templates < 32) × (i < 256) × Counted templates work.now i lengths.now }
-    ensures { result ≡ length (items_at templates work.now i) }
-{
-    let p = i / VARIABLES;
-    let v = i % VARIABLES;
-    if is_repeated(work, p, v) {
-        return lengths[i - VARIABLES];
+    // The bytes of the items of an entry, where those of the entries before it were counted.
+    fn next_length(&self, i: usize, lengths: &EntryTable) -> usize
+        requires { (i < self.now.points * 8) × Counted self.now.templates self.now.work.now i lengths.now }
+        ensures { result ≡ length (items_at self.now.templates self.now.work.now i) }
+    {
+        let p = i / VARIABLES;
+        let v = i % VARIABLES;
+        if self.is_repeated(p, v) {
+            return lengths[i - VARIABLES];
+        }
+        self.entry_length(p, v)
     }
-    entry_length(work, templates, p, v)
+
+    // The items of an entry are written; the table tells where those of each entry before it end. What is repeated is copied from there.
+    fn put_items(
+        &self,
+        out: &mut [u8],
+        at: usize,
+        i: usize,
+        size: usize,
+        ends: &EntryTable,
+    ) -> usize
+        requires { (at + length (items_at self.now.templates self.now.work.now i) ≤ length out.old) × (i < self.now.points * 8) × (size ≡ length (items_at self.now.templates self.now.work.now i)) × Stand self.now.templates self.now.work.now i out.old at ends.now }
+        ensures { Writes out.old at (items_at self.now.templates self.now.work.now i) result out.new }
+    {
+        let p = i / VARIABLES;
+        let v = i % VARIABLES;
+        if self.is_repeated(p, v) {
+            let end = ends[i - VARIABLES];
+            return memory::copy(out, end - size, at, size);
+        }
+        self.put_entry(out, at, p, v)
+    }
+
+    // An entry is written: its items under a head, or nothing.
+    fn put_variable(
+        &self,
+        out: &mut [u8],
+        at: usize,
+        i: usize,
+        size: usize,
+        ends: &EntryTable,
+    ) -> usize
+        requires { (at + length (headed_at self.now.templates self.now.work.now i) ≤ length out.old) × (i < self.now.points * 8) × (size ≡ length (items_at self.now.templates self.now.work.now i)) × Stand self.now.templates self.now.work.now i out.old at ends.now }
+        ensures { Writes out.old at (headed_at self.now.templates self.now.work.now i) result out.new }
+    {
+        if size == 0 {
+            return at;
+        }
+        let p = i / VARIABLES;
+        let v = i % VARIABLES;
+        let n = memory::put(out, at, &[HEAD, p as u8, v as u8]);
+        self.put_items(out, n, i, size, ends)
+    }
+
+    // The entries of all points are written, entry by entry.
+    fn put_entries(&self, out: &mut [u8], at: usize, lengths: &EntryTable) -> usize
+        requires { (at + length (entries_bytes self.now.templates self.now.work.now (self.now.points * 8)) ≤ length out.old) × Counted self.now.templates self.now.work.now (self.now.points * 8) lengths.now }
+        ensures { Writes out.old at (entries_bytes self.now.templates self.now.work.now (self.now.points * 8)) result out.new }
+    {
+        let count = self.points * VARIABLES;
+        let mut ends: EntryTable = [0; ENTRIES];
+        let mut n = at;
+        for i in 0..count {
+            n = self.put_variable(out, n, i, lengths[i], &ends);
+            ends[i] = n;
+        }
+        n
+    }
 }
 
 // The bytes of the items of each entry are counted.
@@ -405,78 +494,17 @@ pub fn entry_lengths(work: &[u64], templates: usize, points: usize) -> EntryTabl
     requires { (points * point_words ≤ length work.now) × (templates < 32) × (points ≤ 32) }
     ensures { Counted templates work.now (points * 8) result }
 {
+    let entries = Entries {
+        work,
+        templates: templates as u8,
+        points,
+    };
     let count = points * VARIABLES;
     let mut lengths: EntryTable = [0; ENTRIES];
     for i in 0..count {
-        lengths[i] = next_length(work, templates as u8, i, &lengths);
+        lengths[i] = entries.next_length(i, &lengths);
     }
     lengths
-}
-
-// The items of an entry are written; the table tells where those of each entry before it end. What is repeated is copied from there.
-fn put_items(
-    out: &mut [u8],
-    at: usize,
-    work: &[u64],
-    templates: u8,
-    i: usize,
-    size: usize,
-    ends: &EntryTable,
-) -> usize
-    requires { (at + length (items_at templates work.now i) ≤ length out.old) × HasPoint work.now (i / 8) × (templates < 32) × (i < 256) × (size ≡ length (items_at templates work.now i)) × Stand templates work.now i out.old at ends.now }
-    ensures { Writes out.old at (items_at templates work.now i) result out.new }
-{
-    let p = i / VARIABLES;
-    let v = i % VARIABLES;
-    if is_repeated(work, p, v) {
-        let end = ends[i - VARIABLES];
-        return memory::copy(out, end - size, at, size);
-    }
-    put_entry(out, at, work, templates, p, v)
-}
-
-// An entry is written: its items under a head, or nothing.
-fn put_variable(
-    out: &mut [u8],
-    at: usize,
-    work: &[u64],
-    templates: u8,
-    i: usize,
-    size: usize,
-    ends: &EntryTable,
-) -> usize
-    requires { (at + length (headed_at templates work.now i) ≤ length out.old) × HasPoint work.now (i / 8) × (templates < 32) × (i < 256) × (size ≡ length (items_at templates work.now i)) × Stand templates work.now i out.old at ends.now }
-    ensures { Writes out.old at (headed_at templates work.now i) result out.new }
-{
-    if size == 0 {
-        return at;
-    }
-    let p = i / VARIABLES;
-    let v = i % VARIABLES;
-    let n = memory::put(out, at, &[HEAD, p as u8, v as u8]);
-    put_items(out, n, work, templates, i, size, ends)
-}
-
-// The entries of all points are written, entry by entry.
-fn put_entries(
-    out: &mut [u8],
-    at: usize,
-    work: &[u64],
-    templates: u8,
-    points: usize,
-    lengths: &EntryTable,
-) -> usize
-    requires { (at + length (entries_bytes templates work.now (points * 8)) ≤ length out.old) × (points * point_words ≤ length work.now) × (templates < 32) × (points ≤ 32) × Counted templates work.now (points * 8) lengths.now }
-    ensures { Writes out.old at (entries_bytes templates work.now (points * 8)) result out.new }
-{
-    let count = points * VARIABLES;
-    let mut ends: EntryTable = [0; ENTRIES];
-    let mut n = at;
-    for i in 0..count {
-        n = put_variable(out, n, work, templates, i, lengths[i], &ends);
-        ends[i] = n;
-    }
-    n
 }
 
 // The bytes of an entry, by those of its items: a head stands above them where there are any.
@@ -514,7 +542,12 @@ pub fn put_proposal(
     requires { (length (written_proposal (proposal_of templates points (entries_in points work.now))) ≤ length out.old) × (points * point_words ≤ length work.now) × (templates < 32) × (points ≤ 32) × Counted templates work.now (points * 8) lengths.now }
     ensures { Writes out.old 0 (written_proposal (proposal_of templates points (entries_in points work.now))) result out.new }
 {
-    let n = put_entries(out, 0, work, templates as u8, points, lengths);
+    let entries = Entries {
+        work,
+        templates: templates as u8,
+        points,
+    };
+    let n = entries.put_entries(out, 0, lengths);
     memory::put(out, n, &[END])
 }
 

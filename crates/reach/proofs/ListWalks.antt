@@ -9,7 +9,9 @@ use Rattle.std.specs.Prelude.{None}
 use Rattle.sets.specs.Sets.{member}
 use Rattle.commands.specs.declared.Position.{Position}
 use Rattle.commands.specs.Reading.{whole}
+use Rattle.vocabularies.specs.declared.Rule as Tabled
 use Rattle.vocabularies.specs.Vocabulary.{Vocabulary, rule_of, declared}
+use Rattle.vocabularies.specs.Inner.Promises.{no_rule}
 use Rattle.vocabularies.proofs.Laws.{rule_found}
 use Rattle.pages.specs.declared.Kind.TheVariants.{Template}
 use Rattle.pages.specs.declared.ItemHere.{ItemHere}
@@ -32,14 +34,14 @@ use Rattle.reach.specs.Inner.PlainlyWrong.{plainly_wrong}
 use Rattle.reach.specs.Inner.Walking.{RulesKept, TellsCarriable, GraphTold, TellsOutside, WalksElement, WalksItems}
 use Rattle.reach.proofs.Outlining.{Outlined, outlined_none, outlined_all, outlined_text, outlined_blank, outlined_gap, outlined_element, contents_by}
 
-module _ (s allowed_in held_in graph brings : List ℕ) (n : ℕ) where
+module _ (s : List ℕ) (rules_in : List Tabled.Rule) (graph brings : List ℕ) (n : ℕ) where
   -- ---- items
 
   -- What the items from an offset on add to what was walked over before.
   pub record Added (ruled : ℕ → Bool) (inside gaps : ℕ) (wrong : MaybeWrong) (φ : Items) (end : ℕ) (r : WalkedItems) : Type 0 where
     pub ends : r.next.at ≡ end
     pub outlined : Outlined inside gaps φ r.inside r.gaps
-    pub lowers : (φs : List Items) (G : Summary) (C : Sets) (D : Vocabulary) → RulesKept D allowed_in held_in → GraphTold φs G C n graph brings
+    pub lowers : (φs : List Items) (G : Summary) (C : Sets) (D : Vocabulary) → RulesKept D rules_in → GraphTold φs G C n graph brings
         → ((e : ℕ) → ruled e ≡ true → declared D.rules e ≡ true)
         → r.wrong ≡ lower_wrong wrong (lowest_in n (λ e mark δ χ. plainly_wrong φs G C D n e δ χ) φ)
 
@@ -47,7 +49,7 @@ module _ (s allowed_in held_in graph brings : List ℕ) (n : ℕ) where
   Adds inside gaps wrong at r = (ruled : ℕ → Bool) (f depth end : ℕ) (φ : Items) → items f Template ruled s depth at ≡ whole φ end
       → Added ruled inside gaps wrong φ end r
 
-  pub adds_all : (at : ℕ) (r : WalkedItems) → Adds 0 0 None at r → WalksItems s allowed_in held_in graph brings n at r
+  pub adds_all : (at : ℕ) (r : WalkedItems) → Adds 0 0 None at r → WalksItems s rules_in graph brings n at r
   adds_all at r A ruled f depth end φ e =
       let a = A ruled f depth end φ e in
       record { ends = a.ends; outline = outlined_all φ r.inside r.gaps a.outlined; finds = a.lowers }
@@ -97,8 +99,8 @@ module _ (s allowed_in held_in graph brings : List ℕ) (n : ℕ) where
 
     -- An element: itself, by the two tests, and those inside it.
     pub list_element : (e : ℕ) (start : Position) → h ≡ Element e start → (inside' : ℕ) → ((k : ℕ) → member inside' k ≡ (eqb k e || member inside k))
-        → (walked : WalkedElement) → WalksElement s allowed_in held_in graph brings n start.at walked
-        → (own : MaybeWrong) → TellsOutside n at walked.names (get_or allowed_in e 0) walked.gets (get_or held_in e 0) own
+        → (walked : WalkedElement) → WalksElement s rules_in graph brings n start.at walked
+        → (own : MaybeWrong) → TellsOutside n at walked.names (get_or rules_in e no_rule).attributes walked.gets (get_or rules_in e no_rule).contents own
         → (lowest : MaybeWrong) → lowest ≡ lower_wrong own walked.wrong → (wrong' : MaybeWrong) → wrong' ≡ lower_wrong wrong lowest
         → (r : WalkedItems) → Adds inside' gaps wrong' walked.next.at r → Adds inside gaps wrong at r
     unfolding lowest_in
@@ -140,9 +142,9 @@ module _ (s allowed_in held_in graph brings : List ℕ) (n : ℕ) where
   -- ---- an element
 
   pub element_walked : (start : Position) (named : Carriable) → TellsCarriable s start.at graph n named
-      → (list : WalkedItems) → WalksItems s allowed_in held_in graph brings n named.next.at list
+      → (list : WalkedItems) → WalksItems s rules_in graph brings n named.next.at list
       → (inside : ℕ) → length brings ≡ 8 → United list.inside list.gaps brings inside
-      → WalksElement s allowed_in held_in graph brings n start.at (record { names = named.names; gets = inside; next = list.next; wrong = list.wrong })
+      → WalksElement s rules_in graph brings n start.at (record { names = named.names; gets = inside; next = list.next; wrong = list.wrong })
   element_walked start named N list L inside long U ruled f depth middle end δ φ reads done reads_contents =
       let m = N [] f middle δ reads done in
       let l = L ruled f depth end φ (subst (λ (k : ℕ). items f Template ruled s depth k ≡ whole φ end) (sym m.0) reads_contents) in

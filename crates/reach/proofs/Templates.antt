@@ -9,6 +9,7 @@ use lib.ListN.{length, get_or}
 use Rattle.std.specs.Prelude.{None}
 use Rattle.sets.specs.Sets.{member}
 use Rattle.commands.specs.Reading.{whole}
+use Rattle.vocabularies.specs.declared.Rule as Tabled
 use Rattle.vocabularies.specs.declared.Tables.{Tables}
 use Rattle.vocabularies.specs.Vocabulary.{Vocabulary, declared}
 use Rattle.vocabularies.specs.Inner.Promises.{Describes}
@@ -40,13 +41,13 @@ template_listed (φ ∷ φs) (suc (suc t)) l =
     rw a (rw b at (template_listed φs (suc t) (omega arith)))
 
 -- The tables of a vocabulary that was read.
-pub rules_kept : (s : List ℕ) (D : Vocabulary) (t : Tables) → Describes s D t → RulesKept D t.attributes t.contents
+pub rules_kept : (s : List ℕ) (D : Vocabulary) (t : Tables) → Describes s D t → RulesKept D t.rules
 rules_kept s D t d = record { allows = λ e r h. (d.rule e r h).allows; holds = λ e r h. (d.rule e r h).holds }
 
-module _ (s allowed held starts : List ℕ) (count : ℕ) (graph within : List ℕ) (reached : ℕ) where
+module _ (s : List ℕ) (rules_in : List Tabled.Rule) (starts : List ℕ) (count : ℕ) (graph within : List ℕ) (reached : ℕ) where
   -- The templates below t have been looked at.
   abbrev pub Looked : ℕ → MaybeWrong → Type 0
-  Looked t w = (φs : List Items) (G : Summary) (C : Sets) (D : Vocabulary) → GraphKept φs G graph count → RulesKept D allowed held
+  Looked t w = (φs : List Items) (G : Summary) (C : Sets) (D : Vocabulary) → GraphKept φs G graph count → RulesKept D rules_in
       → Located (declared D.rules) s φs count starts → ContentsKept φs C within
       → LowestWrong (Below φs reached (λ n e mark δ φ. plainly_wrong φs G C D n e δ φ) t) w
 
@@ -58,7 +59,7 @@ module _ (s allowed held starts : List ℕ) (count : ℕ) (graph within : List �
     looked_by absent φs G C D kept rules located same =
         looked_past φs reached (λ n e mark δ φ. plainly_wrong φs G C D n e δ φ) t absent w (L φs G C D kept rules located same)
 
-    pub looked_next : 1 ≤ t → t < 32 → t ≤ count → member reached t ≡ true → (own : MaybeWrong) → TellsWrongIn s allowed held (get_or starts t 0) graph t within own
+    pub looked_next : 1 ≤ t → t < 32 → t ≤ count → member reached t ≡ true → (own : MaybeWrong) → TellsWrongIn s rules_in (get_or starts t 0) graph t within own
         → (lowest : MaybeWrong) → lowest ≡ lower_wrong w own → Looked (t + 1) lowest
     looked_next positive low there held own T lowest is φs G C D kept rules located same =
         let at = get_or starts t 0 in
@@ -69,7 +70,7 @@ module _ (s allowed held starts : List ℕ) (count : ℕ) (graph within : List �
         (T φs G C D count kept rules same fuel end (template_at φs t) (reads ∙ ap (λ (φ : Items). whole φ end) (sym (template_listed φs t positive))))
         (L φs G C D kept rules located same))
 
-    pub looked_end : (count < t) ⊎ (32 ≤ t) → TellsPlainlyWrong s allowed held starts count graph within reached w
+    pub looked_end : (count < t) ⊎ (32 ≤ t) → TellsPlainlyWrong s rules_in starts count graph within reached w
     looked_end end φs G C D kept rules located same =
         looked_all φs reached (λ n e mark δ φ. plainly_wrong φs G C D n e δ φ) t w (past end) (L φs G C D kept rules located same)
       where

@@ -15,6 +15,7 @@ use graphs::Graph;
 use pages::{AttributeHere, ItemHere, TEXT, Templates};
 use patterns::Wrong;
 use verdicts::Breach;
+use vocabularies::Rule;
 
 // The templates whose set of classes is not empty.
 pub fn yielding(classes: [[u64; 4]; 32], count: usize) -> u64
@@ -76,7 +77,8 @@ fn edges_of(graph: &Graph, n: usize, gaps: u64) -> u64
     all
 }
 
-// The edges from each template, by the gaps that are given, to the templates of a set.
+// The edges from each template, by the gaps that are given, to the templates of a set. The two public functions that call this keep these
+// parameters: a struct of them would be built in each for this one call.
 fn edge_table(graph: &Graph, gaps: &[u64; 32], count: usize, yields: u64) -> [u64; 32]
     ensures { (G : Summary) → Keeps graph.now G → EdgeTable G gaps.now count yields result }
 {
@@ -177,25 +179,23 @@ fn outside_at(
     None
 }
 
-// What the items of template n are walked over with: the rules by tables of their attributes and contents, and the contents that each gap
-// can bring.
+// What the items of template n are walked over with: the rules of the vocabulary, and the contents that each gap can bring.
 #[derive(Clone, Copy)]
 struct Walk<'a> {
     s: &'a [u8],
-    attributes: &'a [u64; 64],
-    contents: &'a [u64; 64],
+    rules: &'a [Rule; 64],
     graph: &'a Graph,
     brings: &'a [u64; 8],
     n: usize,
+    ghost there: { n < 32 },
 }
 
 impl Walk<'_> {
     // The element whose attributes stand at `start`.
     #[cycle(walk_element_walk_items)]
     fn walk_element(&self, start: Position) -> WalkedElement
-        requires { self.now.n < 32 }
         ensures forward { start.at ≤ result.next.at }
-        ensures walked { WalksElement self.now.s.now self.now.attributes.now self.now.contents.now self.now.graph.now self.now.brings.now self.now.n start.at result }
+        ensures walked { WalksElement self.now.s.now self.now.rules.now self.now.graph.now self.now.brings.now self.now.n start.at result }
     {
         let carriable = carriable_names(self.s, start, self.graph, self.n);
         let list = self.walk_items(carriable.next);
@@ -211,9 +211,8 @@ impl Walk<'_> {
     // The items from here on, up to and with what ends them.
     #[cycle(walk_element_walk_items)]
     fn walk_items(&self, start: Position) -> WalkedItems
-        requires { self.now.n < 32 }
         ensures forward { start.at ≤ result.next.at }
-        ensures walked { WalksItems self.now.s.now self.now.attributes.now self.now.contents.now self.now.graph.now self.now.brings.now self.now.n start.at result }
+        ensures walked { WalksItems self.now.s.now self.now.rules.now self.now.graph.now self.now.brings.now self.now.n start.at result }
     {
         let mut here = start;
         let mut inside: u64 = 0;
@@ -232,14 +231,14 @@ impl Walk<'_> {
                 ItemHere::Element(e, first) => {
                     inside = sets::with(inside, e);
                     let element = self.walk_element(first);
-                    let i = e as usize;
+                    let rule = self.rules[e as usize];
                     let own = outside_at(
                         self.n,
                         here.at,
                         element.names,
-                        self.attributes[i],
+                        rule.attributes,
                         element.gets,
-                        self.contents[i],
+                        rule.contents,
                     );
                     let lowest = patterns::lower(own, element.wrong);
                     wrong = patterns::lower(wrong, lowest);
@@ -304,21 +303,19 @@ fn brings_of(graph: &Graph, n: usize, within: &[u64; 32]) -> [u64; 8]
 // The lowest element that is plainly wrong in template n, whose items stand at an offset.
 fn wrong_in(
     s: &[u8],
-    attributes: &[u64; 64],
-    contents: &[u64; 64],
+    rules: &[Rule; 64],
     at: usize,
     graph: &Graph,
     n: usize,
     within: &[u64; 32],
 ) -> Option<Wrong>
     requires { n < 32 }
-    ensures { TellsWrongIn s.now attributes.now contents.now at graph.now n within.now result }
+    ensures { TellsWrongIn s.now rules.now at graph.now n within.now result }
 {
     let brings = brings_of(graph, n, within);
     let walk = Walk {
         s,
-        attributes,
-        contents,
+        rules,
         graph,
         brings: &brings,
         n,
@@ -330,14 +327,13 @@ fn wrong_in(
 // contents that can stand in the pages of each template.
 pub fn plainly_wrong(
     s: &[u8],
-    attributes: &[u64; 64],
-    contents: &[u64; 64],
+    rules: &[Rule; 64],
     templates: &Templates,
     graph: &Graph,
     within: &[u64; 32],
     reached: u64,
 ) -> Option<Wrong>
-    ensures { TellsPlainlyWrong s.now attributes.now contents.now templates.now.starts templates.now.count graph.now within.now reached result }
+    ensures { TellsPlainlyWrong s.now rules.now templates.now.starts templates.now.count graph.now within.now reached result }
 {
     let mut lowest = None;
     for n in 1..32 {
@@ -346,7 +342,7 @@ pub fn plainly_wrong(
         }
         if sets::has(reached, n as u8) {
             let at = templates.starts[n];
-            let found = wrong_in(s, attributes, contents, at, graph, n, within);
+            let found = wrong_in(s, rules, at, graph, n, within);
             lowest = patterns::lower(lowest, found);
         }
     }

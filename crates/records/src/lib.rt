@@ -16,7 +16,8 @@ use verdicts::{Numbers, Writing};
 // The error number of a call that a signal interrupted.
 const EINTR: i32 = 4;
 
-// What a call of `read` comes to.
+// What a call of `read` comes to. `Ended` and `Interrupted` are different answers with no value: an `Option` in a `Result` would be no
+// plainer, since a signal is no failure that `?` may hand on.
 #[derive(Clone, Copy, PartialEq, Eq)]
 enum Attempt {
     // This many bytes came, one at least.
@@ -213,12 +214,12 @@ pub fn read_slice(rt: &HostRuntime, begins: bool, buffer: &mut [u8]) -> Result<u
     found
 }
 
-// One line on standard output: the four numbers in decimal, with single spaces.
+// One line on standard output: the four numbers in decimal, with single spaces, as `Display` of `Numbers` spells them.
 pub fn print_verdict(rt: &HostRuntime, v: Numbers) -> io::Result<()> {
     println!(rt; "{v}")
 }
 
-// The line on standard error.
+// The line on standard error: another stream, so another call.
 pub fn tell_verdict(rt: &HostRuntime, v: Numbers) -> io::Result<()> {
     eprintln!(rt; "{v}")
 }
@@ -228,6 +229,7 @@ pub fn write_bytes(rt: &HostRuntime, bytes: &[u8]) -> io::Result<()> {
     rt.stdout().write_all(bytes)
 }
 
+// The digit as a byte of the line that `spell` fills, as its contract says: `{:02X}` would spell one byte at a time to the output.
 fn hex_digit(d: u8) -> u8
     requires { d < 16 }
     ensures { result ≡ hex_digit d }

@@ -1,7 +1,7 @@
 -- The operations of a scheme as the code works them out.
 use Rattle.std.specs.Prelude.{None}
 use Prim.Native.Nat.{ℕ, ◌*◌, ◌%◌, ◌^◌, ◌<◌, ◌≤◌}
-use mathlib.Core.Path.{◌≡◌, refl, sym, ap, ◌∙◌}
+use mathlib.Core.Path.{◌≡◌, refl, sym, ap, subst, ◌∙◌}
 use mathlib.Core.List.{List, [], ◌∷◌}
 use mathlib.Core.Bool.{Bool, true, false, cond, ◌&&◌, ◌||◌, and-false, and_comm, or-false, or_comm, false≢true}
 use native.Mathlib.Omega.{arith}
@@ -20,7 +20,9 @@ use Rattle.patterns.specs.Inner.Morphisms.{class_of}
 use Rattle.patterns.proofs.Clauses.{numbered_below}
 use Rattle.patterns.proofs.Bits.{pattern_of_nothing}
 use Rattle.schemes.specs.declared.Scheme.{Scheme}
-use Rattle.schemes.specs.Inner.Schemes.{place_of, content_of, pair_place, before_of, after_of, Lists, StandsForFacts, StandsFor, of_facts, of_root}
+use Rattle.schemes.specs.declared.Scheme.TheVariants.{Root, Facts}
+use Rattle.schemes.specs.declared.FactScheme.{FactScheme}
+use Rattle.schemes.specs.Inner.Schemes.{place_of, content_of, pair_place, before_of, after_of, Lists, KeptPlaces, StandsForFacts, StandsFor, of_facts, of_root}
 use Rattle.schemes.specs.Inner.Promises.{PatternOfOne, FirstAt, FirstPlace}
 use Rattle.pattern_sets.specs.Inner.Images.{flag_at, joined_by, Apart}
 use Rattle.sets.proofs.Booleans.{or_absent}
@@ -70,6 +72,37 @@ pair_at in_first fs places L i b = go (ltb i (length fs)) refl
         let l : length fs ≤ i = ltb-false i (length fs) e in
         L.past i l b ∙ sym (ap (pair_place in_first fs) (get_or-eq_default fs (present 0) l))
 
+-- A scheme is one of the two.
+root_in : Scheme → ℕ
+root_in (Root e) = e
+root_in (Facts p) = 0
+
+the_root : {e root : ℕ} → Root root ≡ Root e → root ≡ e
+unfolding root_in
+the_root t = ap root_in t
+
+places_in : FactScheme → Scheme → FactScheme
+places_in p (Root e) = p
+places_in p (Facts q) = q
+
+the_places : {p q : FactScheme} → Facts p ≡ Facts q → p ≡ q
+unfolding places_in
+the_places {p} t = ap (places_in p) t
+
+is_root : Scheme → Bool
+is_root (Root e) = true
+is_root (Facts p) = false
+
+pub not_root : {p : FactScheme} {e : ℕ} → Facts p ≡ Root e → ⊥
+unfolding is_root
+not_root t = false≢true (ap is_root t)
+
+pub not_facts : {e : ℕ} {fs : List Fact} → StandsForFacts (Root e) fs → ⊥
+not_facts h = not_root (sym h.of_clause)
+
+pub kept_in : {p : FactScheme} {fs : List Fact} → StandsForFacts (Facts p) fs → KeptPlaces p fs
+kept_in {fs} h = subst (λ (q : FactScheme). KeptPlaces q fs) (sym (the_places h.of_clause)) h.kept
+
 -- In a word of one content no pair is broken.
 one_flag : (c : ℕ) (f : Fact) → flagged [] (c ∷ []) f ≡ same_fact f (present c)
 unfolding is_in precedes breaks_value
@@ -86,7 +119,7 @@ content_alone fs of alone c = go (ltb (place_of (present c) fs) (length fs)) ref
     go true e = ap of (fact_placed fs (present c) (ltb-true (place_of (present c) fs) (length fs) e)) ∙ alone c
     go false e = ap of (get_or-eq_default fs (present 0) (ltb-false (place_of (present c) fs) (length fs) e)) ∙ alone 0
 
-module _ (r : Scheme) (fs : List Fact) (h : StandsForFacts r fs) where
+module _ (r : FactScheme) (fs : List Fact) (h : KeptPlaces r fs) where
   -- The pattern whose one flag is at a content's place.
   placed_one : (c p : ℕ) → p < 2 ^ 8 → ((i : ℕ) → member p i ≡ eqb i (place_of (present c) fs)) → place_of (present c) fs < length fs
       → p ≡ pattern_of fs [] (c ∷ [])
@@ -209,40 +242,34 @@ module _ (r : Scheme) (fs : List Fact) (h : StandsForFacts r fs) where
 
 -- ---- whether a word is the root alone
 
-module _ (r : Scheme) (rooted : r.rooted ≡ true) where
-  not_facts : {fs : List Fact} → StandsForFacts r fs → ⊥
-  not_facts h = false≢true (sym h.not_rooted ∙ rooted)
-
-  pub single_alone : (c : ℕ) → get_or r.contents 0 0 ≡ c → PatternOfOne r c 1
+module _ (root : ℕ) where
+  pub single_alone : (c : ℕ) → root ≡ c → PatternOfOne (Root root) c 1
   unfolding class_of
   single_alone c q R (of_facts h) = absurd (not_facts h)
-  single_alone c q R (of_root t) =
-      sym (ap (λ (b : Bool). cond b 1 2) (eq-eqb c (get_or r.contents 0 0) (sym q)))
+  single_alone c q R (of_root {root = e} t) =
+      sym (ap (λ (b : Bool). cond b 1 2) (eq-eqb c e (sym (sym (the_root t) ∙ q))))
 
-  pub single_other : (c : ℕ) → (get_or r.contents 0 0 ≡ c → ⊥) → PatternOfOne r c 2
+  pub single_other : (c : ℕ) → (root ≡ c → ⊥) → PatternOfOne (Root root) c 2
   unfolding class_of
   single_other c n R (of_facts h) = absurd (not_facts h)
-  single_other c n R (of_root t) =
-      sym (ap (λ (b : Bool). cond b 1 2) (ne_eqb c (get_or r.contents 0 0) (λ e. n (sym e))))
+  single_other c n R (of_root {root = e} t) =
+      sym (ap (λ (b : Bool). cond b 1 2) (ne_eqb c e (λ q. n (the_root t ∙ sym q))))
 
 -- ---- any of the two
 
-module _ (r : Scheme) (plain : r.rooted ≡ false) where
-  not_root : r.rooted ≡ true → ⊥
-  not_root e = false≢true (sym plain ∙ e)
+module _ (p : FactScheme) where
+  pub single_found : (c place : ℕ) → c < 64 → FirstAt p.contents c place → PatternOfOne (Facts p) c ((1 * 2 ^ place) % 2 ^ 8)
+  single_found c place small at R (of_facts {fs} h) = single_flag p fs (kept_in h) c place small at
+  single_found c place small at R (of_root e) = absurd (not_root e)
 
-  pub single_found : (c place : ℕ) → c < 64 → FirstAt r.contents c place → PatternOfOne r c ((1 * 2 ^ place) % 2 ^ 8)
-  single_found c place small p R (of_facts {fs} h) = single_flag r fs h c place small p
-  single_found c place small p R (of_root e) = absurd (not_root e)
-
-  pub single_nowhere : (c : ℕ) → FirstPlace r.contents c None → PatternOfOne r c 0
-  single_nowhere c p R (of_facts {fs} h) = single_none r fs h c p
-  single_nowhere c p R (of_root e) = absurd (not_root e)
+  pub single_nowhere : (c : ℕ) → FirstPlace p.contents c None → PatternOfOne (Facts p) c 0
+  single_nowhere c at R (of_facts {fs} h) = single_none p fs (kept_in h) c at
+  single_nowhere c at R (of_root e) = absurd (not_root e)
 
 -- What a morphism has that is read.
 module _ {r : Scheme} where
   pub size_most : {R : Morphisms.Morphism} → StandsFor r R → R.size ≤ 256
-  size_most (of_facts {fs} h) = pow_mono h.few
+  size_most (of_facts {fs} h) = pow_mono h.kept.few
   size_most (of_root e) = omega arith
 
   pub joined_below : {R : Morphisms.Morphism} → StandsFor r R → (x y : ℕ) → x < R.size → y < R.size → R.op x y < R.size

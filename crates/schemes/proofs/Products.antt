@@ -1,9 +1,10 @@
 -- Sets whose patterns are joined are the product.
-use Prim.Native.Nat.{ℕ, ◌<◌, ◌≤◌}
+use Prim.Native.Nat.{ℕ, ◌^◌, ◌<◌, ◌≤◌}
 use mathlib.Core.Path.{◌≡◌, refl, sym, ap, subst, ◌∙◌}
 use mathlib.Core.List.{List}
 use mathlib.Core.Bool.{Bool, true, false, cond, ◌&&◌, false≢true}
 use native.Mathlib.Omega.{arith}
+use lib.ListN.{length}
 use lib.Dec.{eqb, ltb}
 use borrow.Author.Tests.{eq-eqb, ne_eqb, eqb-true, ltb-true, ltb-false}
 use Rattle.vocabularies.specs.Facts.{Fact}
@@ -14,12 +15,14 @@ use Rattle.patterns.specs.Inner.Rounds.{Set, only, any_below, product}
 use Rattle.patterns.proofs.Tests.{any_below_lem, below_any}
 use Rattle.sets.proofs.Booleans.{and_both, and_left, and_right, alike, refuted}
 use Rattle.schemes.specs.declared.Scheme.{Scheme}
+use Rattle.schemes.specs.declared.Scheme.TheVariants.{Root, Facts}
+use Rattle.schemes.specs.declared.FactScheme.{FactScheme}
 use Rattle.pattern_sets.specs.Inner.PatternSets.{holds, Same}
 use Rattle.pattern_sets.specs.Inner.Images.{joined_by, Apart, Joined}
 use Rattle.pattern_sets.proofs.Imaging.{joined_zero}
-use Rattle.schemes.specs.Inner.Schemes.{StandsForFacts, StandsFor, of_facts, of_root, Is}
+use Rattle.schemes.specs.Inner.Schemes.{KeptPlaces, StandsFor, of_facts, of_root, Is}
 use Rattle.schemes.specs.Inner.Promises.{Below, Multiplies, Follows}
-use Rattle.schemes.proofs.Joining.{joined_op, joined_turned, apart_left, apart_right, size_most, joined_below}
+use Rattle.schemes.proofs.Joining.{joined_op, joined_turned, apart_left, apart_right, size_most, joined_below, not_root, not_facts, kept_in}
 
 held_below : {R : Morphisms.Morphism} (words : List ℕ) (S : Set) → Is R words S → Below R words
 held_below {R} words S is x h = go (ltb x R.size) refl
@@ -66,7 +69,7 @@ module _ {r : Scheme} {R : Morphisms.Morphism} (reads : StandsFor r R) (a b : Li
 
 -- ---- by the places of pairs
 
-module _ (r : Scheme) (fs : List Fact) (h : StandsForFacts r fs) (a b words : List ℕ) (below_a : Below (fact_morphism fs) a) (below_b : Below (fact_morphism fs) b) where
+module _ (r : FactScheme) (fs : List Fact) (h : KeptPlaces r fs) (a b words : List ℕ) (below_a : Below (fact_morphism fs) a) (below_b : Below (fact_morphism fs) b) where
   pub joined_left : (((x : ℕ) → holds a x ≡ true → Apart x r.befores r.afters) → Joined (joined_by r.befores r.afters) a b words)
       → Joined (join fs) a b words
   joined_left promised = record {
@@ -103,12 +106,14 @@ classes_unit x = go (eqb x 0) refl
     go true e = sym (eqb-true x 0 e)
     go false e = refl
 
+op_facts : (p : FactScheme) (fs : List Fact) → KeptPlaces p fs → (x : ℕ) → x < 256 → x < 2 ^ length fs → (join fs 0 x ≡ x) × (join fs x 0 ≡ x)
+op_facts p fs h x small l = (
+  sym (joined_op p fs h 0 x (omega arith) l) ∙ joined_zero 0 p.befores p.afters x small refl,
+  sym (joined_op p fs h x 0 l (omega arith)) ∙ (sym (joined_turned p fs h x 0 l (omega arith)) ∙ joined_zero 0 p.afters p.befores x small refl),
+)
+
 op_unit : {r : Scheme} {R : Morphisms.Morphism} → StandsFor r R → (x : ℕ) → x < R.size → (R.op 0 x ≡ x) × (R.op x 0 ≡ x)
-op_unit {r} (of_facts {fs} h) x l =
-    let small : x < 256 = (let m = size_most {r = r} (of_facts h) in omega arith) in (
-      sym (joined_op r fs h 0 x (omega arith) l) ∙ joined_zero 0 r.befores r.afters x small refl,
-      sym (joined_op r fs h x 0 l (omega arith)) ∙ (sym (joined_turned r fs h x 0 l (omega arith)) ∙ joined_zero 0 r.afters r.befores x small refl),
-    )
+op_unit {r} (of_facts {fs} h) x l = op_facts h.places fs h.kept x (let m = size_most {r = r} (of_facts h) in omega arith) l
 op_unit (of_root e) x l = (refl, classes_unit x)
 
 module _ (r : Scheme) (a b unit : List ℕ) (is : (y : ℕ) → holds unit y ≡ eqb y 0) (t : Bool) (e : t ≡ true) where
@@ -134,24 +139,23 @@ module _ (r : Scheme) (a b unit : List ℕ) (is : (y : ℕ) → holds unit y ≡
 
 -- ---- for the root, and for facts
 
-module _ (r : Scheme) (a b words : List ℕ) where
-  pub product_root : r.rooted ≡ true → Joined join_classes a b words → Multiplies r a b words
-  product_root e joined R (of_facts h) A B is_a is_b = absurd (false≢true (sym h.not_rooted ∙ e))
-  product_root e joined R (of_root t) A B is_a is_b = joined_product {r = r} (of_root t) a b A B is_a is_b words joined
+module _ (a b words : List ℕ) where
+  pub product_root : (root : ℕ) → Joined join_classes a b words → Multiplies (Root root) a b words
+  product_root root joined R (of_facts h) A B is_a is_b = absurd (not_facts h)
+  product_root root joined R (of_root t) A B is_a is_b = joined_product {r = Root root} (of_root t) a b A B is_a is_b words joined
 
-  pub product_left : r.rooted ≡ false
-      → (((x : ℕ) → holds a x ≡ true → Apart x r.befores r.afters) → Joined (joined_by r.befores r.afters) a b words)
-      → Multiplies r a b words
-  product_left e promised R (of_facts {fs} h) A B is_a is_b = joined_product {r = r} (of_facts h) a b A B is_a is_b words
-      (joined_left r fs h a b words (held_below a A is_a) (held_below b B is_b) promised)
-  product_left e promised R (of_root t) A B is_a is_b = absurd (false≢true (sym e ∙ t))
+  module _ (p : FactScheme) where
+    pub product_left : (((x : ℕ) → holds a x ≡ true → Apart x p.befores p.afters) → Joined (joined_by p.befores p.afters) a b words)
+        → Multiplies (Facts p) a b words
+    product_left promised R (of_facts {fs} h) A B is_a is_b = joined_product {r = Facts p} (of_facts h) a b A B is_a is_b words
+        (joined_left p fs (kept_in h) a b words (held_below a A is_a) (held_below b B is_b) promised)
+    product_left promised R (of_root t) A B is_a is_b = absurd (not_root t)
 
-  pub product_right : r.rooted ≡ false
-      → (((y : ℕ) → holds b y ≡ true → Apart y r.afters r.befores) → Joined (joined_by r.afters r.befores) b a words)
-      → Multiplies r a b words
-  product_right e promised R (of_facts {fs} h) A B is_a is_b = joined_product {r = r} (of_facts h) a b A B is_a is_b words
-      (joined_right r fs h a b words (held_below a A is_a) (held_below b B is_b) promised)
-  product_right e promised R (of_root t) A B is_a is_b = absurd (false≢true (sym e ∙ t))
+    pub product_right : (((y : ℕ) → holds b y ≡ true → Apart y p.afters p.befores) → Joined (joined_by p.afters p.befores) b a words)
+        → Multiplies (Facts p) a b words
+    product_right promised R (of_facts {fs} h) A B is_a is_b = joined_product {r = Facts p} (of_facts h) a b A B is_a is_b words
+        (joined_right p fs (kept_in h) a b words (held_below a A is_a) (held_below b B is_b) promised)
+    product_right promised R (of_root t) A B is_a is_b = absurd (not_root t)
 
 -- ---- a word of one pattern
 

@@ -1,27 +1,33 @@
 // Schemes: morphisms of words as code keeps them, by which the sets of patterns of words one after the other are worked out.
 #![tactic(auto)]
 
-ghost use Rattle.std.specs.Prelude.{◌≡◌, ◌&&◌, ℕ, ◌≤◌, ◌<◌};
+ghost use Rattle.std.specs.Prelude.{◌≡◌, true, false, ◌&&◌, ℕ, ◌≤◌, ◌<◌};
 ghost use Rattle.vocabularies.specs.Inner.Promises.{meaning_of};
 ghost use Rattle.patterns.specs.Inner.Morphisms.{join_classes, root_morphism};
 ghost use Rattle.pattern_sets.specs.Inner.PatternSets.{holds};
 ghost use Rattle.pattern_sets.specs.Inner.Images.{Joined};
 ghost use Rattle.schemes.specs.Inner.Schemes.{content_of, StandsFor};
-ghost use Rattle.schemes.specs.Inner.Promises.{Places, PlacesPair, AllContents, AllPairs, KeepsFacts, FirstPlace, PatternOfOne, HasMore, BothHaveMore, Multiplies, Follows};
+ghost use Rattle.schemes.specs.Inner.Promises.{Places, PlacesContent, PlacesPair, KeepsFacts, FirstPlace, PatternOfOne, HasMore, BothHaveMore, Multiplies, Follows};
 
 use vocabularies::{Fact, Facts, MOST_FACTS};
 
-// A scheme: a morphism of words as code keeps it, for the root or for the facts of a clause. `contents` has for each place the content
-// whose presence is the fact there, or `NO_CONTENT`; for the root its first place has the root. Two words, one after the other, break a
-// pair if one of its contents stands in the first and the other one in the second; `befores` and `afters` have the places of these two
-// for each pair. Where there is no content or no place a number stands that none has, as `KeepsFacts` and `joined_sets` have it: so they
-// are not options.
+// A scheme of the facts of a clause. `contents` has for each place the content whose presence is the fact there, or `NO_CONTENT`. Two
+// words, one after the other, break a pair if one of its contents stands in the first and the other one in the second; `befores` and
+// `afters` have the places of these two for each pair. Where there is no content or no place a number stands that none has: so they are
+// not options, of which `pattern_sets::joined_sets`, which takes and promises by numbers, would need the numbers again. The three are
+// arrays, since that function takes two of them in either order.
 #[derive(Clone, Copy, PartialEq, Eq)]
-pub struct Scheme {
-    pub rooted: bool,
+pub struct FactScheme {
     pub contents: [u8; 8],
     pub befores: [u8; 8],
     pub afters: [u8; 8],
+}
+
+// A scheme: a morphism of words as code keeps it, for the root or for the facts of a clause.
+#[derive(Clone, Copy, PartialEq, Eq)]
+pub enum Scheme {
+    Root(u8),
+    Facts(FactScheme),
 }
 
 // Contents are below 64.
@@ -62,64 +68,51 @@ fn content_of(fact: Fact) -> u8
     }
 }
 
-fn contents_of(facts: Facts) -> [u8; 8]
-    ensures { AllContents facts result }
+// The place of a content's fact; the number of facts, at which no pattern has a flag, for a content that is no fact.
+fn content_place(facts: Facts, c: u8) -> u8
+    ensures { PlacesContent facts c result }
 {
-    let mut contents = [NO_CONTENT; 8];
-    for i in 0..facts.count.min(MOST_FACTS) {
-        contents[i] = content_of(facts.kept[i]);
-    }
-    contents
+    place_of(facts, Fact::Present(c)).unwrap_or(facts.count.min(MOST_FACTS) as u8)
 }
 
-// The place of the content of a pair that stands in the first word where the pair is broken, or of the one in the second word. For a
-// content that is no fact the number of facts stands, at which no pattern has a flag.
-fn pair_place(facts: Facts, fact: Fact, in_first: bool) -> u8
-    ensures { PlacesPair in_first facts (meaning_of fact) result }
+// The place of the content of a pair that stands in the first word where the pair is broken, and of the one in the second word.
+fn pair_place(facts: Facts, fact: Fact) -> (u8, u8)
+    ensures { PlacesPair true facts (meaning_of fact) result.0 × PlacesPair false facts (meaning_of fact) result.1 }
 {
     match fact {
-        Fact::Carried(_) => NOWHERE,
-        Fact::Present(_) => NOWHERE,
-        Fact::Ordered(c, d) => {
-            let content = if in_first { d } else { c };
-            place_of(facts, Fact::Present(content)).unwrap_or(facts.count.min(MOST_FACTS) as u8)
-        }
-        Fact::Valued(_, _) => NOWHERE,
+        Fact::Carried(_) => (NOWHERE, NOWHERE),
+        Fact::Present(_) => (NOWHERE, NOWHERE),
+        Fact::Ordered(c, d) => (content_place(facts, d), content_place(facts, c)),
+        Fact::Valued(_, _) => (NOWHERE, NOWHERE),
     }
-}
-
-fn pair_places(facts: Facts, in_first: bool) -> [u8; 8]
-    ensures { AllPairs in_first facts result }
-{
-    let mut places = [NOWHERE; 8];
-    for i in 0..facts.count.min(MOST_FACTS) {
-        places[i] = pair_place(facts, facts.kept[i], in_first);
-    }
-    places
 }
 
 // The scheme of a clause's facts.
 pub fn facts_scheme(facts: Facts) -> Scheme
     ensures { KeepsFacts facts result }
 {
-    Scheme {
-        rooted: false,
-        contents: contents_of(facts),
-        befores: pair_places(facts, true),
-        afters: pair_places(facts, false),
+    let mut contents = [NO_CONTENT; 8];
+    let mut befores = [NOWHERE; 8];
+    let mut afters = [NOWHERE; 8];
+    for i in 0..facts.count.min(MOST_FACTS) {
+        let fact = facts.kept[i];
+        contents[i] = content_of(fact);
+        let (before, after) = pair_place(facts, fact);
+        befores[i] = before;
+        afters[i] = after;
     }
+    Scheme::Facts(FactScheme {
+        contents,
+        befores,
+        afters,
+    })
 }
 
 // Whether a word is empty, the root alone, or other.
 pub fn root_scheme(root: u8) -> Scheme
     ensures { StandsFor result (root_morphism root) }
 {
-    Scheme {
-        rooted: true,
-        contents: [root; 8],
-        befores: [0u8; 8],
-        afters: [0u8; 8],
-    }
+    Scheme::Root(root)
 }
 
 // The first place of a content.
@@ -134,12 +127,13 @@ pub fn single(r: Scheme, c: u8) -> u8
     requires { c < 64 }
     ensures { PatternOfOne r c result }
 {
-    if r.rooted {
-        return if r.contents[0] == c { ALONE } else { OTHER };
-    }
-    match place_in(r.contents, c) {
-        Some(i) => 1 << i,
-        None => EMPTY,
+    match r {
+        Scheme::Root(root) if root == c => ALONE,
+        Scheme::Root(_) => OTHER,
+        Scheme::Facts(places) => match place_in(places.contents, c) {
+            Some(i) => 1 << i,
+            None => EMPTY,
+        },
     }
 }
 
@@ -176,6 +170,7 @@ fn joined_classes(a: [u64; 4], b: [u64; 4]) -> [u64; 4]
     pattern_sets::union(pattern_sets::union(right, left), both)
 }
 
+// The bound on the library's count, by which `members` cannot overflow.
 fn ones(word: u64) -> u32
     ensures { result ≤ 64 }
 {
@@ -198,15 +193,17 @@ pub fn product(r: Scheme, a: [u64; 4], b: [u64; 4]) -> [u64; 4]
     if pattern_sets::same(b, empty) {
         return a;
     }
-    if r.rooted {
-        return joined_classes(a, b);
+    match r {
+        Scheme::Root(_) => joined_classes(a, b),
+        Scheme::Facts(places) => {
+            let befores = places.befores;
+            let afters = places.afters;
+            if members(b) < members(a) {
+                return pattern_sets::joined_sets(b, a, afters, befores);
+            }
+            pattern_sets::joined_sets(a, b, befores, afters)
+        }
     }
-    let befores = r.befores;
-    let afters = r.afters;
-    if members(b) < members(a) {
-        return pattern_sets::joined_sets(b, a, afters, befores);
-    }
-    pattern_sets::joined_sets(a, b, befores, afters)
 }
 
 // The patterns of a word of the set with a word of this pattern after it.

@@ -28,8 +28,8 @@ use Rattle.elements.specs.Inner.Rules.{RulesStand, SearchesRules}
 use Rattle.shows.specs.declared.TemplateTables.{TemplateTables}
 use Rattle.shows.specs.Inner.Promises.{ShowAt}
 
-module _ (s : List ℕ) (rules : Tables) (templates : TemplateTables) (count : ℕ) (starts graph : List ℕ) (j : Job) (p : ℕ)
-    (A : ShowAt s rules templates count starts graph j p) (bytes : Bytes s) where
+module _ (s : List ℕ) (vocabulary : Tables) (templates : TemplateTables) (count : ℕ) (starts graph : List ℕ) (j : Job) (p : ℕ)
+    (A : ShowAt s vocabulary templates count starts graph j p) (bytes : Bytes s) where
   pub given : GivenShows j.script (entries j.proposal)
   given = job_given s bytes j A.end A.reads
 
@@ -39,10 +39,10 @@ module _ (s : List ℕ) (rules : Tables) (templates : TemplateTables) (count : �
   graph_kept : GraphKept j.script.templates A.shown graph count
   graph_kept = record { keeps = A.keeps; bounded = bounded; counts = A.located.counted; few = A.few }
 
-  rules_kept : RulesKept j.script.vocabulary rules.attributes rules.contents
+  rules_kept : RulesKept j.script.vocabulary vocabulary.rules
   rules_kept = record { allows = λ e r q. (A.vocabulary.rule e r q).allows; holds = λ e r q. (A.vocabulary.rule e r q).holds }
 
-  rules_stand : RulesStand s j.script.vocabulary rules.declared rules.clauses
+  rules_stand : RulesStand s j.script.vocabulary vocabulary.declared vocabulary.rules
   rules_stand = record { declares = A.vocabulary.declares; stands = λ e r q. (A.vocabulary.rule e r q).stands }
 
   module _ (T : Decided.Tables) (exact : ExactTables j.script.templates A.shown j.script.vocabulary T) (classes : List (List ℕ))
@@ -50,8 +50,8 @@ module _ (s : List ℕ) (rules : Tables) (templates : TemplateTables) (count : �
       (yields : ℕ) (tells_yields : TellsYielding classes count yields)
       (reached : ℕ) (tells_reached : TellsReached graph templates.gaps count yields reached)
       (within : List ℕ) (tells_contents : TellsContents graph templates.contents templates.outer count yields within)
-      (plain : MaybeWrong) (tells_plain : TellsPlainlyWrong s rules.attributes rules.contents starts count graph within reached plain)
-      (by_clause : MaybeWrong) (searches : SearchesRules s rules.declared rules.clauses templates.standing graph starts count reached by_clause) where
+      (plain : MaybeWrong) (tells_plain : TellsPlainlyWrong s vocabulary.rules starts count graph within reached plain)
+      (by_clause : MaybeWrong) (searches : SearchesRules s vocabulary.declared vocabulary.rules templates.standing graph starts count reached by_clause) where
     yielding : YieldsExact j.script.templates A.shown (member yields)
     yielding = tells_yields j.script.templates A.shown j.script.vocabulary.root T.classes A.located.counted A.few sets exact.classes
 

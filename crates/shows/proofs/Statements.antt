@@ -19,7 +19,7 @@ use Rattle.programs.specs.Program.{Statement, template_at}
 use Rattle.programs.specs.ProgramReading.{templates_there}
 use Rattle.programs.specs.Inner.Promises.{as_act, as_statement, statement_here, StatementFits}
 use Rattle.programs.proofs.Decoding.{statement_fits}
-use Rattle.summaries.specs.Summaries.{Summary, Environment, fragment, plug_summary, entries}
+use Rattle.summaries.specs.Summaries.{Summary, fragment, plug_summary, entries}
 use Rattle.summaries.specs.Languages.{closed_summary, summary_shown, statement_graph, graph_shown}
 use Rattle.jobs.specs.Job.{Job}
 use Rattle.graphs.specs.Inner.Graphs.{Keeps, nothing}
@@ -91,12 +91,6 @@ module _ (s heads gaps : List ℕ) (p : ℕ) where
       plugs _ _ (loads_frame (template_at j.script.templates t) nothing (rw w (P.gaps_are t f.1)) low K) (loads j P.low f.0 P.entry blank)
 
   module _ (source : Source) (before after : List ℕ) where
-    pub variable_source : (x : ℕ) → source ≡ Variable x → HoldsEntry s heads p x before after → HoldsSource s heads gaps p source before after
-    variable_source x e loads = rw e (λ j P f K. loads j P.low f P.entry K)
-
-    pub framed_source : (x t g : ℕ) → source ≡ Framed x t g → HoldsSource s heads gaps p (Framed x t g) before after → HoldsSource s heads gaps p source before after
-    framed_source x t g e h = rw e h
-
     -- What the page is made from, closed.
     pub closed_source : (made : List ℕ) → HoldsSource s heads gaps p source before made → ((R : Summary) → Keeps made R → Keeps after (closed_summary R)) → HoldsShown s heads gaps p source before after
     closed_source made holds closes j P f K = closes _ (holds j P f K)

@@ -30,7 +30,7 @@ pub enum WrongShow {
 }
 
 // What is worked out of the templates of a job: the gaps of each, at any depth; the contents and the gaps among its outer items; and for
-// each element the templates in which it stands.
+// each element the templates in which it stands. The tables stay apart: what goes by them is lent one or two.
 #[derive(Clone, Copy)]
 pub struct TemplateTables {
     pub gaps: [u64; 32],
@@ -158,51 +158,50 @@ fn lowest_root(roots: u64, classes: [[u64; 4]; 32], count: usize) -> Option<usiz
 // 12, 14 or 15: the lowest wrong element. Its attributes and contents are told before its clauses.
 fn wrong_elements(
     s: &[u8],
-    rules: Tables,
+    vocabulary: Tables,
     tables: TemplateTables,
     templates: &Templates,
     graph: &Graph,
     classes: [[u64; 4]; 32],
 ) -> Option<Wrong>
-    ensures { WrongElements s.now rules tables templates.now.count templates.now.starts graph.now classes result }
+    ensures { WrongElements s.now vocabulary tables templates.now.count templates.now.starts graph.now classes result }
 {
     let count = templates.count;
     let yields = reach::yielding(classes, count);
     let reached = reach::reached(graph, &tables.gaps, count, yields);
     let within = reach::contents_of(graph, &tables.contents, &tables.outer, count, yields);
-    let plain = reach::plainly_wrong(
+    let plain = reach::plainly_wrong(s, &vocabulary.rules, templates, graph, &within, reached);
+    let by_clause = elements::search_rules(
         s,
-        &rules.attributes,
-        &rules.contents,
-        templates,
+        vocabulary,
+        &tables.standing,
         graph,
-        &within,
+        templates,
         reached,
     );
-    let by_clause = elements::search_rules(s, rules, &tables.standing, graph, templates, reached);
     patterns::lower(plain, by_clause)
 }
 
 // What is wrong in the show of a graph, 11 before a wrong element.
 pub fn decide(
     s: &[u8],
-    rules: Tables,
+    vocabulary: Tables,
     tables: TemplateTables,
     templates: &Templates,
     graph: &Graph,
 ) -> Result<(), WrongShow>
-    ensures { DecidesShow s.now rules tables templates.now.count templates.now.starts graph.now result }
+    ensures { DecidesShow s.now vocabulary tables templates.now.count templates.now.starts graph.now result }
 {
     if MOST_TEMPLATES < templates.count {
         return Ok(());
     }
     let mut classes = [[0u64; 4]; 32];
-    let root = schemes::root_scheme(rules.root);
+    let root = schemes::root_scheme(vocabulary.root);
     languages::settle(s, root, graph, templates, &mut classes);
     if let Some(t) = lowest_root(graphs::roots(graph), classes, templates.count) {
         return Err(WrongShow::NotRoot(t));
     }
-    if let Some(wrong) = wrong_elements(s, rules, tables, templates, graph, classes) {
+    if let Some(wrong) = wrong_elements(s, vocabulary, tables, templates, graph, classes) {
         return Err(WrongShow::Element(wrong));
     }
     Ok(())

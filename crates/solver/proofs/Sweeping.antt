@@ -1,5 +1,5 @@
 -- Sweeps: points are visited one after the other, and where no word changes, no variable waits at those that were.
-use Prim.Native.Nat.{ℕ, ◌+◌, ◌<◌}
+use Prim.Native.Nat.{ℕ, ◌+◌, ◌≤◌, ◌<◌}
 use mathlib.Core.Path.{◌≡◌, refl, ◌∙◌}
 use mathlib.Core.List.{List}
 use mathlib.Core.Logic.{◌⊎◌, inl, inr}
@@ -102,7 +102,7 @@ module _ (s gaps places : List ℕ) (names : ℕ) where
             go (yes e) = inr (turned_back upwards q turn h.0 e)
             go (no d) = inl (h.0, lower (turned upwards q) turn h.1 d)
 
-    pub sweep_ends : (work waiting after waiting' : List ℕ) → Visited (Earlier upwards 32) s gaps places names work waiting after waiting'
+    pub sweep_ends : (turn : ℕ) → 32 ≤ turn → (work waiting after waiting' : List ℕ) → Visited (Earlier upwards turn) s gaps places names work waiting after waiting'
         → Visited (λ q. q < most_points) s gaps places names work waiting after waiting'
-    sweep_ends work waiting after waiting' U =
-        visited_both (Earlier upwards 32) (Earlier upwards 0) (λ q. q < most_points) work waiting after waiting' after waiting' (λ q l. inl (l, turned_low upwards q l)) U (sweep_begins after waiting')
+    sweep_ends turn far work waiting after waiting' U =
+        visited_both (Earlier upwards turn) (Earlier upwards 0) (λ q. q < most_points) work waiting after waiting' after waiting' (λ q l. inl (l, let low = turned_low upwards q l in omega arith)) U (sweep_begins after waiting')

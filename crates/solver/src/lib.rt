@@ -19,7 +19,6 @@ ghost use Rattle.solver.specs.Inner.Work.{VariableFlows, NeededFlows, Flowed, St
 ghost use Rattle.summaries.specs.ProposalReading.{variable_of};
 
 use commands::Position;
-use entries::Passing;
 use graphs::Graph;
 use programs::{Act, Points, Statement};
 use strings::Values;
@@ -57,13 +56,7 @@ fn filled_graph(work: &[u64], p: usize, x: usize, h: u8, y: usize) -> Graph
 {
     let mut graph = states::graph_at(work, p, x);
     let values = states::values_at(work, p, y);
-    entries::pass(
-        &mut graph,
-        Passing::Filling {
-            gap: h,
-            strings: values,
-        },
-    );
+    entries::pass(&mut graph, entries::filling(h, values));
     graph
 }
 

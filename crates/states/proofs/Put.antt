@@ -2,21 +2,22 @@
 use Prim.Native.Nat.{ℕ, ◌+◌, ◌^◌, ◌≤◌, ◌<◌}
 use mathlib.Core.Path.{◌≡◌, refl, sym, ap, ◌∙◌}
 use mathlib.Core.List.{List, [], ◌∷◌}
-use mathlib.Core.Bool.{Bool, true, false, not, ◌&&◌, ◌||◌}
+use mathlib.Core.Bool.{Bool, true, false, not, ◌&&◌, ◌||◌, or-true, or_assoc}
 use mathlib.Core.Logic.{◌⊎◌, inl, inr}
 use native.Mathlib.Omega.{arith}
-use lib.ListN.{length, get_or, take, drop, length-set, length-take, length-drop}
-use lib.Seq.{get_or-set_same, get_or-set_other, ext_get_or, get_or-take, get_or-drop}
+use lib.ListN.{length, get_or, set, take, drop, length-take, length-drop}
+use lib.Seq.{set-get_or, get_or-set_same, get_or-set_other, ext_get_or, get_or-take, get_or-drop}
 use lib.Dec.{eqb, ltb}
 use borrow.Author.Tests.{eqb-true, eqb-false, ltb-true, ltb-false}
 use Rattle.sets.specs.Sets.{member}
 use Rattle.sets.specs.Inner.Promises.{MembersWithin}
-use Rattle.strings.specs.declared.Values.{Values}
+use Rattle.strings.specs.declared.StringSet.{StringSet}
+use Rattle.strings.specs.declared.Values.TheVariants.{Any, Named}
 use Rattle.summaries.specs.Proposal.{Claim}
 use Rattle.graphs.specs.Inner.Graphs.{holds}
 use Rattle.graphs.specs.Inner.Promises.{JoinsWord}
 use Rattle.graphs.specs.Inner.Growth.{Grows}
-use Rattle.graphs.proofs.Joining.{word_joined, shuffle, holds_joined}
+use Rattle.graphs.proofs.Joining.{word_joined, holds_joined}
 use Rattle.graphs.proofs.Growth.{unchanged_grows, grows_gained}
 use Rattle.sets.proofs.Booleans.{or_within}
 use Rattle.memory.specs.Inner.Laid.{laid}
@@ -135,24 +136,35 @@ module _ (work : List ℕ) (p x : ℕ) (has : HasPoint work p) (l : x < 4) where
         templates = λ points q z. template_same points work after q z λ u v. rw is (part_same work (strings_place p x) (a ∷ b ∷ []) (graph_place q z) 544 (graph_apart p x q z l v));
       }
 
-  pub values_joined : (values : Values) (first : ℕ) → first ≡ strings_place p x → (any : ℕ) → member any 0 ≡ values.any → (after₁ after : List ℕ) (s t both : ℕ)
-      → JoinsWord work first values.named.word after₁ s × (get_or work first 0 < 2 ^ 64) → JoinsWord after₁ (first + 1) any after t × (get_or after₁ (first + 1) 0 < 2 ^ 64)
-      → both < 2 ^ 64 → ((k : ℕ) → member both k ≡ (member s k || member t k)) → ValuesJoined work p x values after (not (eqb both 0))
-  unfolding laid
-  values_joined values first at any is after₁ after s t both (J, fits) (K, fits') both_fits either =
-      let other : get_or after₁ (first + 1) 0 ≡ get_or work (first + 1) 0 = rw J.after_is (get_or-set_other work first (first + 1) J.word 0 (λ e. omega arith)) in
-      let laid_so : after ≡ laid work (strings_place p x) (J.word ∷ K.word ∷ []) = rw (← at, K.after_is, J.after_is) in
-      let W = words_put J.word K.word after laid_so in
-      record {
-        here = λ points m r. W.here points m r
-            ∙ rw (K.either 0, J.either r, other, is) (shuffle (member (get_or work (first + 1) 0) 0) values.any (member (get_or work first 0) r) (member values.named.word r)
-            ∙ rw at (sym (ap (λ (b : Bool). b || (values.any || member values.named.word r)) (string_entry points work p x m l r))));
-        others = W.others;
-        templates = W.templates;
-        grows = grows_gained s t both J.gained_fits K.gained_fits both_fits either work after₁ after
-            (word_joined work first values.named.word after₁ s J fits (omega arith))
-            (word_joined after₁ (first + 1) any after t K fits' (let e : length after₁ ≡ length work = ap length J.after_is ∙ length-set work first J.word in omega arith));
-      }
+  module _ (first : ℕ) (at : first ≡ strings_place p x) (after : List ℕ) (gained : ℕ) where
+    pub any_joined : JoinsWord work (first + 1) 1 after gained × (get_or work (first + 1) 0 < 2 ^ 64) → ValuesJoined work p x Any after (not (eqb gained 0))
+    unfolding laid member
+    any_joined (J, fits) =
+        let laid_so : after ≡ laid work (strings_place p x) (get_or work (strings_place p x) 0 ∷ J.word ∷ []) = rw (← at, J.after_is, set-get_or work first 0) in
+        let W = words_put (get_or work (strings_place p x) 0) J.word after laid_so in
+        let held : member J.word 0 ≡ true = J.either 0 ∙ or-true (member (get_or work (first + 1) 0) 0) in
+        record {
+          here = λ points m r. W.here points m r ∙ rw held (sym (or-true ((entries_in points work p).string x r)));
+          others = W.others;
+          templates = W.templates;
+          grows = word_joined work (first + 1) 1 after gained J fits (omega arith);
+        }
+
+    pub named_joined : (more : StringSet) → JoinsWord work first more.word after gained × (get_or work first 0 < 2 ^ 64) → ValuesJoined work p x (Named more) after (not (eqb gained 0))
+    unfolding laid
+    named_joined more (J, fits) =
+        let other : get_or (set work first J.word) (first + 1) 0 ≡ get_or work (first + 1) 0 = get_or-set_other work first (first + 1) J.word 0 (λ e. omega arith) in
+        let laid_so : after ≡ laid work (strings_place p x) (J.word ∷ get_or work (strings_place p x + 1) 0 ∷ []) =
+        rw (← at, J.after_is, ← other) (sym (set-get_or (set work first J.word) (first + 1) 0)) in
+        let W = words_put J.word (get_or work (strings_place p x + 1) 0) after laid_so in
+        record {
+          here = λ points m r. W.here points m r
+              ∙ rw (J.either r, at) (sym (or_assoc (member (get_or work (strings_place p x + 1) 0) 0) (member (get_or work (strings_place p x) 0) r) (member more.word r))
+              ∙ sym (ap (λ (b : Bool). b || member more.word r) (string_entry points work p x m l r)));
+          others = W.others;
+          templates = W.templates;
+          grows = word_joined work first more.word after gained J fits (omega arith);
+        }
 
   -- Words that are the same outside the entry's own.
   module _ (after : List ℕ) (same : (k : ℕ) → (k < graph_place p x) ⊎ (graph_place p x + 544 ≤ k) → get_or after k 0 ≡ get_or work k 0) (room : length after ≡ length work) where

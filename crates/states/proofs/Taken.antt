@@ -2,12 +2,13 @@
 use Prim.Native.Nat.{ℕ, ◌+◌, ◌^◌, ◌<◌}
 use mathlib.Core.Path.{◌≡◌, refl, sym, ap, ◌∙◌}
 use mathlib.Core.List.{List}
-use mathlib.Core.Bool.{Bool, true, false, ◌&&◌, and-false}
+use mathlib.Core.Bool.{Bool, true, false, ◌&&◌, ◌||◌, and-false}
 use lib.ListN.{get_or, take, drop}
 use lib.Dec.{ltb}
 use borrow.Author.Tests.{ltb-true, ltb-false}
 use Rattle.sets.specs.Sets.{member}
-use Rattle.strings.specs.declared.Values.{Values}
+use Rattle.strings.specs.declared.StringSet.{StringSet}
+use Rattle.strings.specs.declared.Values.TheVariants.{Any, Named}
 use Rattle.strings.specs.Inner.Promises.{set_number}
 use Rattle.graphs.specs.Inner.Graphs.{holds, Keeps}
 use Rattle.states.specs.Inner.States.{graph_place, strings_place, graph_words, in_words, entries_in}
@@ -29,12 +30,20 @@ module _ (work : List ℕ) (p x : ℕ) (has : HasPoint work p) (l : x < 4) (narr
       let words : graph ≡ graph_words work p x = copied ∙ ap (λ (n : ℕ). take 544 (drop n work)) at in
       record { words = words; keeps = λ points m. rw words (entry_kept points m) }
 
-pub values_taken : (work : List ℕ) (p y first : ℕ) → y < 4 → ((i : ℕ) → get_or work i 0 < 2 ^ 64) → first ≡ strings_place p y → (values : Values)
-    → set_number values.named ≡ get_or work first 0 → values.any ≡ member (get_or work (first + 1) 0) 0 → ValuesTaken work p y values
-values_taken work p y first l narrow at values named any =
-    let is_named : set_number values.named ≡ get_or work (strings_place p y) 0 = named ∙ ap (λ (i : ℕ). get_or work i 0) at in
-    let is_any : values.any ≡ member (get_or work (strings_place p y + 1) 0) 0 = any ∙ ap (λ (i : ℕ). member (get_or work (i + 1) 0) 0) at in
-    record { named = is_named; any = is_any; narrow = rw is_named (narrow (strings_place p y)); keeps = λ points m s. rw (is_named, is_any) (sym (string_entry points work p y m l s)) }
+module _ (work : List ℕ) (p y first : ℕ) (l : y < 4) (at : first ≡ strings_place p y) where
+  pub any_taken : (any : Bool) → any ≡ member (get_or work (first + 1) 0) 0 → any ≡ true → ValuesTaken work p y Any
+  any_taken any is e =
+      let told : member (get_or work (strings_place p y + 1) 0) 0 ≡ true = rw (← at, ← is) e in
+      record { told = told; keeps = λ points m s. sym (string_entry points work p y m l s ∙ ap (λ (t : Bool). t || member (get_or work (strings_place p y) 0) s) told) }
+
+  pub named_taken : (any : Bool) → any ≡ member (get_or work (first + 1) 0) 0 → any ≡ false → ((i : ℕ) → get_or work i 0 < 2 ^ 64) → (set : StringSet) → set_number set ≡ get_or work first 0 → ValuesTaken work p y (Named set)
+  named_taken any is e narrow set named =
+      let told : member (get_or work (strings_place p y + 1) 0) 0 ≡ false = rw (← at, ← is) e in
+      let is_named : set_number set ≡ get_or work (strings_place p y) 0 = rw (← at) named in
+      record {
+        told = (told, is_named, rw is_named (narrow (strings_place p y)));
+        keeps = λ points m s. rw is_named (sym (string_entry points work p y m l s ∙ ap (λ (t : Bool). t || member (get_or work (strings_place p y) 0) s) told));
+      }
 
 -- Words that are all zero hold nothing.
 pub nothing_there : (work : List ℕ) (p x first : ℕ) → first ≡ graph_place p x → ((k : ℕ) → k < 544 → get_or (take 544 (drop first work)) k 0 ≡ 0) → (points : ℕ) (c : Claim)

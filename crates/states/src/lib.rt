@@ -64,10 +64,10 @@ pub fn values_at(work: &[u64], p: usize, y: usize) -> Values
     ensures { ValuesTaken work.now p y result }
 {
     let first = strings_place(p, y);
-    Values {
-        named: strings::of_number(work[first]),
-        any: sets::has(work[first + 1], 0),
+    if sets::has(work[first + 1], 0) {
+        return Values::Any;
     }
+    Values::Named(strings::of_number(work[first]))
 }
 
 // Whether the words from two places on are the same.
@@ -94,7 +94,8 @@ pub fn same_entry(work: &[u64], p: usize, q: usize, v: usize) -> bool
     )
 }
 
-// One word gains the members of another; those that it lacked.
+// One word gains the members of another; those that it lacked. A slice has its length in its contract, a graph in its type, so this stands
+// in both crates.
 fn join_word(work: &mut [u64], i: usize, more: u64) -> u64
     requires { i < length work.old }
     ensures { JoinsWord work.old i more work.new result × (get_or work.old i 0 < 2 ^ 64) }
@@ -148,7 +149,8 @@ pub fn join_values(work: &mut [u64], p: usize, y: usize, values: Values) -> bool
     ensures { ValuesJoined work.old p y values work.new result }
 {
     let first = strings_place(p, y);
-    let named = join_word(work, first, values.named.word);
-    let any = join_word(work, first + 1, u64::from(values.any));
-    sets::union(named, any) != 0
+    match values {
+        Values::Any => join_word(work, first + 1, 1) != 0,
+        Values::Named(set) => join_word(work, first, set.word) != 0,
+    }
 }

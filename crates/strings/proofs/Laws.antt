@@ -14,9 +14,9 @@ use Rattle.sets.specs.Sets.{member}
 use Rattle.sets.specs.Inner.Promises.{NextMember}
 use Rattle.sets.proofs.Laws.{member_high}
 use Rattle.strings.specs.declared.StringSet.{StringSet}
-use Rattle.strings.specs.declared.Values.{Values}
+use Rattle.strings.specs.declared.Values.TheVariants.{Any, Named}
 use Rattle.strings.specs.Strings.{strings}
-use Rattle.strings.specs.Inner.Promises.{has_string, StringsWithin, holds_value, ValuesWithin, NoValues}
+use Rattle.strings.specs.Inner.Promises.{has_string, ValuesWithin, NoValues}
 
 -- The word that has every string.
 unfoldable all_below : ℕ → (ℕ → Bool) → Bool
@@ -45,30 +45,12 @@ outside set b s l = member_high 64 set.word s b l
 
 -- ---- what an attribute gap can take
 
-any_of : (t u : Bool) → t ≡ true → (t || u) ≡ true
-any_of true u e = refl
-any_of false u e = absurd (false≢true e)
+pub any_not_within : (b : StringSet) → b.word < 2 ^ 64 → ValuesWithin Any (Named b) false
+any_not_within b l = (strings, refl, outside b l strings (omega arith))
 
-named_of : (t u : Bool) → t ≡ false → (t || u) ≡ u
-named_of true u e = absurd (false≢true (sym e))
-named_of false u e = refl
-
-pub holds_any : (v : Values) → v.any ≡ true → (s : ℕ) → holds_value v s ≡ true
-holds_any v e s = any_of v.any (has_string v.named s) e
-
-pub holds_named : (v : Values) → v.any ≡ false → (s : ℕ) → holds_value v s ≡ has_string v.named s
-holds_named v e s = named_of v.any (has_string v.named s) e
-
-pub any_not_within : (a b : Values) → b.named.word < 2 ^ 64 → b.any ≡ false → a.any ≡ true → ValuesWithin a b false
-any_not_within a b l n e = (strings, holds_any a e strings, holds_named b n strings ∙ outside b.named l strings (omega arith))
-
-pub named_within : (a b : Values) → b.any ≡ false → a.any ≡ false → (t : Bool) → StringsWithin a.named b.named t → ValuesWithin a b t
-named_within a b n m true h = λ s e. holds_named b n s ∙ h s (sym (holds_named a m s) ∙ e)
-named_within a b n m false h = (h.0, holds_named a m h.0 ∙ h.2, holds_named b n h.0 ∙ h.3)
-
--- The first string of what can be taken decides whether there is one.
-pub first_decides : (v : Values) → v.any ≡ false → (next : Option ℕ) → NextMember v.named.word 0 next → (r : Bool) → is_some next ≡ not r → NoValues v r
-first_decides v n (Some s) is true e = absurd (false≢true (sym e))
-first_decides v n (Some s) is false e = let w : s < 64 = is.within in (s, omega arith, holds_named v n s ∙ is.is_held)
-first_decides v n None is true e = λ s. holds_named v n s ∙ is s (omega arith)
-first_decides v n None is false e = absurd (false≢true e)
+-- The first string of a set decides whether there is one.
+pub first_decides : (set : StringSet) (next : Option ℕ) → NextMember set.word 0 next → (r : Bool) → is_some next ≡ not r → NoValues (Named set) r
+first_decides set (Some s) is true e = absurd (false≢true (sym e))
+first_decides set (Some s) is false e = let w : s < 64 = is.within in (s, omega arith, is.is_held)
+first_decides set None is true e = λ s. is s (omega arith)
+first_decides set None is false e = absurd (false≢true e)

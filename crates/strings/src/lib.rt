@@ -12,21 +12,24 @@ pub struct StringSet {
     pub word: u64,
 }
 
-// Strings: some of the named ones, or all that exist.
+// Strings: some of the named ones, or all that exist. As an `Option` of a set `None` would be all strings, and would read as none.
 #[derive(Clone, Copy)]
-pub struct Values {
-    pub named: StringSet,
-    pub any: bool,
+pub enum Values {
+    // All that exist: there are others than the named ones.
+    Any,
+    Named(StringSet),
 }
 
-// What an attribute gap can take at a show: strings or, where it can still be open, no string, so that its attribute is absent.
+// What an attribute gap can take at a show: strings or, where it can still be open, no string, so that its attribute is absent. Each of
+// the two says something whatever the other is.
 #[derive(Clone, Copy)]
 pub struct AttributeValues {
     pub strings: Values,
     pub absent: bool,
 }
 
-// The last of the named strings, and the number that stands for every other string.
+// The last of the named strings, and the number that stands for every other string: to a fact of a clause it is a string like the others,
+// which the definitions count as string 64.
 pub const LAST: u8 = 63;
 
 pub const OUTSIDE: u8 = 64;
@@ -67,6 +70,7 @@ pub fn with(set: StringSet, s: u8) -> StringSet
     }
 }
 
+// Here and in the next two the operation of words stands alone: one function with the operation as an argument would be no shorter.
 pub fn union(a: StringSet, b: StringSet) -> StringSet
     ensures { (k : ℕ) → has_string result k ≡ (has_string a k || has_string b k) }
 {
@@ -110,44 +114,29 @@ pub fn next(set: StringSet, from: u8) -> Option<u8>
 pub fn no_values() -> Values
     ensures { (s : ℕ) → holds_value result s ≡ false }
 {
-    Values {
-        named: none(),
-        any: false,
-    }
+    Values::Named(none())
 }
 
 pub fn any_value() -> Values
     ensures { (s : ℕ) → holds_value result s ≡ true }
 {
-    Values {
-        named: none(),
-        any: true,
-    }
+    Values::Any
 }
 
 pub fn one_value(s: u8) -> Values
     requires { s < strings }
     ensures { (k : ℕ) → holds_value result k ≡ eqb k s }
 {
-    Values {
-        named: with(none(), s),
-        any: false,
-    }
+    Values::Named(with(none(), s))
 }
 
 // What is in either.
 pub fn values_union(a: Values, b: Values) -> Values
     ensures { (s : ℕ) → holds_value result s ≡ (holds_value a s || holds_value b s) }
 {
-    if a.any {
-        return a;
-    }
-    if b.any {
-        return b;
-    }
-    Values {
-        named: union(a.named, b.named),
-        any: false,
+    match (a, b) {
+        (Values::Named(a), Values::Named(b)) => Values::Named(union(a, b)),
+        _ => Values::Any,
     }
 }
 
@@ -155,23 +144,21 @@ pub fn values_union(a: Values, b: Values) -> Values
 pub fn values_within(a: Values, b: Values) -> bool
     ensures { ValuesWithin a b result }
 {
-    if b.any {
-        return true;
+    match (a, b) {
+        (_, Values::Any) => true,
+        (Values::Any, Values::Named(_)) => false,
+        (Values::Named(a), Values::Named(b)) => is_within(a, b),
     }
-    if a.any {
-        return false;
-    }
-    is_within(a.named, b.named)
 }
 
 // Whether there is no string.
 pub fn is_empty(values: Values) -> bool
     ensures { NoValues values result }
 {
-    if values.any {
-        return false;
+    match values {
+        Values::Any => false,
+        Values::Named(set) => next(set, 0).is_none(),
     }
-    next(values.named, 0).is_none()
 }
 
 // Whether an attribute gap has nothing to take: neither a string nor absence.

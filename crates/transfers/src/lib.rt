@@ -57,16 +57,16 @@ pub fn string_made(act: Act, y: u8) -> MadeString
 }
 
 // Where the variables of each sort begin in a set of variables, as `40` numbers them.
-const TEMPLATES: u8 = 0;
+const FIRST_TEMPLATE: u8 = 0;
 
-const STRINGS: u8 = 4;
+const FIRST_STRING: u8 = 4;
 
-// Whether variable x of a sort is in such a set.
-fn has_variable(set: u64, sort: u8, x: u8) -> bool
-    requires { sort ≤ 4 }
-    ensures { result ≡ (ltb x 4 && member set (sort + x)) }
+// Whether variable x of the sort whose variables begin there is in such a set.
+fn has_variable(set: u64, first: u8, x: u8) -> bool
+    requires { first ≤ 4 }
+    ensures { result ≡ (ltb x 4 && member set (first + x)) }
 {
-    x < 4 && sets::has(set, sort + x)
+    x < 4 && sets::has(set, first + x)
 }
 
 // Whether a value of template variable x is made from a variable of the set. One that is made from none counts as made from x.
@@ -74,13 +74,13 @@ pub fn made_from(way: Made, x: u8, set: u64) -> bool
     ensures { result ≡ meets (among set) (sources x way) }
 {
     match way {
-        Made::Value(z) => has_variable(set, TEMPLATES, z),
-        Made::Template(_) => has_variable(set, TEMPLATES, x),
+        Made::Value(z) => has_variable(set, FIRST_TEMPLATE, z),
+        Made::Template(_) => has_variable(set, FIRST_TEMPLATE, x),
         Made::Plugged(z, _, y) => {
-            has_variable(set, TEMPLATES, z) || has_variable(set, TEMPLATES, y)
+            has_variable(set, FIRST_TEMPLATE, z) || has_variable(set, FIRST_TEMPLATE, y)
         }
         Made::Filled(z, _, y) => {
-            has_variable(set, TEMPLATES, z) || has_variable(set, STRINGS, y)
+            has_variable(set, FIRST_TEMPLATE, z) || has_variable(set, FIRST_STRING, y)
         }
     }
 }
@@ -90,7 +90,7 @@ pub fn string_made_from(way: MadeString, y: u8, set: u64) -> bool
     ensures { result ≡ meets (among set) (string_sources y way) }
 {
     match way {
-        MadeString::Value(z) => has_variable(set, STRINGS, z),
-        MadeString::One(_) | MadeString::Any => has_variable(set, STRINGS, y),
+        MadeString::Value(z) => has_variable(set, FIRST_STRING, z),
+        MadeString::One(_) | MadeString::Any => has_variable(set, FIRST_STRING, y),
     }
 }

@@ -2,7 +2,7 @@
 #![tactic(auto)]
 
 ghost use Rattle.std.specs.Prelude.{◌≡◌, Some};
-ghost use Rattle.verdicts.specs.Printed.{form_number, cover_numbers, fault_numbers, element_fault, refusal_numbers, unreadable, numbers_of, verdict_of, bytes_written};
+ghost use Rattle.verdicts.specs.Printed.{cover_numbers, fault_numbers, element_fault, refusal_numbers, unreadable, numbers_of, verdict_of, bytes_written};
 ghost use Rattle.verdicts.specs.Inner.Acceptance.{accepts};
 ghost use Rattle.verdicts.specs.Inner.Spelled.{spelled};
 
@@ -116,6 +116,7 @@ pub enum Refusal {
     NoRoom(usize),
 }
 
+// Document 01 names this form: an enum whose refusal case holds an enum of the kinds, with their places.
 #[derive(Clone, Copy)]
 pub enum Verdict {
     Accepted,
@@ -132,7 +133,8 @@ pub fn unreadable(form: Form, at: usize, slice: usize) -> Refusal
 // What a call that writes answers (document 02): how many bytes it has written, or a refusal.
 pub type Writing = Result<usize, Refusal>;
 
-// The verdict of an answer: what is not refused is accepted.
+// The verdict of an answer: what is not refused is accepted. It bears the name of the definition that clauses cite, as `numbers_of` does, and
+// so neither is called as a `From`.
 pub fn verdict_of<T: Drop>(answer: Result<T, Refusal>) -> Verdict
     ensures { result ≡ verdict_of answer }
 {
@@ -174,92 +176,108 @@ impl Display for Numbers {
     }
 }
 
-fn form_number(f: Form) -> usize
-    ensures { result ≡ form_number f }
-{
-    f as usize
-}
+impl From<Cover> for Numbers {
+    ghost from_gives = { λ c n. n ≡ cover_numbers c };
 
-fn cover_numbers(c: Cover) -> Numbers
-    ensures { result ≡ cover_numbers c }
-{
-    match c {
-        Cover::Start(variable) => Numbers {
-            n: 9,
-            a: 0,
-            b: 0,
-            c: variable,
-        },
-        Cover::Step {
-            point,
-            next,
-            variable,
-        } => Numbers {
-            n: 10,
-            a: point,
-            b: next,
-            c: variable,
-        },
+    fn from(c: Cover) -> Numbers {
+        match c {
+            Cover::Start(variable) => Numbers {
+                n: 9,
+                a: 0,
+                b: 0,
+                c: variable,
+            },
+            Cover::Step {
+                point,
+                next,
+                variable,
+            } => Numbers {
+                n: 10,
+                a: point,
+                b: next,
+                c: variable,
+            },
+        }
     }
 }
 
-fn fault_numbers(f: Fault) -> Numbers
-    ensures { result ≡ fault_numbers f }
-{
-    match f {
-        Fault::NotRoot { point, template } => Numbers {
-            n: 11,
-            a: point,
-            b: template,
-            c: 0,
-        },
-        Fault::AttributeNotAllowed {
-            point,
-            template,
-            at,
-        } => Numbers {
-            n: 12,
-            a: point,
-            b: template,
-            c: at,
-        },
-        Fault::ContentNotAllowed {
-            point,
-            template,
-            at,
-        } => Numbers {
-            n: 14,
-            a: point,
-            b: template,
-            c: at,
-        },
-        Fault::ClauseFails { point, clause, at } => Numbers {
-            n: 15,
-            a: point,
-            b: clause,
-            c: at,
-        },
+impl From<Fault> for Numbers {
+    ghost from_gives = { λ f n. n ≡ fault_numbers f };
+
+    fn from(f: Fault) -> Numbers {
+        match f {
+            Fault::NotRoot { point, template } => Numbers {
+                n: 11,
+                a: point,
+                b: template,
+                c: 0,
+            },
+            Fault::AttributeNotAllowed {
+                point,
+                template,
+                at,
+            } => Numbers {
+                n: 12,
+                a: point,
+                b: template,
+                c: at,
+            },
+            Fault::ContentNotAllowed {
+                point,
+                template,
+                at,
+            } => Numbers {
+                n: 14,
+                a: point,
+                b: template,
+                c: at,
+            },
+            Fault::ClauseFails { point, clause, at } => Numbers {
+                n: 15,
+                a: point,
+                b: clause,
+                c: at,
+            },
+        }
     }
 }
 
-fn refusal_numbers(r: Refusal) -> Numbers
-    ensures { result ≡ refusal_numbers r }
-{
-    match r {
-        Refusal::Form(form, place) => Numbers {
-            n: form_number(form),
-            a: place.at,
-            b: place.slice,
-            c: 0,
-        },
-        Refusal::Cover(cover) => cover_numbers(cover),
-        Refusal::Page(fault) => fault_numbers(fault),
-        Refusal::NoRoom(needed) => Numbers {
-            n: 13,
-            a: needed,
-            b: 0,
-            c: 0,
-        },
+impl From<Refusal> for Numbers {
+    ghost from_gives = { λ r n. n ≡ refusal_numbers r };
+
+    fn from(r: Refusal) -> Numbers {
+        match r {
+            Refusal::Form(form, place) => Numbers {
+                n: form as usize,
+                a: place.at,
+                b: place.slice,
+                c: 0,
+            },
+            Refusal::Cover(cover) => cover.into(),
+            Refusal::Page(fault) => fault.into(),
+            Refusal::NoRoom(needed) => Numbers {
+                n: 13,
+                a: needed,
+                b: 0,
+                c: 0,
+            },
+        }
+    }
+}
+
+impl From<Verdict> for Numbers {
+    ghost from_gives = { λ v n. n ≡ numbers_of v };
+
+    fn from(v: Verdict) -> Numbers {
+        match v {
+            Verdict::Accepted => Numbers {
+                n: 0,
+                a: 0,
+                b: 0,
+                c: 0,
+            },
+            Verdict::Refused(refusal) => refusal.into(),
+        }
     }
 }
 
@@ -267,13 +285,5 @@ fn refusal_numbers(r: Refusal) -> Numbers
 pub fn numbers_of(v: Verdict) -> Numbers
     ensures { result ≡ numbers_of v }
 {
-    match v {
-        Verdict::Accepted => Numbers {
-            n: 0,
-            a: 0,
-            b: 0,
-            c: 0,
-        },
-        Verdict::Refused(refusal) => refusal_numbers(refusal),
-    }
+    Numbers::from(v)
 }

@@ -22,7 +22,7 @@ use Rattle.vocabularies.specs.declared.Rule as Tabled
 use Rattle.vocabularies.specs.declared.Tables.{Tables}
 use Rattle.vocabularies.specs.Vocabulary.{Rule, is_in, rule_of, is_some, declared}
 use Rattle.vocabularies.specs.VocabularyReading.{rising, clauses, rule_body}
-use Rattle.vocabularies.specs.Inner.Promises.{NamesRead, ClausesRead, RuleTables, RuleReads, DescribesRules, AddsRule}
+use Rattle.vocabularies.specs.Inner.Promises.{NamesRead, ClausesRead, RuleReads, RuleKept, no_rule, DescribesRules, AddsRule}
 use Rattle.vocabularies.proofs.Parts.{agrees_whole, agrees_refused, agrees_with_whole, agrees_with_refused, and_then_same, last_whole, Finished, last_finishes, and_then_finishes}
 use Rattle.vocabularies.proofs.NameLists.{rising_ends, rising_fuel, rising_finishes}
 use Rattle.vocabularies.proofs.Clauses.{clauses_ends, clauses_fuel, clauses_finishes}
@@ -129,9 +129,8 @@ unfolding rule_of
 no_rules s t z = record { declares = λ e. rw z (member_zero e); names_root = refl; rule = λ e r h. absurd (let y : ◌≡◌ {A = ℕ} 0 1 = cc in omega arith) }
 
 module _ (t : Tables) (e : ℕ) (x : Tabled.Rule) (word : ℕ) (told : (k : ℕ) → member word k ≡ (eqb k e || member t.declared k)) where
-  pub adds_rule : e < length t.attributes → e < length t.contents → e < length t.clauses
-      → AddsRule t e x (record { declared = word; attributes = set t.attributes e x.attributes; contents = set t.contents e x.contents; clauses = set t.clauses e x.clauses.at; root = t.root })
-  adds_rule l₁ l₂ l₃ s rs r d none' q tables = record { declares = λ k. declares' k (eqb k e) refl; names_root = refl; rule = λ k r' h. rule' k (eqb k e) refl r' h }
+  pub adds_rule : e < length t.rules → AddsRule t e x (record { declared = word; rules = set t.rules e x; root = t.root })
+  adds_rule l s rs r d none' q kept = record { declares = λ k. declares' k (eqb k e) refl; names_root = refl; rule = λ k r' h. rule' k (eqb k e) refl r' h }
     where
       other : (k : ℕ) → eqb k e ≡ false → rule_of (rs ++ (r ∷ [])) k ≡ rule_of rs k
       other k b = rule_other rs r k (λ z. eqb-false k e b (sym z ∙ q))
@@ -141,12 +140,11 @@ module _ (t : Tables) (e : ℕ) (x : Tabled.Rule) (word : ℕ) (told : (k : ℕ)
       declares' k false b = rw (told k, b, other k b) (d.declares k)
 
       rule' : (k : ℕ) (b : Bool) → eqb k e ≡ b → (r' : Rule) → rule_of (rs ++ (r ∷ [])) k ≡ some r'
-          → RuleTables s r' (get_or (set t.attributes e x.attributes) k 0) (get_or (set t.contents e x.contents) k 0) (get_or (set t.clauses e x.clauses.at) k 0)
+          → RuleKept s r' (get_or (set t.rules e x) k no_rule)
       rule' k true b r' h =
           let y : k ≡ e = eqb-true k e b in
           let z : r' ≡ r = cc (rule_same rs r e none' q) in
-          rw (z, y, get_or-set_same t.attributes e x.attributes 0 l₁, get_or-set_same t.contents e x.contents 0 l₂, get_or-set_same t.clauses e x.clauses.at 0 l₃) tables
+          rw (z, y, get_or-set_same t.rules e x no_rule l) kept
       rule' k false b r' h =
           let n : k ≡ e → ⊥ = eqb-false k e b in
-          rw (get_or-set_other t.attributes e k x.attributes 0 n, get_or-set_other t.contents e k x.contents 0 n, get_or-set_other t.clauses e k x.clauses.at 0 n)
-          (d.rule k r' (sym (other k b) ∙ h))
+          rw (get_or-set_other t.rules e k x no_rule n) (d.rule k r' (sym (other k b) ∙ h))

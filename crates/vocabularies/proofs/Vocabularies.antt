@@ -24,7 +24,7 @@ use Rattle.vocabularies.specs.declared.Rule as Tabled
 use Rattle.vocabularies.specs.declared.Tables.{Tables}
 use Rattle.vocabularies.specs.Vocabulary.{Rule, Vocabulary, declared}
 use Rattle.vocabularies.specs.VocabularyReading.{rule_body, rules, vocabulary}
-use Rattle.vocabularies.specs.Inner.Promises.{RuleTables, RuleReads, DescribesRules, AddsRule, Describes, VocabularyReads}
+use Rattle.vocabularies.specs.Inner.Promises.{RuleReads, RuleKept, DescribesRules, AddsRule, Describes, VocabularyReads}
 use Rattle.vocabularies.proofs.Parts.{agrees_with_whole, agrees_with_refused, plenty, is_plenty, Finished, and_then_finishes}
 use Rattle.vocabularies.proofs.Rules.{rule_element, rule_fuel, rule_finishes}
 
@@ -169,11 +169,11 @@ module _ (s : List ℕ) (place : Position) (t : Tables) (on : RulesContinue s pl
           agrees (suc f) h = rw (step_missing f s on.given place.at code next (sym c ∙ q) k (is_declared false (not-true known z))) (refl, refl)
 
       pub rules_rooted : code ≡ 0x05 → not known ≡ false
-          → VocabularyReads s (Ok (record { declared = t.declared; attributes = t.attributes; contents = t.contents; clauses = t.clauses; root = e }, next))
+          → VocabularyReads s (Ok (record { declared = t.declared; rules = t.rules; root = e }, next))
       rules_rooted k z = on.continues (Ok (rooted, next)) λ f h. agrees f h
         where
           rooted : Tables
-          rooted = record { declared = t.declared; attributes = t.attributes; contents = t.contents; clauses = t.clauses; root = e }
+          rooted = record { declared = t.declared; rules = t.rules; root = e }
 
           agrees : (f : ℕ) → Enough s place.at f → AgreesWith (Describes s) (rules f s on.given place.at) (Ok (rooted, next))
           agrees zero h = absurd (omega arith)
@@ -194,9 +194,6 @@ module _ (s : List ℕ) (place : Position) (t : Tables) (on : RulesContinue s pl
         stepped : (f : ℕ) → rules (suc f) s on.given place.at ≡ and_then (rule_body f s e next.at) (λ r end. rules f s (on.given ++ (r ∷ [])) end)
         stepped f = rw (step_rule f s on.given place.at code next (sym c ∙ q) k (is_declared false z), named)
 
-        abbrev Described : Rule → Tabled.Rule → Type 0
-        Described r w = RuleTables s r w.attributes w.contents w.clauses.at
-
         pub rules_broken : (i : ReadError) → RuleReads s next.at (Err i) → VocabularyReads s (Err i)
         rules_broken i read = on.continues (Err i) λ f h. agrees f h
           where
@@ -204,12 +201,12 @@ module _ (s : List ℕ) (place : Position) (t : Tables) (on : RulesContinue s pl
             agrees zero h = absurd (omega arith)
             agrees (suc f) h =
                 let l : Enough s next.at f = omega (arith, m) in
-                rw (stepped f, agrees_with_refused Described (rule_body f s e next.at) i (read e f l)) (refl, refl)
+                rw (stepped f, agrees_with_refused (RuleKept s) (rule_body f s e next.at) i (read e f l)) (refl, refl)
 
         module _ (w : Tabled.Rule) (end : Position) (read : RuleReads s next.at (Ok (w, end))) where
           -- The rule, at a fuel that is enough.
-          the_rule : (r : Rule) × (rule_body (plenty s next.at) s e next.at ≡ whole r end.at) × RuleTables s r w.attributes w.contents w.clauses.at
-          the_rule = agrees_with_whole Described (rule_body (plenty s next.at) s e next.at) w end (read e (plenty s next.at) (is_plenty s next.at))
+          the_rule : (r : Rule) × (rule_body (plenty s next.at) s e next.at ≡ whole r end.at) × RuleKept s r w
+          the_rule = agrees_with_whole (RuleKept s) (rule_body (plenty s next.at) s e next.at) w end (read e (plenty s next.at) (is_plenty s next.at))
 
           pub rules_more : (t' : Tables) → AddsRule t e w t' → RulesContinue s end.at t'
           rules_more t' adds =

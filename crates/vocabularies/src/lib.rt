@@ -10,14 +10,11 @@ use commands::{Context, Decoded, Position, ReadError, byte_at, is_allowed};
 use strings::StringSet;
 use verdicts::Form;
 
-// What reading a vocabulary keeps: for each element that has a rule, the allowed attributes and contents as sets, and the offset
-// where its clauses stand. Each array is lent alone: who asks for plainly wrong elements needs no clauses, who walks clauses nothing else.
+// What reading a vocabulary keeps: which elements have a rule, the rule of each at its number, and the root.
 #[derive(Clone, Copy)]
 pub struct Tables {
     pub declared: u64,
-    pub attributes: [u64; 64],
-    pub contents: [u64; 64],
-    pub clauses: [usize; 64],
+    pub rules: [Rule; 64],
     pub root: u8,
 }
 
@@ -53,7 +50,7 @@ pub struct Facts {
     pub count: usize,
 }
 
-// A rule as tables: the allowed names as sets, and where its clauses stand.
+// A rule: the allowed attributes and contents as sets, and where its clauses stand.
 #[derive(Clone, Copy)]
 pub struct Rule {
     pub attributes: u64,
@@ -287,11 +284,14 @@ fn no_tables() -> Tables
     ensures long { Long result }
     ensures empty { (s : List ℕ) → DescribesRules s [] result }
 {
+    let nothing = Rule {
+        attributes: 0,
+        contents: 0,
+        clauses: Position::new(0),
+    };
     Tables {
         declared: 0,
-        attributes: [0u64; 64],
-        contents: [0u64; 64],
-        clauses: [0usize; 64],
+        rules: [nothing; 64],
         root: 0,
     }
 }
@@ -326,11 +326,8 @@ pub fn read_vocabulary(s: &[u8]) -> Result<(Tables, Position), ReadError>
             });
         }
         let (rule, end) = read_rule(s, next)?;
-        let i = e as usize;
         tables.declared = sets::with(tables.declared, e);
-        tables.attributes[i] = rule.attributes;
-        tables.contents[i] = rule.contents;
-        tables.clauses[i] = rule.clauses.at;
+        tables.rules[e as usize] = rule;
         place = end;
     }
 }

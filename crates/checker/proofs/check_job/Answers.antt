@@ -1,7 +1,7 @@
 -- A refusal of the reading, or what is found for the job that was read.
 use mathlib.Core.Path.{◌≡◌}
 use Rattle.std.proofs.Common.{Err, rules}
-use Rattle.jobs.proofs.Alone.{TellsAs, told_err, told_ok, unreadable_at}
+use Rattle.jobs.proofs.Told.{TellsAs, told_err, told_ok, unreadable_at}
 use Rattle.checker.proofs.Reading.{refused, read_whole}
 use Rattle.checker.proofs.check_job.Goals as goal
 
@@ -16,4 +16,4 @@ pub returns : goal.returns
 returns c =
     let tells : TellsAs (unreadable_at 0) c.read_job.result c.map_err.result = search rules in
     let is = told_ok (unreadable_at 0) c.read_job.result c.map_err.result tells _ c.in_ok-read.was in
-    read_whole _ _ c.read_job.result c.read_job.ensures _ is _ c.check_read.ensures
+    read_whole _ _ c.read_job.result c.read_job.ensures _ _ is _ c.check_read.ensures

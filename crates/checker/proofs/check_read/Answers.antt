@@ -2,7 +2,7 @@
 use mathlib.Core.Path.{◌≡◌}
 use Rattle.std.proofs.Common.{Err, rules}
 use Rattle.verdicts.specs.declared.Refusal.TheVariants as Refusals
-use Rattle.jobs.proofs.Alone.{TellsAs, told_err, told_ok}
+use Rattle.jobs.proofs.Told.{TellsAs, told_err, told_ok}
 use Rattle.jobs.proofs.Tables.{gaps_table}
 use Rattle.covering.proofs.Laws.{tables_of}
 use Rattle.checker.proofs.Reading.{uncovered, covered, read_at}

@@ -2,7 +2,7 @@ use mathlib.Core.Path.{◌≡◌, subst}
 use native.Mathlib.Omega.{arith}
 use Rattle.std.proofs.Common.{Err, rules}
 use Rattle.summaries.specs.Summaries.{entries}
-use Rattle.jobs.proofs.Alone.{TellsAs, told_err, told_ok}
+use Rattle.jobs.proofs.Told.{TellsAs, told_err, told_ok}
 use Rattle.shows.specs.Inner.Promises.{ShowFound}
 use Rattle.checker.specs.Inner.Promises.{fault_at}
 use Rattle.checker.proofs.Points.{point_stands, shows_nothing, right_at, right_again, shows_graph, right_graph, shows_go, shows_fail, shows_end}

@@ -6,10 +6,10 @@ use Rattle.elements.proofs.search_rule.Goals as goal
 
 pub returns-then-chosen-eq0 : goal.returns-then-chosen-eq0
 returns-then-chosen-eq0 c = let args = c.args in
-    rule_nowhere args.s.now args.e args.graph.now args.templates.now.starts args.templates.now.count args.chosen args.from 0 c.if-chosen-eq0.true
+    rule_nowhere args.s.now args.e args.graph.now args.templates.now.starts args.templates.now.count args.chosen args.from.at 0 c.if-chosen-eq0.true
 
 pub loop-formula-init : goal.loop-formula-init
-loop-formula-init c = (rw c.new-here.ensures (record { few = omega arith; goes = λ r S. S }), tt)
+loop-formula-init c = (record { few = omega arith; goes = λ r S. S }, tt)
 
 pub returns-in_default : goal.returns-in_default
 returns-in_default c = let args = c.args in
@@ -44,7 +44,7 @@ loop-formula-preserved c = let args = c.args in
     let over = past_over args.s.now c.loop-formula.here.at 0x04 c.past.result _ c.past.ensures c.in-Some.is in
     let ended = c.in-Ok.is in
     let moves = formula_moved _ _ _ _ c.in-Ok.ensures in (
-      ruling_more args.s.now args.e args.graph.now args.templates.now.starts args.templates.now.count args.chosen args.from c.loop-formula.here.at c.loop-formula.place _ c.loop-formula.lowest
+      ruling_more args.s.now args.e args.graph.now args.templates.now.starts args.templates.now.count args.chosen args.from.at c.loop-formula.here.at c.loop-formula.place _ c.loop-formula.lowest
           c.search_clause-found.result c.lower-lowest.result c.lower-lowest.ensures (omega (arith, over.2, moves.0)) c.loop-formula.invariant.0
           (λ r later. rule_goes args.s.now args.e args.graph.now args.templates.now.starts args.templates.now.count args.chosen c.loop-formula.here.at c.loop-formula.place c.in-Some.formula over.2
           c.read_formula.result c.read_formula.ensures _ ended c.facts_of-facts.result c.facts_of-facts.ensures c.facts_scheme-scheme.result c.facts_scheme-scheme.ensures over.1 c.search_clause-found.result c.search_clause-found.ensures r later),

@@ -5,7 +5,9 @@ use Rattle.std.proofs.Math.Option.{some}
 use Rattle.sets.specs.Sets.{member}
 use Rattle.commands.specs.Reading.{whole}
 use Rattle.commands.specs.Inner.Parts.{Enough}
+use Rattle.vocabularies.specs.declared.Rule as Tabled
 use Rattle.vocabularies.specs.Vocabulary.{Formula, Rule, Vocabulary, rule_of}
+use Rattle.vocabularies.specs.Inner.Promises.{no_rule}
 use Rattle.vocabularies.specs.Vocabulary as Vocabularies
 use Rattle.vocabularies.specs.VocabularyReading as Grammar
 use Rattle.pages.specs.Items.{Items}
@@ -55,17 +57,17 @@ SearchesRule s e from k words starts count chosen r = (φs : List Items) (G : Su
     → LowestWrong (Passing φs chosen (λ n e' mark δ φ. told_if (eqb e' e) (first_clause φs G X k ψs n δ φ))) r
 
 -- Which elements have a rule, and where the clauses of each stand.
-pub record RulesStand (s : List ℕ) (D : Vocabulary) (declared : ℕ) (clauses : List ℕ) : Type 0 where
+pub record RulesStand (s : List ℕ) (D : Vocabulary) (declared : ℕ) (rules : List Tabled.Rule) : Type 0 where
   pub declares : (e : ℕ) → member declared e ≡ Vocabularies.declared D.rules e
-  pub stands : (e : ℕ) (r : Rule) → rule_of D.rules e ≡ some r → (f : ℕ) → Enough s (get_or clauses e 0) f
-      → (end : ℕ) × (Grammar.clauses f s (get_or clauses e 0) ≡ whole r.clauses end)
+  pub stands : (e : ℕ) (r : Rule) → rule_of D.rules e ≡ some r → (f : ℕ) → Enough s (get_or rules e no_rule).clauses.at f
+      → (end : ℕ) × (Grammar.clauses f s (get_or rules e no_rule).clauses.at ≡ whole r.clauses end)
 
 -- The sets of each clause are exact.
 abbrev pub ExactClauses : List Items → Summary → Vocabulary → (Formula → Sets) → Type 0
 ExactClauses φs G D X = (e : ℕ) (r : Rule) (ψ : Formula) → rule_of D.rules e ≡ some r → ψ ∈ r.clauses → Exact φs G (patterns_by ψ) (X ψ)
 
 -- All clauses of all rules.
-abbrev pub SearchesRules : List ℕ → ℕ → List ℕ → List ℕ → List ℕ → List ℕ → ℕ → ℕ → MaybeWrong → Type 0
-SearchesRules s declared clauses standing words starts count reached r = (φs : List Items) (G : Summary) (D : Vocabulary) (X : Formula → Sets)
-    → Standing s φs G words starts count → RulesStand s D declared clauses → Occurrences φs standing → ExactClauses φs G D X
+abbrev pub SearchesRules : List ℕ → ℕ → List Tabled.Rule → List ℕ → List ℕ → List ℕ → ℕ → ℕ → MaybeWrong → Type 0
+SearchesRules s declared rules standing words starts count reached r = (φs : List Items) (G : Summary) (D : Vocabulary) (X : Formula → Sets)
+    → Standing s φs G words starts count → RulesStand s D declared rules → Occurrences φs standing → ExactClauses φs G D X
     → LowestWrong (Passing φs reached (λ n e mark δ φ. wrong_by_clause φs G X D n e δ φ)) r

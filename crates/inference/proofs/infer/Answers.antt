@@ -13,23 +13,23 @@ returns-in_err-read c =
 
 pub returns-then-work-lt-WORK_WORDS : goal.returns-then-work-lt-WORK_WORDS
 returns-then-work-lt-WORK_WORDS c =
-    let reads : SliceReads c.args.job.now (Ok c.in_ok-read.read) = told_read _ _ c.read_script_slice.result c.map_err.result c.map_err.ensures.cases _ c.in_ok-read.was c.read_script_slice.ensures in
-    let a = short_answers c.args.job.now c.args.work.now c.args.buffer.now c.args.place _ reads (search rules) in
+    let reads : SliceReads c.args.job.now (Ok (c.in_ok-read.read, _)) = told_read _ _ c.read_script_slice.result c.map_err.result c.map_err.ensures.cases _ c.in_ok-read.was c.read_script_slice.ensures in
+    let a = short_answers c.args.job.now c.args.work.now c.args.buffer.now c.args.place _ _ reads (search rules) in
     record { answer = a.0; untouched = refl; accepted_if_any = a.1 }
 
 pub work_out-requires : goal.work_out-requires
 work_out-requires c =
-    let reads : SliceReads c.args.job.now (Ok c.in_ok-read.read) = told_read _ _ c.read_script_slice.result c.map_err.result c.map_err.ensures.cases _ c.in_ok-read.was c.read_script_slice.ensures in
-    (search rules, (tables_are c.args.job.now c.args.work.now c.args.buffer.now c.args.place _ reads).few_points)
+    let reads : SliceReads c.args.job.now (Ok (c.in_ok-read.read, _)) = told_read _ _ c.read_script_slice.result c.map_err.result c.map_err.ensures.cases _ c.in_ok-read.was c.read_script_slice.ensures in
+    (search rules, (tables_are c.args.job.now c.args.work.now c.args.buffer.now c.args.place _ _ reads).few_points)
 
 pub write_out-answer-requires : goal.write_out-answer-requires
 write_out-answer-requires c =
-    let reads : SliceReads c.args.job.now (Ok c.in_ok-read.read) = told_read _ _ c.read_script_slice.result c.map_err.result c.map_err.ensures.cases _ c.in_ok-read.was c.read_script_slice.ensures in
-    let T = tables_are c.args.job.now c.args.work.now c.args.buffer.now c.args.place _ reads in
+    let reads : SliceReads c.args.job.now (Ok (c.in_ok-read.read, _)) = told_read _ _ c.read_script_slice.result c.map_err.result c.map_err.ensures.cases _ c.in_ok-read.was c.read_script_slice.ensures in
+    let T = tables_are c.args.job.now c.args.work.now c.args.buffer.now c.args.place _ _ reads in
     (search rules, T.few_templates, T.few_points)
 
 pub returns : goal.returns
 returns c =
-    let reads : SliceReads c.args.job.now (Ok c.in_ok-read.read) = told_read _ _ c.read_script_slice.result c.map_err.result c.map_err.ensures.cases _ c.in_ok-read.was c.read_script_slice.ensures in
-    let a = written_answers c.args.job.now c.args.work.now c.args.buffer.now c.args.place _ reads (are_bytes_lem _ (λ i. (c.type_inv.job i).fits)) (search rules) _ c.work_out.ensures _ _ c.clear.new.words c.write_out-answer.ensures c.clear.ensures (search rules) in
+    let reads : SliceReads c.args.job.now (Ok (c.in_ok-read.read, _)) = told_read _ _ c.read_script_slice.result c.map_err.result c.map_err.ensures.cases _ c.in_ok-read.was c.read_script_slice.ensures in
+    let a = written_answers c.args.job.now c.args.work.now c.args.buffer.now c.args.place _ _ reads (are_bytes_lem _ (λ i. (c.type_inv.job i).fits)) (search rules) _ c.work_out.ensures _ _ c.clear.new.words c.write_out-answer.ensures c.clear.ensures (search rules) in
     record { answer = a.0; untouched = refl; accepted_if_any = a.1 }

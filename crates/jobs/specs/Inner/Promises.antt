@@ -3,7 +3,7 @@ use Rattle.std.specs.Prelude.{ℕ, ◌≤◌, ◌<◌, ◌≡◌, List, length, 
 use Rattle.verdicts.specs.declared.Form.TheVariants.{TooLong, NotAllowed}
 use Rattle.commands.specs.declared.Position.{Position}
 use Rattle.commands.specs.declared.ReadError.{ReadError}
-use Rattle.commands.specs.Reading.{Read, whole, refused, unfinished, when}
+use Rattle.commands.specs.Reading.{Read, refused, when}
 use Rattle.commands.specs.Inner.Parts.{AgreesWith}
 use Rattle.vocabularies.specs.Vocabulary.{declared}
 use Rattle.vocabularies.specs.VocabularyReading.{most_bytes}
@@ -39,20 +39,12 @@ abbrev pub EndedAt : List ℕ → ℕ → Result (Unit {0}) ReadError → Type 0
 EndedAt s at (Ok u) = length s ≤ at
 EndedAt s at (Err e) = (at < length s) × (e ≡ record { form = NotAllowed; at = at })
 
--- Code that reads bytes to their end agrees with the definition that reads them: the same refusal, or P says what is kept of the tree.
-abbrev pub AgreesAlone : {A B : Type 0} → (A → B → Type 0) → Read A → Result B ReadError → Type 0
-AgreesAlone P (whole a end) (Ok b) = P a b
-AgreesAlone P (whole a end) (Err e) = ⊥
-AgreesAlone P (refused f at) (Ok b) = ⊥
-AgreesAlone P (refused f at) (Err e) = (f ≡ e.form) × (at ≡ e.at)
-AgreesAlone P unfinished r = ⊥
-
 -- The script that bytes begin with, a script that is a slice of its own, and a job.
 abbrev pub ScriptReads : List ℕ → Result (ScriptRead × Position) ReadError → Type 0
 ScriptReads s r = AgreesWith (ScriptKept s) (short s (script s)) r
 
-abbrev pub SliceReads : List ℕ → Result ScriptRead ReadError → Type 0
-SliceReads s r = AgreesAlone (ScriptKept s) (script_slice s) r
+abbrev pub SliceReads : List ℕ → Result (ScriptRead × Position) ReadError → Type 0
+SliceReads s r = AgreesWith (ScriptKept s) (script_slice s) r
 
-abbrev pub JobReads : List ℕ → List ℕ → Result ScriptRead ReadError → Type 0
-JobReads s heads r = AgreesAlone (JobKept s heads) (job s) r
+abbrev pub JobReads : List ℕ → List ℕ → Result (ScriptRead × Position) ReadError → Type 0
+JobReads s heads r = AgreesWith (JobKept s heads) (job s) r

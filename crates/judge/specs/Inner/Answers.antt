@@ -9,6 +9,7 @@ use Rattle.sets.specs.Sets.{member}
 use Rattle.commands.specs.declared.Position.{Position}
 use Rattle.commands.specs.declared.ReadError.{ReadError}
 use Rattle.commands.specs.Reading.{whole, enough}
+use Rattle.commands.specs.Inner.Parts.{Agrees, AgreesWith}
 use Rattle.vocabularies.specs.declared.Tables.{Tables}
 use Rattle.vocabularies.specs.Vocabulary.{Vocabulary}
 use Rattle.vocabularies.specs.Vocabulary as Vocabularies
@@ -18,7 +19,6 @@ use Rattle.pages.specs.declared.Kind.TheVariants.{Page}
 use Rattle.pages.specs.Items.{blank, Items, more, without_blank}
 use Rattle.pages.specs.ItemReading.{items}
 use Rattle.judging.specs.Inner.Judgement.{first_wrong, is_alone, wrong_verdict}
-use Rattle.jobs.specs.Inner.Promises.{AgreesAlone}
 
 abbrev pub not_root : Refusal
 not_root = Refusals.Page (NotRoot 0 0)
@@ -42,8 +42,8 @@ JudgesRead v p t r = (D : Vocabulary) → Describes v D t → (φ : Items) (end 
     → r ≡ cond (is_alone D.root φ) (wrong_verdict (first_wrong D φ)) (Refused not_root)
 
 -- A vocabulary, and a page of these elements, that are slices of their own.
-abbrev pub VocabularyReads : List ℕ → Result Tables ReadError → Type 0
-VocabularyReads v r = AgreesAlone (Describes v) (alone v (vocabulary v)) r
+abbrev pub VocabularyReads : List ℕ → Result (Tables × Position) ReadError → Type 0
+VocabularyReads v r = AgreesWith (Describes v) (alone v (vocabulary v)) r
 
-abbrev pub PageReads : ℕ → List ℕ → Result (Unit {0}) ReadError → Type 0
-PageReads declared p r = AgreesAlone (λ (φ : Items) u. Unit {0}) (alone p (items (enough p) Page (member declared) p 0 0)) r
+abbrev pub PageReads : ℕ → List ℕ → Result Position ReadError → Type 0
+PageReads declared p r = Agrees (alone p (items (enough p) Page (member declared) p 0 0)) r

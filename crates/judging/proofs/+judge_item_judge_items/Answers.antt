@@ -20,8 +20,8 @@ pub judge_item-judge_items-list-requires : goal.judge_item-judge_items-list-requ
 judge_item-judge_items-list-requires t c = let m = (element_moves _ _ _ c.item_here-item.ensures.moves _ _ c.in-Element.is).0 in
     (omega (arith, m.inside, m.forward, c.read_attributes-named.ensures.forward), (search rules, c.requires))
 
-pub judge_item-rule_of-rule-requires : goal.judge_item-rule_of-rule-requires
-judge_item-rule_of-rule-requires t c = let m = element_moves _ _ _ c.item_here-item.ensures.moves _ _ c.in-Element.is in omega (arith, m.1)
+pub judge_item-bounds-rules-e : goal.judge_item-bounds-rules-e
+judge_item-bounds-rules-e t c = let m = element_moves _ _ _ c.item_here-item.ensures.moves _ _ c.in-Element.is in omega (arith, m.1)
 
 pub judge_item-returns : goal.judge_item-returns
 judge_item-returns t c = let s = c.args in record {
@@ -32,8 +32,8 @@ judge_item-returns t c = let s = c.args in record {
         | judge_item-in-Some w ↦ rw (w.wrong-is, w.in-Some.is) refl
         | judge_item-in-None w ↦ rw (w.wrong-is, w.in-None.is) refl
       ] in
-      rw is_wrong (element_judged D _ _ c.item_here-item.result c.item_here-item.ensures.is _ s.attributes.now s.contents.now s.clauses.now T _ _ c.in-Element.is c.read_attributes-named.result _ c.read_attributes-named.ensures.named c.judge_items-list.result _
-      (c.judge_items-list.ensures.judged D T) c.outcome_of-outcome.result (rw c.rule_of-rule.ensures at c.outcome_of-outcome.ensures.outcome));
+      rw is_wrong (element_judged D _ _ c.item_here-item.result c.item_here-item.ensures.is _ s.rules.now T _ _ c.in-Element.is c.read_attributes-named.result _ c.read_attributes-named.ensures.named c.judge_items-list.result _
+      (c.judge_items-list.ensures.judged D T) c.outcome_of-outcome.result c.outcome_of-outcome.ensures.outcome);
 }
 
 pub judge_items-loop-next-init : goal.judge_items-loop-next-init
@@ -96,7 +96,7 @@ judge_items-loop-next-smaller t c = let m = blank_moves _ _ _ c.item_here-item.e
 
 pub judge_items-loop-next-preserved : goal.judge_items-loop-next-preserved
 judge_items-loop-next-preserved t c = let q = c.in-Blank.is in
-    going_blank _ _ _ _ _ _ _ _ _ _ _ c.loop-next.invariant c.item_here-item.result c.item_here-item.ensures.is _ q (blank_moves _ _ _ c.item_here-item.ensures.moves _ q).forward
+    going_blank _ _ _ _ _ _ _ _ _ c.loop-next.invariant c.item_here-item.result c.item_here-item.ensures.is _ q (blank_moves _ _ _ c.item_here-item.ensures.moves _ q).forward
 
 pub judge_items-returns-in-End : goal.judge_items-returns-in-End
 judge_items-returns-in-End t c = let m = end_moves _ _ _ c.item_here-item.ensures.moves _ c.in-End.is in record {

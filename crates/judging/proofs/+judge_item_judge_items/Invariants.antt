@@ -6,7 +6,7 @@ use Rattle.judging.proofs.ItemLaws.{Going}
 use Rattle.judging.proofs.+judge_item_judge_items.Given as goal
 
 abbrev pub invariant-judge_items-loop-next : goal.invariant-judge_items-loop-next
-invariant-judge_items-loop-next l = Going l.v l.attributes l.contents l.clauses l.p l.initial.place.at l.order l.shapes l.place.at l.inside l.wrong
+invariant-judge_items-loop-next l = Going l.v l.rules l.p l.initial.place.at l.order l.shapes l.place.at l.inside l.wrong
 
 abbrev pub decreases-judge_items-loop-next : goal.decreases-judge_items-loop-next
 decreases-judge_items-loop-next l = length l.p - l.place.at

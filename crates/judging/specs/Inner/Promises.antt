@@ -12,7 +12,7 @@ use Rattle.commands.specs.Reading.{whole}
 use Rattle.vocabularies.specs.Vocabulary.{Formula, Vocabulary, rule_of, declared, is_in}
 use Rattle.vocabularies.specs.Vocabulary as Vocabularies
 use Rattle.vocabularies.specs.VocabularyReading.{clauses}
-use Rattle.vocabularies.specs.Inner.Promises.{Walks, RuleTables}
+use Rattle.vocabularies.specs.Inner.Promises.{Walks, RuleKept, no_rule}
 use Rattle.pages.specs.declared.Kind.TheVariants.{Page}
 use Rattle.pages.specs.declared.ItemHere.{ItemHere}
 use Rattle.pages.specs.declared.ItemHere.TheVariants as Here
@@ -122,16 +122,11 @@ Names p at r strings = (f end : ℕ) (δ : List Attribute) → attributes f Page
 -- What an element breaks of a rule.
 abbrev pub TellsOutcome : List ℕ → Rule → Shape → List ℕ → List Standing → Values.Option Breach → Type 0
 TellsOutcome v rule shape strings order r = (R : Vocabularies.Rule) (δ : List Attribute) (w : List ℕ) (count : ℕ)
-    → RuleTables v R rule.attributes rule.contents rule.clauses.at → Naming δ shape.names strings
-    → Containing w shape.contents order count → broken_by r ≡ breach_under R δ w
+    → RuleKept v R rule → Naming δ shape.names strings → Containing w shape.contents order count → broken_by r ≡ breach_under R δ w
 
 -- The rules of a vocabulary, each at its element's number.
-abbrev pub rule_at : List ℕ → List ℕ → List ℕ → ℕ → Rule
-rule_at allowed held from e = record { attributes = get_or allowed e 0; contents = get_or held e 0; clauses = record { at = get_or from e 0 } }
-
-abbrev pub Tabled : List ℕ → Vocabulary → List ℕ → List ℕ → List ℕ → Type 0
-Tabled v D allowed held from = (e : ℕ) (R : Vocabularies.Rule) → rule_of D.rules e ≡ some R
-    → RuleTables v R (get_or allowed e 0) (get_or held e 0) (get_or from e 0)
+abbrev pub Tabled : List ℕ → Vocabulary → List Rule → Type 0
+Tabled v D rules = (e : ℕ) (R : Vocabularies.Rule) → rule_of D.rules e ≡ some R → RuleKept v R (get_or rules e no_rule)
 
 -- The position after a step.
 abbrev pub step_next : ItemHere → Position

@@ -2,11 +2,8 @@ use mathlib.Core.Path.{refl, sym, ap, ◌∙◌}
 use native.Mathlib.Omega.{arith}
 use mathlib.Core.Bool.{Bool, ◌&&◌, and-true, and-false}
 use Rattle.pages.proofs.Steps.{fixed_moves, open_moves}
-use Rattle.languages.proofs.Lists.{taking_begins, taking_fixed, taking_open, taking_done}
+use Rattle.languages.proofs.Lists.{taking_fixed, taking_open, taking_done}
 use Rattle.languages.proofs.attributes_take.Goals as goal
-
-pub loop-next-init : goal.loop-next-init
-loop-next-init c = taking_begins _ _ _ _
 
 pub loop-next-smaller-in-Fixed : goal.loop-next-smaller-in-Fixed
 loop-next-smaller-in-Fixed c = let m = (fixed_moves _ _ _ c.attribute_here.ensures.moves _ _ _ c.in-Fixed.is).0 in

@@ -2,8 +2,8 @@
 use Rattle.languages.proofs.Settling.{SettlingTo, left}
 use Rattle.languages.proofs.settle.Given as goal
 
-abbrev pub invariant-loop-r : goal.invariant-loop-r
-invariant-loop-r l = SettlingTo l.r l.s l.graph l.templates.starts l.templates.count l.sets l.changed l.made
+abbrev pub invariant-loop-settler : goal.invariant-loop-settler
+invariant-loop-settler l = SettlingTo l.fn.r l.s l.graph l.templates.starts l.templates.count l.sets l.changed l.made
 
-abbrev pub decreases-loop-r : goal.decreases-loop-r
-decreases-loop-r l = left l.templates.count l.sets
+abbrev pub decreases-loop-settler : goal.decreases-loop-settler
+decreases-loop-settler l = left l.templates.count l.sets

@@ -12,16 +12,6 @@ use Rattle.proposals.proofs.proposal_length.Goals as goal
 pub loop-i-init : goal.loop-i-init
 loop-i-init c = (omega arith, λ templates work counted. counting_starts (headed_at templates work))
 
-pub bounds-lengths-i : goal.bounds-lengths-i
-bounds-lengths-i c = omega (arith, c.requires.0)
-
-pub with_head-total-requires : goal.with_head-total-requires
-with_head-total-requires c = c.requires.1 _ (search rules)
-
-pub overflow_add-total : goal.overflow_add-total
-overflow_add-total c = let pre = c.requires in
-    omega (arith, c.loop-i.invariant.0, c.with_head-total.ensures.0, pre.0, pre.1 c.loop-i.i (search rules))
-
 pub loop-i-preserved : goal.loop-i-preserved
 loop-i-preserved c = let pre = c.requires in
     let r = c.with_head-total.ensures in (
@@ -29,9 +19,6 @@ loop-i-preserved c = let pre = c.requires in
       λ templates work counted.
           counting_goes (headed_at templates work) c.loop-i.i _ _ (c.loop-i.invariant.1 templates work counted) (r.1 (c.loop-i.i / 8) (c.loop-i.i % 8) (items_at templates work c.loop-i.i) (counted c.loop-i.i (search rules))),
     )
-
-pub overflow_add-result : goal.overflow_add-result
-overflow_add-result c = omega (arith, c.loop-i.invariant.0, c.requires.0)
 
 pub returns : goal.returns
 unfolding entries_bytes

@@ -12,7 +12,7 @@ use Rattle.proposals.proofs.put_proposal.Goals as goal
 pub put_entries-n-requires : goal.put_entries-n-requires
 put_entries-n-requires c = let args = c.args in
     let pre = c.requires in
-    (omega (arith, pre.0, ap length (proposal_written args.templates args.points args.work.now), length-append (entries_bytes args.templates args.work.now (args.points * 8)) (0x4F ∷ [])), pre.1, pre.2, pre.3, pre.4)
+    (omega (arith, pre.0, ap length (proposal_written args.templates args.points args.work.now), length-append (entries_bytes args.templates args.work.now (args.points * 8)) (0x4F ∷ [])), pre.4)
 
 pub put-requires : goal.put-requires
 put-requires c = let args = c.args in

@@ -3,4 +3,4 @@ use Rattle.reach.proofs.Templates.{Looked}
 use Rattle.reach.proofs.plainly_wrong.Given as goal
 
 abbrev pub invariant-loop-n : goal.invariant-loop-n
-invariant-loop-n l = Looked l.s l.attributes l.contents l.templates.starts l.templates.count l.graph l.within l.reached l.n l.lowest
+invariant-loop-n l = Looked l.s l.rules l.templates.starts l.templates.count l.graph l.within l.reached l.n l.lowest

@@ -4,7 +4,9 @@ use Rattle.std.specs.Prelude.{ℕ, ◌≤◌, ◌<◌, ◌≡◌, List, [], Bool
 use Rattle.std.proofs.Math.Option.{some}
 use Rattle.sets.specs.Sets.{member}
 use Rattle.commands.specs.Reading.{whole}
+use Rattle.vocabularies.specs.declared.Rule as Tabled
 use Rattle.vocabularies.specs.Vocabulary.{Rule, Vocabulary, rule_of, declared, is_in}
+use Rattle.vocabularies.specs.Inner.Promises.{no_rule}
 use Rattle.pages.specs.declared.Kind.TheVariants.{Template}
 use Rattle.pages.specs.declared.AttributeHere.TheVariants.{Done}
 use Rattle.pages.specs.Items.{Attribute, Items}
@@ -27,9 +29,9 @@ use Rattle.reach.specs.Inner.PlainlyWrong.{plainly_wrong}
 use Rattle.reach.specs.Inner.Promises.{GraphKept}
 
 -- The allowed attributes and contents of each element that has a rule, as sets.
-pub record RulesKept (D : Vocabulary) (allowed held : List ℕ) : Type 0 where
-  pub allows : (e : ℕ) (r : Rule) → rule_of D.rules e ≡ some r → (a : ℕ) → member (get_or allowed e 0) a ≡ is_in a r.attributes
-  pub holds : (e : ℕ) (r : Rule) → rule_of D.rules e ≡ some r → (c : ℕ) → member (get_or held e 0) c ≡ is_in c r.contents
+pub record RulesKept (D : Vocabulary) (rules : List Tabled.Rule) : Type 0 where
+  pub allows : (e : ℕ) (r : Rule) → rule_of D.rules e ≡ some r → (a : ℕ) → member (get_or rules e no_rule).attributes a ≡ is_in a r.attributes
+  pub holds : (e : ℕ) (r : Rule) → rule_of D.rules e ≡ some r → (c : ℕ) → member (get_or rules e no_rule).contents c ≡ is_in c r.contents
 
 -- The names of the attributes at an offset, of an element of template n, that can be carried; and their end.
 abbrev pub TellsCarriable : List ℕ → ℕ → List ℕ → ℕ → Carriable → Type 0
@@ -59,31 +61,31 @@ TellsOutside n at named allowed inside held r = (φs : List Items) (G : Summary)
     → Compared φs G C n R δ φ named allowed inside held → r ≡ wrong_at n at (plain_breach φs G C R n δ φ)
 
 -- The lowest element of some items of template n that is plainly wrong, where elements that have a rule are read alone.
-abbrev pub FindsWrong : (ℕ → Bool) → List ℕ → List ℕ → List ℕ → List ℕ → ℕ → Items → MaybeWrong → Type 0
-FindsWrong ruled allowed held graph brings n φ wrong = (φs : List Items) (G : Summary) (C : Sets) (D : Vocabulary) → RulesKept D allowed held
+abbrev pub FindsWrong : (ℕ → Bool) → List Tabled.Rule → List ℕ → List ℕ → ℕ → Items → MaybeWrong → Type 0
+FindsWrong ruled rules graph brings n φ wrong = (φs : List Items) (G : Summary) (C : Sets) (D : Vocabulary) → RulesKept D rules
     → GraphTold φs G C n graph brings → ((e : ℕ) → ruled e ≡ true → declared D.rules e ≡ true)
     → wrong ≡ lowest_in n (λ e mark δ χ. plainly_wrong φs G C D n e δ χ) φ
 
 -- What is told of an element with these attributes and contents, and of a list of items.
-pub record ElementWalked (ruled : ℕ → Bool) (allowed held graph brings : List ℕ) (n : ℕ) (δ : List Attribute) (φ : Items) (end : ℕ) (r : WalkedElement) : Type 0 where
+pub record ElementWalked (ruled : ℕ → Bool) (rules : List Tabled.Rule) (graph brings : List ℕ) (n : ℕ) (δ : List Attribute) (φ : Items) (end : ℕ) (r : WalkedElement) : Type 0 where
   pub ends : r.next.at ≡ end
   pub carries : (G : Summary) → Keeps graph G → (a : ℕ) → member r.names a ≡ is_in a (carriable_names G n δ)
   pub contains : (φs : List Items) (G : Summary) (C : Sets) → GraphTold φs G C n graph brings → (c : ℕ) → c < contents → member r.gets c ≡ contents_of φs G C n φ c
-  pub finds : FindsWrong ruled allowed held graph brings n φ r.wrong
+  pub finds : FindsWrong ruled rules graph brings n φ r.wrong
 
-pub record ItemsWalked (ruled : ℕ → Bool) (allowed held graph brings : List ℕ) (n : ℕ) (φ : Items) (end : ℕ) (r : WalkedItems) : Type 0 where
+pub record ItemsWalked (ruled : ℕ → Bool) (rules : List Tabled.Rule) (graph brings : List ℕ) (n : ℕ) (φ : Items) (end : ℕ) (r : WalkedItems) : Type 0 where
   pub ends : r.next.at ≡ end
   pub outline : Outline φ r.inside r.gaps
-  pub finds : FindsWrong ruled allowed held graph brings n φ r.wrong
+  pub finds : FindsWrong ruled rules graph brings n φ r.wrong
 
-abbrev pub WalksElement : List ℕ → List ℕ → List ℕ → List ℕ → List ℕ → ℕ → ℕ → WalkedElement → Type 0
-WalksElement s allowed held graph brings n start r = (ruled : ℕ → Bool) (f depth inside end : ℕ) (δ : List Attribute) (φ : Items)
+abbrev pub WalksElement : List ℕ → List Tabled.Rule → List ℕ → List ℕ → ℕ → ℕ → WalkedElement → Type 0
+WalksElement s rules graph brings n start r = (ruled : ℕ → Bool) (f depth inside end : ℕ) (δ : List Attribute) (φ : Items)
     → attributes f Template s [] start ≡ whole δ inside → attribute_here s inside ≡ Done → items f Template ruled s depth inside ≡ whole φ end
-    → ElementWalked ruled allowed held graph brings n δ φ end r
+    → ElementWalked ruled rules graph brings n δ φ end r
 
-abbrev pub WalksItems : List ℕ → List ℕ → List ℕ → List ℕ → List ℕ → ℕ → ℕ → WalkedItems → Type 0
-WalksItems s allowed held graph brings n at r = (ruled : ℕ → Bool) (f depth end : ℕ) (φ : Items) → items f Template ruled s depth at ≡ whole φ end
-    → ItemsWalked ruled allowed held graph brings n φ end r
+abbrev pub WalksItems : List ℕ → List Tabled.Rule → List ℕ → List ℕ → ℕ → ℕ → WalkedItems → Type 0
+WalksItems s rules graph brings n at r = (ruled : ℕ → Bool) (f depth end : ℕ) (φ : Items) → items f Template ruled s depth at ≡ whole φ end
+    → ItemsWalked ruled rules graph brings n φ end r
 
 -- The words have the contents that can stand in the pages of each template.
 abbrev pub ContentsKept : List Items → Sets → List ℕ → Type 0
@@ -94,14 +96,14 @@ TellsBrings graph n within r = (φs : List Items) (G : Summary) (C : Sets) (coun
     → Brings φs G C n r
 
 -- The lowest element that is plainly wrong in items of template n that stand at an offset.
-abbrev pub TellsWrongIn : List ℕ → List ℕ → List ℕ → ℕ → List ℕ → ℕ → List ℕ → MaybeWrong → Type 0
-TellsWrongIn s allowed held at graph n within r = (φs : List Items) (G : Summary) (C : Sets) (D : Vocabulary) (count : ℕ)
-    → GraphKept φs G graph count → RulesKept D allowed held → ContentsKept φs C within
+abbrev pub TellsWrongIn : List ℕ → List Tabled.Rule → ℕ → List ℕ → ℕ → List ℕ → MaybeWrong → Type 0
+TellsWrongIn s rules at graph n within r = (φs : List Items) (G : Summary) (C : Sets) (D : Vocabulary) (count : ℕ)
+    → GraphKept φs G graph count → RulesKept D rules → ContentsKept φs C within
     → (f end : ℕ) (φ : Items) → items f Template (declared D.rules) s 0 at ≡ whole φ end
     → r ≡ lowest_in n (λ e mark δ χ. plainly_wrong φs G C D n e δ χ) φ
 
 -- The lowest element of the templates of a set that is plainly wrong.
-abbrev pub TellsPlainlyWrong : List ℕ → List ℕ → List ℕ → List ℕ → ℕ → List ℕ → List ℕ → ℕ → MaybeWrong → Type 0
-TellsPlainlyWrong s allowed held starts count graph within reached r = (φs : List Items) (G : Summary) (C : Sets) (D : Vocabulary)
-    → GraphKept φs G graph count → RulesKept D allowed held → Located (declared D.rules) s φs count starts → ContentsKept φs C within
+abbrev pub TellsPlainlyWrong : List ℕ → List Tabled.Rule → List ℕ → ℕ → List ℕ → List ℕ → ℕ → MaybeWrong → Type 0
+TellsPlainlyWrong s rules starts count graph within reached r = (φs : List Items) (G : Summary) (C : Sets) (D : Vocabulary)
+    → GraphKept φs G graph count → RulesKept D rules → Located (declared D.rules) s φs count starts → ContentsKept φs C within
     → LowestWrong (Passing φs reached (λ n e mark δ φ. plainly_wrong φs G C D n e δ φ)) r

@@ -8,11 +8,11 @@ returns-then-same c = unit_before c.args.r c.args.a c.args.b _ c.only-empty.ensu
 pub returns-then-same-2 : goal.returns-then-same-2
 returns-then-same-2 c = unit_after c.args.r c.args.a c.args.b _ c.only-empty.ensures c.same-2.result c.if-same-2.true c.same-2.ensures
 
-pub returns-then-r : goal.returns-then-r
-returns-then-r c = product_root c.args.r c.args.a c.args.b c.joined_classes.result c.if-r.true c.joined_classes.ensures
+pub returns-in-Root : goal.returns-in-Root
+returns-in-Root c = rw c.in-Root.is (product_root c.args.a c.args.b c.joined_classes.result c.in-Root.field-0 c.joined_classes.ensures)
 
 pub returns-then-members : goal.returns-then-members
-returns-then-members c = product_right c.args.r c.args.a c.args.b c.joined_sets.result c.if-r.false c.joined_sets.ensures
+returns-then-members c = rw c.in-Facts.is (product_right c.args.a c.args.b c.joined_sets.result c.in-Facts.places c.joined_sets.ensures)
 
-pub returns : goal.returns
-returns c = product_left c.args.r c.args.a c.args.b c.joined_sets-2.result c.if-r.false c.joined_sets-2.ensures
+pub returns-else-members : goal.returns-else-members
+returns-else-members c = rw c.in-Facts.is (product_left c.args.a c.args.b c.joined_sets-in-Facts.result c.in-Facts.places c.joined_sets-in-Facts.ensures)

@@ -1,14 +1,14 @@
 -- What the code over schemes promises, for each morphism that a scheme stands for.
 use Rattle.std.specs.Prelude.{ℕ, ◌≤◌, ◌<◌, ◌≡◌, List, [], ◌∷◌, Bool, true, false, ◌⊎◌, length, get_or, Option, Some, None}
 use Rattle.vocabularies.specs.declared.Facts.{Facts}
-use Rattle.vocabularies.specs.Facts.{Fact}
+use Rattle.vocabularies.specs.Facts.{Fact, present}
 use Rattle.vocabularies.specs.VocabularyReading.{most_facts}
 use Rattle.vocabularies.specs.Inner.Promises.{Represents}
 use Rattle.patterns.specs.Inner.Morphisms as Morphisms
 use Rattle.patterns.specs.Inner.Rounds.{Set, only, product}
 use Rattle.schemes.specs.declared.Scheme.{Scheme}
 use Rattle.pattern_sets.specs.Inner.PatternSets.{holds}
-use Rattle.schemes.specs.Inner.Schemes.{Distinct, place_of, no_content, content_of, pair_place, Lists, StandsForFacts, StandsFor, Is}
+use Rattle.schemes.specs.Inner.Schemes.{Distinct, place_of, pair_place, StandsForFacts, StandsFor, Is}
 
 -- Of every list of at most eight facts that the table keeps.
 abbrev pub OfFacts : Facts → (List Fact → Type 0) → Type 0
@@ -22,14 +22,11 @@ IsPlace x fs None = place_of x fs ≡ length fs
 abbrev pub Places : Facts → Fact → Option ℕ → Type 0
 Places t x r = OfFacts t (λ fs. IsPlace x fs r)
 
-abbrev pub AllContents : Facts → List ℕ → Type 0
-AllContents t r = OfFacts t (λ fs. Lists content_of no_content r fs)
+abbrev pub PlacesContent : Facts → ℕ → ℕ → Type 0
+PlacesContent t c r = OfFacts t (λ fs. r ≡ place_of (present c) fs)
 
 abbrev pub PlacesPair : Bool → Facts → Fact → ℕ → Type 0
 PlacesPair in_first t x r = OfFacts t (λ fs. r ≡ pair_place in_first fs x)
-
-abbrev pub AllPairs : Bool → Facts → List ℕ → Type 0
-AllPairs in_first t r = OfFacts t (λ fs. Lists (pair_place in_first fs) most_facts r fs)
 
 abbrev pub KeepsFacts : Facts → Scheme → Type 0
 KeepsFacts t r = OfFacts t (λ fs. Distinct fs → StandsForFacts r fs)

@@ -6,6 +6,8 @@ use Rattle.patterns.specs.Inner.Morphisms as Morphisms
 use Rattle.patterns.specs.Inner.Morphisms.{fact_morphism, root_morphism}
 use Rattle.patterns.specs.Inner.Rounds.{Set}
 use Rattle.schemes.specs.declared.Scheme.{Scheme}
+use Rattle.schemes.specs.declared.Scheme.TheVariants.{Root, Facts}
+use Rattle.schemes.specs.declared.FactScheme.{FactScheme}
 use Rattle.pattern_sets.specs.Inner.PatternSets.{holds}
 
 -- No fact stands twice.
@@ -47,18 +49,23 @@ pub record Lists (of : Fact → ℕ) (none : ℕ) (numbers : List ℕ) (fs : Lis
   pub past : (i : ℕ) → length fs ≤ i → i < most_facts → get_or numbers i 0 ≡ none
 
 -- The facts of a clause, as they are kept.
-pub record StandsForFacts (r : Scheme) (fs : List Fact) : Type 0 where
-  pub not_rooted : r.rooted ≡ false
+pub record KeptPlaces (p : FactScheme) (fs : List Fact) : Type 0 where
   pub few : length fs ≤ most_facts
   pub distinct : Distinct fs
-  pub contents : Lists content_of no_content r.contents fs
-  pub befores : Lists (before_of fs) most_facts r.befores fs
-  pub afters : Lists (after_of fs) most_facts r.afters fs
+  pub contents : Lists content_of no_content p.contents fs
+  pub befores : Lists (before_of fs) most_facts p.befores fs
+  pub afters : Lists (after_of fs) most_facts p.afters fs
+
+pub record StandsForFacts (r : Scheme) (fs : List Fact) : Type 0 where
+  pub places : FactScheme
+  pub of_clause : r ≡ Facts places
+  pub few : length fs ≤ most_facts
+  pub kept : KeptPlaces places fs
 
 -- The morphism that a scheme stands for.
 pub data StandsFor (r : Scheme) : Morphisms.Morphism → Type 0 where
   of_facts : {fs : List Fact} → StandsForFacts r fs → StandsFor r (fact_morphism fs)
-  of_root : r.rooted ≡ true → StandsFor r (root_morphism (get_or r.contents 0 0))
+  of_root : {root : ℕ} → r ≡ Root root → StandsFor r (root_morphism root)
 
 -- Words that hold just the patterns of a set.
 pub record Is (R : Morphisms.Morphism) (words : List ℕ) (A : Set) : Type 0 where

@@ -1,8 +1,9 @@
 -- What the code over the work area promises: what it takes out, and what it changes.
-use Rattle.std.specs.Prelude.{ℕ, ◌+◌, ◌-◌, ◌*◌, ◌^◌, ◌<◌, ◌≤◌, ◌≡◌, List, Bool, true, ◌&&◌, ◌||◌, length, get_or, take, drop}
+use Rattle.std.specs.Prelude.{ℕ, ◌+◌, ◌-◌, ◌*◌, ◌^◌, ◌<◌, ◌≤◌, ◌≡◌, List, Bool, true, false, ◌&&◌, ◌||◌, length, get_or, take, drop}
 use Rattle.sets.specs.Sets.{member}
 use Rattle.sets.specs.Inner.Promises.{MembersWithin}
 use Rattle.strings.specs.declared.Values.{Values}
+use Rattle.strings.specs.declared.Values.TheVariants.{Any, Named}
 use Rattle.strings.specs.Inner.Promises.{set_number, holds_value}
 use Rattle.summaries.specs.Proposal.{Claim}
 use Rattle.graphs.specs.Inner.Graphs.{holds, Keeps}
@@ -22,11 +23,14 @@ pub record GraphTaken (work : List ℕ) (p x : ℕ) (graph : List ℕ) : Type 0 
   pub words : graph ≡ graph_words work p x
   pub keeps : (points : ℕ) → p < points → Keeps graph ((entries_in points work p).template x)
 
+-- The words that tell it: the second has the lowest bit for any string; otherwise the first has the named ones.
+abbrev pub WordsTell : List ℕ → ℕ → ℕ → Values → Type 0
+WordsTell work p y Any = member (get_or work (strings_place p y + 1) 0) 0 ≡ true
+WordsTell work p y (Named set) = (member (get_or work (strings_place p y + 1) 0) 0 ≡ false) × (set_number set ≡ get_or work (strings_place p y) 0) × (set_number set < 2 ^ 64)
+
 -- The entry of a string variable, taken out.
 pub record ValuesTaken (work : List ℕ) (p y : ℕ) (values : Values) : Type 0 where
-  pub named : set_number values.named ≡ get_or work (strings_place p y) 0
-  pub any : values.any ≡ member (get_or work (strings_place p y + 1) 0) 0
-  pub narrow : set_number values.named < 2 ^ 64
+  pub told : WordsTell work p y values
   pub keeps : (points : ℕ) → p < points → (s : ℕ) → holds_value values s ≡ (entries_in points work p).string y s
 
 -- The words of a graph, from a place on, lie within those of another.

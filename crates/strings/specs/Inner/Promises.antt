@@ -4,6 +4,7 @@ use Rattle.std.proofs.Math.Option.{Option, some, none}
 use Rattle.sets.specs.Sets.{member}
 use Rattle.strings.specs.declared.StringSet.{StringSet}
 use Rattle.strings.specs.declared.Values.{Values}
+use Rattle.strings.specs.declared.Values.TheVariants.{Any, Named}
 use Rattle.strings.specs.declared.AttributeValues.{AttributeValues}
 use Rattle.strings.specs.Strings.{strings}
 
@@ -21,7 +22,8 @@ StringsWithin a b false = (s : ℕ) × (s < strings) × (has_string a s ≡ true
 
 -- Whether a string is among them.
 abbrev pub holds_value : Values → ℕ → Bool
-holds_value values s = values.any || has_string values.named s
+holds_value Any s = true
+holds_value (Named set) s = has_string set s
 
 -- By the answer: what the one has the other has; or there is a string that the one has and the other has not.
 abbrev pub ValuesWithin : Values → Values → Bool → Type 0

@@ -5,6 +5,6 @@ use Rattle.vocabularies.proofs.no_tables.Goals as goal
 
 pub returns : goal.returns
 returns c = record {
-  long = record { attributes_long = refl; contents_long = refl; clauses_long = refl };
+  long = refl;
   empty = λ s. no_rules s _ refl;
 }

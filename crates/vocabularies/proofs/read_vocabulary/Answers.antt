@@ -27,14 +27,8 @@ has-requires-in-loop-code c = search element_fits
 pub loop-code-preserved : goal.loop-code-preserved
 loop-code-preserved c = let low : c.operand-e.result < 64 = search element_fits in
     let adds = adds_rule c.loop-code.tables c.operand-e.result c.in_ok-rule.rule c.with.result c.with.ensures
-    (omega (arith, low, c.loop-code.invariant.0.attributes_long)) (omega (arith, low, c.loop-code.invariant.0.contents_long)) (omega (arith, low, c.loop-code.invariant.0.clauses_long)) in (
-      record {
-        attributes_long = simp length-set c.loop-code.invariant.0.attributes_long;
-        contents_long = simp length-set c.loop-code.invariant.0.contents_long;
-        clauses_long = simp length-set c.loop-code.invariant.0.clauses_long;
-      },
-      search (rules_more, adds, c.in_ok-rule.ensures),
-    )
+    (omega (arith, low, c.loop-code.invariant.0)) in
+    (simp length-set c.loop-code.invariant.0, search (rules_more, adds, c.in_ok-rule.ensures))
 
 pub returns-then-has : goal.returns-then-has
 returns-then-has c = search rules_twice
@@ -45,14 +39,8 @@ returns-in_err-rule c = search (rules, rules_broken _ _ _ c.loop-code.invariant.
 pub with-requires : goal.with-requires
 with-requires c = search element_fits
 
-pub bounds-tables-i : goal.bounds-tables-i
-bounds-tables-i c = search (element_fits, rules)
-
-pub bounds-tables-i-in-loop-code : goal.bounds-tables-i-in-loop-code
-bounds-tables-i-in-loop-code c = search (element_fits, rules)
-
-pub bounds-tables-i-in-loop-code-2 : goal.bounds-tables-i-in-loop-code-2
-bounds-tables-i-in-loop-code-2 c = search (element_fits, rules)
+pub bounds-tables-e : goal.bounds-tables-e
+bounds-tables-e c = search (element_fits, rules)
 
 pub loop-code-smaller : goal.loop-code-smaller
 loop-code-smaller c = search (rules_fall, c.in_ok-rule.ensures)

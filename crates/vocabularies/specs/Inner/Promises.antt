@@ -100,21 +100,26 @@ pub record RuleTables (s : List ℕ) (r : Rule) (attributes contents at : ℕ) :
   pub holds : (c : ℕ) → member contents c ≡ is_in c r.contents
   pub stands : (f : ℕ) → Enough s at f → (end : ℕ) × (clauses f s at ≡ whole r.clauses end)
 
--- What follows `01 e`, as tables.
+-- A rule as code keeps it.
+abbrev pub RuleKept : List ℕ → Rule → Tabled.Rule → Type 0
+RuleKept s r x = RuleTables s r x.attributes x.contents x.clauses.at
+
+-- What follows `01 e`.
 abbrev pub RuleReads : List ℕ → ℕ → Result (Tabled.Rule × Position) ReadError → Type 0
-RuleReads s at r = (e f : ℕ) → Enough s at f → AgreesWith (λ rule t. RuleTables s rule t.attributes t.contents t.clauses.at) (rule_body f s e at) r
+RuleReads s at r = (e f : ℕ) → Enough s at f → AgreesWith (RuleKept s) (rule_body f s e at) r
+
+-- What stands in the table for an element without a rule.
+abbrev pub no_rule : Tabled.Rule
+no_rule = record { attributes = 0; contents = 0; clauses = record { at = 0 } }
 
 pub record Describes (s : List ℕ) (D : Vocabulary) (t : Tables) : Type 0 where
   pub declares : (e : ℕ) → member t.declared e ≡ declared D.rules e
   pub names_root : t.root ≡ D.root
-  pub rule : (e : ℕ) (r : Rule) → rule_of D.rules e ≡ some r
-      → RuleTables s r (get_or t.attributes e 0) (get_or t.contents e 0) (get_or t.clauses e 0)
+  pub rule : (e : ℕ) (r : Rule) → rule_of D.rules e ≡ some r → RuleKept s r (get_or t.rules e no_rule)
 
--- The tables have an entry for each element.
-pub record Long (t : Tables) : Type 0 where
-  pub attributes_long : length t.attributes ≡ 64
-  pub contents_long : length t.contents ≡ 64
-  pub clauses_long : length t.clauses ≡ 64
+-- The table has a place for each element.
+abbrev pub Long : Tables → Type 0
+Long t = length t.rules ≡ 64
 
 -- The tables describe the rules so far, before the root is known.
 abbrev pub DescribesRules : List ℕ → List Rule → Tables → Type 0
@@ -123,7 +128,7 @@ DescribesRules s rs t = Describes s (record { rules = rs; root = t.root }) t
 -- The tables with the rule of one element more.
 abbrev pub AddsRule : Tables → ℕ → Tabled.Rule → Tables → Type 0
 AddsRule t e x r = (s : List ℕ) (rs : List Rule) (rule : Rule) → DescribesRules s rs t → declared rs e ≡ false → rule.element ≡ e
-    → RuleTables s rule x.attributes x.contents x.clauses.at → DescribesRules s (rs ++ (rule ∷ [])) r
+    → RuleKept s rule x → DescribesRules s (rs ++ (rule ∷ [])) r
 
 abbrev pub VocabularyReads : List ℕ → Result (Tables × Position) ReadError → Type 0
 VocabularyReads s r = AgreesWith (Describes s) (vocabulary s) r

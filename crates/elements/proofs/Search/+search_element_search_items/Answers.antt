@@ -7,11 +7,8 @@ use Rattle.languages.proofs.Lists.{list_begins, list_text, list_blank, list_gap,
 use Rattle.elements.proofs.Searches.{adds_all, adds_end, adds_text, adds_blank, adds_gap, adds_element, element_known, other_element, own_element}
 use Rattle.elements.proofs.Search.+search_element_search_items.Goals as goal
 
-pub search_element-attributes_take-filled-requires : goal.search_element-attributes_take-filled-requires
-search_element-attributes_take-filled-requires t c = c.requires
-
 pub search_element-search_items-list-requires : goal.search_element-search_items-list-requires
-search_element-search_items-list-requires t c = (omega (arith, c.attributes_take-filled.ensures.forward), c.requires)
+search_element-search_items-list-requires t c = omega (arith, c.attributes_take-filled.ensures.forward)
 
 pub search_element-returns-then-e-clause : goal.search_element-returns-then-e-clause
 search_element-returns-then-e-clause t c = let args = c.args in
@@ -22,11 +19,8 @@ search_element-returns-then-e-clause t c = let args = c.args in
           c.if-e-clause.true c.attributes_take-filled.result c.attributes_take-filled.ensures.filled c.search_items-list.ensures.searched c.has_pattern.result c.has_pattern.ensures;
     }
 
-pub search_element-attribute_patterns-attributes-requires : goal.search_element-attribute_patterns-attributes-requires
-search_element-attribute_patterns-attributes-requires t c = c.requires
-
 pub search_element-search_items-list-requires-2 : goal.search_element-search_items-list-requires-2
-search_element-search_items-list-requires-2 t c = (omega (arith, c.attribute_patterns-attributes.ensures.forward), c.requires)
+search_element-search_items-list-requires-2 t c = omega (arith, c.attribute_patterns-attributes.ensures.forward)
 
 pub search_element-returns : goal.search_element-returns
 search_element-returns t c = let args = c.args in
@@ -96,7 +90,7 @@ search_items-loop-next-preserved-else-has-2 t c = let stands = c.in-Gap.is in
 
 pub search_items-search_element-found-requires : goal.search_items-search_element-found-requires
 search_items-search_element-found-requires t c = let m = element_moves _ _ _ c.item_here.ensures.moves _ _ c.in-Element.is in
-    (omega (arith, m.0.inside, m.0.forward, c.loop-next.invariant.listed.forward), c.requires)
+    omega (arith, m.0.inside, m.0.forward, c.loop-next.invariant.listed.forward)
 
 pub search_items-with_element-longer-requires : goal.search_items-with_element-longer-requires
 search_items-with_element-longer-requires t c = (element_moves _ _ _ c.item_here.ensures.moves _ _ c.in-Element.is).1

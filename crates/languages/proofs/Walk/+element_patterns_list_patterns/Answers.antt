@@ -11,15 +11,9 @@ pub element_patterns-returns-then-not-filled : goal.element_patterns-returns-the
 element_patterns-returns-then-not-filled t c = let a = c.args in
     record { forward = c.attributes_take-filled.ensures.forward; patterned = unfilled _ _ a.e a.self.now.r _ _ a.self.now.takes.now c.attributes_take-filled.result c.attributes_take-filled.ensures.filled (not-true _ c.if-not-filled.true) _ c.empty.ensures }
 
-pub element_patterns-list_patterns-inside-requires : goal.element_patterns-list_patterns-inside-requires
-element_patterns-list_patterns-inside-requires t c = (omega (arith, c.attributes_take-filled.ensures.forward, c.decreases), c.requires.1)
-
 pub element_patterns-returns-then-is_empty : goal.element_patterns-returns-then-is_empty
 element_patterns-returns-then-is_empty t c = let a = c.args in
     record { forward = omega (arith, c.attributes_take-filled.ensures.forward, c.list_patterns-inside.ensures.forward); patterned = stuck _ _ a.e a.self.now.r _ _ a.self.now.takes.now c.attributes_take-filled.result c.attributes_take-filled.ensures.filled c.list_patterns-inside.result c.list_patterns-inside.ensures.patterned c.is_empty.result c.is_empty.ensures c.if-is_empty.true }
-
-pub element_patterns-single-requires : goal.element_patterns-single-requires
-element_patterns-single-requires t c = c.requires.0
 
 pub element_patterns-returns : goal.element_patterns-returns
 element_patterns-returns t c = let a = c.args in
@@ -81,8 +75,7 @@ list_patterns-loop-next-preserved-else-has-2 t c = let q = c.in-Gap.is in
 
 pub list_patterns-element_patterns-element-requires : goal.list_patterns-element_patterns-element-requires
 list_patterns-element_patterns-element-requires t c = let m = element_moves _ _ _ c.item_here.ensures.moves _ _ c.in-Element.is in
-    let pre = c.requires in
-    (omega (arith, m.0.inside, m.0.forward, c.loop-next.invariant.forward, c.decreases), (m.1, pre))
+    (omega (arith, m.0.inside, m.0.forward, c.loop-next.invariant.forward, c.decreases), m.1)
 
 pub list_patterns-returns-then-is_empty-2 : goal.list_patterns-returns-then-is_empty-2
 list_patterns-returns-then-is_empty-2 t c = let q = c.in-Element.is in

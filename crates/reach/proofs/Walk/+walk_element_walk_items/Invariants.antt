@@ -12,7 +12,7 @@ abbrev pub decreases-walk_items : goal.decreases-walk_items
 decreases-walk_items l = (length l.self.now.s.now - l.start.at) + (length l.self.now.s.now - l.start.at) + 1
 
 abbrev pub invariant-walk_items-loop-next : goal.invariant-walk_items-loop-next
-invariant-walk_items-loop-next l = Going l.self.s.now l.self.attributes.now l.self.contents.now l.self.graph.now l.self.brings.now l.self.n l.initial.here.at l.here.at l.inside l.gaps l.wrong
+invariant-walk_items-loop-next l = Going l.self.s.now l.self.rules.now l.self.graph.now l.self.brings.now l.self.n l.initial.here.at l.here.at l.inside l.gaps l.wrong
 
 abbrev pub decreases-walk_items-loop-next : goal.decreases-walk_items-loop-next
 decreases-walk_items-loop-next l = length l.self.s.now - l.here.at

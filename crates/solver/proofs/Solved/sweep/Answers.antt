@@ -19,4 +19,4 @@ loop-turn-preserved c = record {
 pub returns : goal.returns
 returns c =
     let far : c.loop-turn.turn ≡ 32 = omega arith in
-    sweep_ends _ _ _ _ c.args.upwards _ _ _ _ (rw far at c.loop-turn.invariant.visited)
+    sweep_ends _ _ _ _ c.args.upwards 32 (omega arith) _ _ _ _ (rw far at c.loop-turn.invariant.visited)
