@@ -46,12 +46,12 @@ small fs few x h = let p : 2 ^ length fs ≤ 2 ^ 8 = pow_mono few in omega arith
 module _ (t : Facts) where
   pub flagged_placed : (f : Fact) (place : ℕ) (r : List ℕ) → Places t f (Some place) → AllFlagged place r → FlaggedBy t f r
   flagged_placed f place r placed all fs h few x b =
-      all x (small fs few x b) ∙ ap (member x) (placed fs h few).1 ∙ sym (flag_placed fs f x b)
+      all x (small fs few x b) ∙ ap (member x) (placed.place fs h few).1 ∙ sym (flag_placed fs f x b)
 
   -- A fact that is not there has no flag.
   pub flagged_nowhere : (f : Fact) (r : List ℕ) → Places t f None → ((x : ℕ) → holds r x ≡ false) → FlaggedBy t f r
   flagged_nowhere f r absent none fs h few x b =
-      none x ∙ sym (flag_placed fs f x b ∙ ap (member x) (absent fs h few) ∙ member_high (length fs) x (length fs) b (omega arith))
+      none x ∙ sym (flag_placed fs f x b ∙ ap (member x) (absent.place fs h few) ∙ member_high (length fs) x (length fs) b (omega arith))
 
 -- ---- the forms, in the order of source 000's grammar
 

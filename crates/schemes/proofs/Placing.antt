@@ -30,11 +30,14 @@ module _ (t : Facts) (x : Fact) where
   From i = OfFacts t (λ fs. i ≤ place_of x fs)
 
   pub place_none : (i : ℕ) → min t.count 8 ≤ i → From i → Places t x None
-  place_none i l before fs h few =
-      let low : i ≤ place_of x fs = before fs h few in
-      let most : place_of x fs ≤ length fs = place_le fs x in
-      let e : t.count ≡ length fs = few_count t fs h few in
-      omega arith
+  place_none i l before = record {
+    within = tt;
+    place = λ fs h few.
+        let low : i ≤ place_of x fs = before fs h few in
+        let most : place_of x fs ≤ length fs = place_le fs x in
+        let e : t.count ≡ length fs = few_count t fs h few in
+        omega arith;
+  }
 
   module _ (i : ℕ) (b : i < 8) (here : i < t.count) (before : From i) (y : Kept.Fact) (at : y ≡ kept_at t i) (told : Bool) (tells : told ≡ same_fact x (meaning_of y)) where
     module _ (fs : List Fact) (h : Represents t fs) (few : length fs ≤ 8) where
@@ -53,7 +56,7 @@ module _ (t : Facts) (x : Fact) where
           false≢true (sym e ∙ told_of ∙ ap (same_fact x) found ∙ fact_same x)
 
     pub place_found : told ≡ true → Places t x (Some i)
-    place_found e fs h few = (inside fs h few, le_antisymm (before fs h few) (is_first fs h few e))
+    place_found e = record { within = b; place = λ fs h few. (inside fs h few, le_antisymm (before fs h few) (is_first fs h few e)) }
 
     pub from_next : told ≡ false → From (i + 1)
     from_next e fs h few =

@@ -1,5 +1,5 @@
 -- What the code over schemes promises, for each morphism that a scheme stands for.
-use Rattle.std.specs.Prelude.{ℕ, ◌≤◌, ◌<◌, ◌≡◌, List, [], ◌∷◌, Bool, true, false, ◌⊎◌, length, get_or, Option, Some, None}
+use Rattle.std.specs.Prelude.{ℕ, ◌≤◌, ◌<◌, ◌≡◌, List, [], ◌∷◌, Bool, true, false, ◌⊎◌, length, get_or, Option, Some, None, IfSome}
 use Rattle.vocabularies.specs.declared.Facts.{Facts}
 use Rattle.vocabularies.specs.Facts.{Fact, present}
 use Rattle.vocabularies.specs.VocabularyReading.{most_facts}
@@ -19,8 +19,10 @@ abbrev pub IsPlace : Fact → List Fact → Option ℕ → Type 0
 IsPlace x fs (Some i) = (i < length fs) × (i ≡ place_of x fs)
 IsPlace x fs None = place_of x fs ≡ length fs
 
-abbrev pub Places : Facts → Fact → Option ℕ → Type 0
-Places t x r = OfFacts t (λ fs. IsPlace x fs r)
+-- A place is below 8, whatever the table has.
+pub record Places (t : Facts) (x : Fact) (r : Option ℕ) : Type 0 where
+  pub within : IfSome r (λ i. i < most_facts)
+  pub place : OfFacts t (λ fs. IsPlace x fs r)
 
 abbrev pub PlacesContent : Facts → ℕ → ℕ → Type 0
 PlacesContent t c r = OfFacts t (λ fs. r ≡ place_of (present c) fs)
