@@ -198,10 +198,13 @@ fn add_strings_at(graph: &mut Graph, n: u8, h: u8, values: Values)
 pub fn add_edges(graph: &mut Graph, from: u64, g: u8, to: u64)
     ensures { g < 8 → (R : Summary) → Keeps graph.old R → Keeps graph.new (added_at false g (member to) (member from) R) }
 {
-    for n in 0..32u8 {
-        if sets::has(from, n) {
-            add_edges_at(graph, n, g, to);
+    let mut next = sets::next_member(from, 0);
+    while let Some(n) = next {
+        if 32 <= n {
+            return;
         }
+        add_edges_at(graph, n, g, to);
+        next = sets::next_member(from, n + 1);
     }
 }
 
@@ -210,10 +213,13 @@ pub fn add_edges(graph: &mut Graph, from: u64, g: u8, to: u64)
 pub fn add_strings(graph: &mut Graph, at: u64, h: u8, values: Values)
     ensures { h < 8 → (R : Summary) → Keeps graph.old R → Keeps graph.new (added_at true h (holds_value values) (member at) R) }
 {
-    for n in 0..32u8 {
-        if sets::has(at, n) {
-            add_strings_at(graph, n, h, values);
+    let mut next = sets::next_member(at, 0);
+    while let Some(n) = next {
+        if 32 <= n {
+            return;
         }
+        add_strings_at(graph, n, h, values);
+        next = sets::next_member(at, n + 1);
     }
 }
 
