@@ -202,9 +202,15 @@ pub fn is_empty(set: [u64; 4]) -> bool
     same(set, empty())
 }
 
-// The promise is told by patterns, as callers use it; a bare `==` would tell of words.
+// The promise is told by patterns, as callers use it; a bare `==` would tell of words. They are compared one by one: `==` of arrays reads
+// several at once, and waits where they were stored one by one just before.
 pub fn same(a: [u64; 4], b: [u64; 4]) -> bool
     ensures { Same a b result }
 {
-    a == b
+    for i in 0..4 {
+        if a[i] != b[i] {
+            return false;
+        }
+    }
+    true
 }
