@@ -282,8 +282,7 @@ impl<'a> Reading<'a> {
     fn read_item(&self, here: Position, depth: usize) -> Result<Position, ReadError>
         ensures { ItemRead self.now.kind (member self.now.declared) self.now.s.now depth here.at result }
     {
-        let allowed = self.kind.allowed();
-        let d = here.item_command(self.s, allowed.items);
+        let d = here.item_command(self.s, self.kind.allowed().items);
         let Decoded::Moved(code, next) = d else {
             return Err(d.refusal());
         };
@@ -296,7 +295,7 @@ impl<'a> Reading<'a> {
                 at: here.at,
             });
         }
-        if allowed.nesting <= depth {
+        if self.kind.allowed().nesting <= depth {
             return Err(ReadError {
                 form: Form::TooMany,
                 at: here.at,

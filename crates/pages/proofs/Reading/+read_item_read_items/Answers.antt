@@ -12,7 +12,7 @@ use Rattle.pages.proofs.Reading.+read_item_read_items.Goals as goal
 
 pub read_item-item_command-d-requires : goal.read_item-item_command-d-requires
 read_item-item_command-d-requires t c =
-    rw c.allowed-allowed.ensures.items (item_permitted c.args.self.now.kind)
+    rw c.allowed.ensures.items (item_permitted c.args.self.now.kind)
 
 pub read_item-returns-in_default : goal.read_item-returns-in_default
 read_item-returns-in_default t c = search item_refused
@@ -36,18 +36,18 @@ read_item-returns-in_err-inside t c = search (rules, item_attributes_refused)
 
 pub read_item-overflow_add-depth : goal.read_item-overflow_add-depth
 read_item-overflow_add-depth t c =
-    omega (arith, c.if-allowed-depth.false, c.allowed-allowed.type_inv)
+    omega (arith, c.if-allowed-depth.false, c.allowed-2.type_inv)
 
 pub read_item-read_items-requires : goal.read_item-read_items-requires
 read_item-read_items-requires t c =
-    let stands : command c.allowed-allowed.result.items c.args.self.now.s.now c.args.here.at ≡ Moved c.in-Moved.code c.in-Moved.next = sym c.item_command-d.ensures ∙ c.in-Moved.is in
+    let stands : command c.allowed.result.items c.args.self.now.s.now c.args.here.at ≡ Moved c.in-Moved.code c.in-Moved.next = sym c.item_command-d.ensures ∙ c.in-Moved.is in
     let m = moved _ _ _ _ _ stands in
     let i = attributes_onward _ _ _ _ _ _ c.in_ok-inside.was c.read_attributes.ensures m.inside in
     (omega (arith, i, m.forward), tt)
 
 pub read_item-returns : goal.read_item-returns
 read_item-returns t c =
-    item_element _ _ c.allowed-allowed.ensures.items _ _ _ _ _ c.item_command-d.ensures _ _ c.in-Moved.is c.if-code-ne35.false _ c.operand.ensures _ c.has.ensures _ c.allowed-allowed.ensures.nesting c.if-not-has.false c.if-allowed-depth.false _ c.read_attributes.ensures _ _ c.in_ok-inside.was c.read_items.ensures
+    item_element _ _ c.allowed.ensures.items _ _ _ _ _ c.item_command-d.ensures _ _ c.in-Moved.is c.if-code-ne35.false _ c.operand.ensures _ c.has.ensures _ c.allowed-2.ensures.nesting c.if-not-has.false c.if-allowed-depth.false _ c.read_attributes.ensures _ _ c.in_ok-inside.was c.read_items.ensures
 
 pub read_items-loop-next-init : goal.read_items-loop-next-init
 read_items-loop-next-init t c =
