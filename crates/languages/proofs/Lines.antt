@@ -1,6 +1,6 @@
 -- The patterns of a list so far: what leaves them as they are leaves them so until something changes them.
 use Prim.Native.Nat.{ℕ, ◌<◌}
-use mathlib.Core.Path.{◌≡◌, refl, sym, ap, subst, ◌∙◌}
+use mathlib.Core.Path.{◌≡◌, refl, sym, subst, ◌∙◌}
 use mathlib.Core.List.{List, [], ◌∷◌}
 use mathlib.Core.Bool.{Bool, true, false, not, ◌&&◌, ◌||◌, false≢true}
 use native.Mathlib.Decide.{ℕ_discrete}
@@ -12,7 +12,7 @@ use Rattle.sets.specs.Sets.{member}
 use Rattle.sets.proofs.Laws.{member_zero}
 use Rattle.patterns.specs.Inner.Morphisms.{Morphism}
 use Rattle.patterns.specs.Inner.Rounds.{Set, only, product}
-use Rattle.pattern_sets.specs.Inner.PatternSets.{holds}
+use Rattle.pattern_sets.specs.Inner.PatternSets.{holds, Same}
 use Rattle.pattern_sets.proofs.Tables.{all_members}
 use Rattle.schemes.specs.declared.Scheme.{Scheme}
 use Rattle.schemes.specs.Inner.Schemes.{StandsFor, Is}
@@ -64,9 +64,11 @@ module _ {M : Morphism} (takes : List (List ℕ)) where
         go g h absent I is x b (yes q) = unchanged I (rw (← q) is) x b
         go g h absent I is x b (no ne) = l.gaps g h (absent_too line.gaps one fewer i is_one is_fewer g ne absent) I is x b
 
-  -- The product is the set itself.
-  same_after : (set more : List ℕ) (A I : Set) → Is M set A → Is M more (product M A I) → more ≡ set → (x : ℕ) → x < M.size → product M A I x ≡ A x
-  same_after set more A I is_set is_more same x h = sym (is_more.inside x h) ∙ (ap (λ (s : List ℕ). holds s x) same ∙ is_set.inside x h)
+  -- The product has the same patterns as the set.
+  same_after : (set more : List ℕ) (A I : Set) → Is M set A → Is M more (product M A I) → (t : Bool) → t ≡ true → Same more set t
+      → (x : ℕ) → x < M.size → product M A I x ≡ A x
+  same_after set more A I is_set is_more true e same x h = sym (is_more.inside x h) ∙ (same x ∙ is_set.inside x h)
+  same_after set more A I is_set is_more false e same x h = absurd (false≢true e)
 
 pub line_of : (set : List ℕ) → LineOf set (record { set = set; contents = 0xFFFF_FFFF_FFFF_FFFF; gaps = 0xFFFF_FFFF_FFFF_FFFF })
 line_of set M takes A is = record {
@@ -84,11 +86,11 @@ module _ (r : Scheme) (line : Line) (c : ℕ) (low : c < 64) where
     content_product M reads used takes A l = subst (λ (q : ℕ). Is M more (product M A (only q))) (one M reads)
         (follows M reads A l.is (subst (λ (q : ℕ). q < M.size) (sym (one M reads)) ((lawful used).below (c ∷ []))))
 
-    pub content_kept : more ≡ line.set → (single fewer : ℕ) → ((k : ℕ) → member single k ≡ (eqb k c || member 0 k))
+    pub content_kept : (t : Bool) → t ≡ true → Same more line.set t → (single fewer : ℕ) → ((k : ℕ) → member single k ≡ (eqb k c || member 0 k))
         → ((k : ℕ) → member fewer k ≡ (member line.contents k && not (member single k)))
         → LineWithContent r line c (record { set = line.set; contents = fewer; gaps = line.gaps })
-    content_kept same single fewer is_single is_fewer M reads used takes A l =
-        let unchanged = same_after takes line.set more A (only (M.of (c ∷ []))) l.is (content_product M reads used takes A l) same in
+    content_kept t e same single fewer is_single is_fewer M reads used takes A l =
+        let unchanged = same_after takes line.set more A (only (M.of (c ∷ []))) l.is (content_product M reads used takes A l) t e same in
         line_as takes _ A _ (less_content takes line A l single fewer c is_single is_fewer unchanged) (λ x h. sym (unchanged x h))
 
     pub content_new : (longer : Line) → LineOf more longer → LineWithContent r line c longer
@@ -108,12 +110,12 @@ module _ (r : Scheme) (takes : List (List ℕ)) (line : Line) (g : ℕ) (low : g
   gap_absent absent M reads A I l is = line_as takes line A _ l (λ x h. sym (l.gaps g low absent I is x h))
 
   module _ (more : List ℕ) (times : Multiplies r line.set (get_or takes g []) more) where
-    pub gap_kept : more ≡ line.set → (single fewer : ℕ) → ((k : ℕ) → member single k ≡ (eqb k g || member 0 k))
+    pub gap_kept : (t : Bool) → t ≡ true → Same more line.set t → (single fewer : ℕ) → ((k : ℕ) → member single k ≡ (eqb k g || member 0 k))
         → ((k : ℕ) → member fewer k ≡ (member line.gaps k && not (member single k)))
         → LineWithGap r takes line g (record { set = line.set; contents = line.contents; gaps = fewer })
-    gap_kept same single fewer is_single is_fewer M reads A I l is =
+    gap_kept t e same single fewer is_single is_fewer M reads A I l is =
         let unchanged : (J : Set) → Is M (get_or takes g []) J → (x : ℕ) → x < M.size → product M A J x ≡ A x =
-        λ J j. same_after takes line.set more A J l.is (times M reads A J l.is j) same
+        λ J j. same_after takes line.set more A J l.is (times M reads A J l.is j) t e same
         in
         line_as takes _ A _ (less_gap takes line A l single fewer g is_single is_fewer unchanged) (λ x h. sym (unchanged I is x h))
 

@@ -122,7 +122,7 @@ pub fn with_content(r: Scheme, line: Line, c: u8) -> Line
 {
     let set = line.set;
     let more = schemes::followed(r, set, schemes::single(r, c));
-    if more == set {
+    if pattern_sets::same(more, set) {
         return Line {
             set,
             contents: sets::without(line.contents, sets::with(0, c)),
@@ -139,7 +139,7 @@ pub fn with_gap(r: Scheme, line: Line, takes: &[[u64; 4]; 8], g: u8) -> Line
 {
     let set = line.set;
     let joined = schemes::product(r, set, takes[g as usize]);
-    if joined == set {
+    if pattern_sets::same(joined, set) {
         return Line {
             set,
             contents: line.contents,
