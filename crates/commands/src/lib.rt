@@ -373,6 +373,16 @@ impl Position {
 }
 
 impl Decoded {
+    // The position after the command, or why there is none.
+    pub fn part(self) -> Result<Position, ReadError>
+        ensures { result ≡ part_of self }
+    {
+        match self {
+            Decoded::Moved(_, next) => Ok(next),
+            Decoded::Refused(form, at) => Err(ReadError { form, at }),
+        }
+    }
+
     // Why there is no command here, where there is none.
     pub fn refusal(self) -> ReadError
         requires { IsErr (part_of self) }

@@ -144,10 +144,10 @@ module _ (s : List ℕ) where
       go false = refl
 
   -- Where a byte follows, and where none does.
-  more_follows : {A : Type 0} (a : A) (end : Position) (e : ReadError) → EndedAt s end.at (Err e) → stops a end.at ≡ refused e.form e.at
+  pub more_follows : {A : Type 0} (a : A) (end : Position) (e : ReadError) → EndedAt s end.at (Err e) → stops a end.at ≡ refused e.form e.at
   more_follows a end e h = rw (h.1, lt-ltb end.at (length s) h.0)
 
-  nothing_follows : {A : Type 0} (a : A) (end : ℕ) → length s ≤ end → stops a end ≡ whole a end
+  pub nothing_follows : {A : Type 0} (a : A) (end : ℕ) → length s ≤ end → stops a end ≡ whole a end
   nothing_follows a end l = rw (le-ltb end (length s) l)
 
 -- A script that is a slice of its own.

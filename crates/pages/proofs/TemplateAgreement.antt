@@ -34,10 +34,10 @@ TemplatesOn ruled s done count at r = (f : ℕ) → Enough s at f
     → AgreesWith (λ φs found. Located ruled s (done ++ φs) found.count found.starts) (templates f ruled s count at) r
 
 module _ (ruled : ℕ → Bool) (s : List ℕ) where
-  located_none : (starts : List ℕ) → Located ruled s [] 0 starts
+  pub located_none : (starts : List ℕ) → Located ruled s [] 0 starts
   located_none starts = record { counted = refl; located = λ t low high. absurd (omega arith) }
 
-  located_more : (φs : List Items) (count : ℕ) (starts : List ℕ) (at : ℕ) (φ : Items) → Located ruled s φs count starts
+  pub located_more : (φs : List Items) (count : ℕ) (starts : List ℕ) (at : ℕ) (φ : Items) → Located ruled s φs count starts
       → count + 1 < length starts → StandsAt ruled s at φ → Located ruled s (φs ++ (φ ∷ [])) (count + 1) (set starts (count + 1) at)
   located_more φs count starts at φ h fits stands = record {
     counted = omega (arith, length-append φs (φ ∷ []), h.counted);
@@ -54,25 +54,25 @@ module _ (ruled : ℕ → Bool) (s : List ℕ) where
   }
 
 module _ (ruled : ℕ → Bool) (s : List ℕ) (done : List Items) (count at : ℕ) where
-  templates_refused : (e : ReadError) → command Contexts.Templates s at ≡ Refused e.form e.at → TemplatesOn ruled s done count at (Err e)
+  pub templates_refused : (e : ReadError) → command Contexts.Templates s at ≡ Refused e.form e.at → TemplatesOn ruled s done count at (Err e)
   unfolding templates
   templates_refused e d zero enough = absurd (omega arith)
   templates_refused e d (suc g) enough = rw d (refl, refl)
 
   module _ (code : ℕ) (next : Position) (d : command Contexts.Templates s at ≡ Moved code next) where
-    templates_end : (found : Templates) → code ≡ 0x2F → Located ruled s done found.count found.starts → TemplatesOn ruled s done count at (Ok (found, next))
+    pub templates_end : (found : Templates) → code ≡ 0x2F → Located ruled s done found.count found.starts → TemplatesOn ruled s done count at (Ok (found, next))
     unfolding templates
     templates_end found ended located zero enough = absurd (omega arith)
     templates_end found ended located (suc f) enough = rw (d, eq-eqb _ _ ended) (refl, rw (append-nil done) located)
 
     module _ (starts : code ≡ 0x2F → ⊥) where
-      templates_many : most_templates ≤ count → TemplatesOn ruled s done count at (Err (record { form = TooMany; at = at }))
+      pub templates_many : most_templates ≤ count → TemplatesOn ruled s done count at (Err (record { form = TooMany; at = at }))
       unfolding templates
       templates_many many zero enough = absurd (omega arith)
       templates_many many (suc f) enough = rw (d, ne_eqb _ _ starts, le-ltb _ _ many) (refl, refl)
 
       module _ (few : count < most_templates) where
-        template_refused : (e : ReadError) (body : Result Position ReadError) → ItemsRead Template ruled s 0 next.at body → body ≡ Err e
+        pub template_refused : (e : ReadError) (body : Result Position ReadError) → ItemsRead Template ruled s 0 next.at body → body ≡ Err e
             → TemplatesOn ruled s done count at (Err e)
         unfolding templates
         template_refused e body reads is zero enough = absurd (omega arith)
@@ -80,7 +80,7 @@ module _ (ruled : ℕ → Bool) (s : List ℕ) (done : List Items) (count at : �
             let m = moved Contexts.Templates s at code next d in
             rw (d, ne_eqb _ _ starts, lt-ltb _ _ few) (refused_first_with (items g Template ruled s 0 next.at) body (reads g (omega arith)) _ _ e is)
 
-        templates_next : (r : Result (Templates × Position) ReadError) (after : ℕ) (read : TreeRead Template ruled s 0 next.at after)
+        pub templates_next : (r : Result (Templates × Position) ReadError) (after : ℕ) (read : TreeRead Template ruled s 0 next.at after)
             → TemplatesOn ruled s (done ++ (read.tree ∷ [])) (count + 1) after r → TemplatesOn ruled s done count at r
         unfolding templates
         templates_next r after read goes zero enough = absurd (omega arith)

@@ -16,7 +16,7 @@ pub record Skipping (s : List ℕ) (After : List ℕ → ℕ → Position → Ty
   pub goes : (r : Position) → After s at r → After s at₀ r
 
 module _ (s : List ℕ) (at : ℕ) (h : AttributeHere) (is : h ≡ attribute_here s at) (moves : AttributeMoves s at h) (at₀ : ℕ) (walk : Skipping s AfterAttributes at₀ at) where
-  after_fixed : (a v : ℕ) (next : Position) → h ≡ Fixed a v next → Skipping s AfterAttributes at₀ next.at
+  pub after_fixed : (a v : ℕ) (next : Position) → h ≡ Fixed a v next → Skipping s AfterAttributes at₀ next.at
   after_fixed a v next e = record {
     forward = omega (arith, walk.forward, (fixed_moves s at h moves a v next e).0.forward);
     goes = λ r rest. walk.goes r λ k before f end δ reads done.
@@ -24,7 +24,7 @@ module _ (s : List ℕ) (at : ℕ) (h : AttributeHere) (is : h ≡ attribute_her
         rest k (a ∷ before) w.fuel end w.rest w.reads_rest done;
   }
 
-  after_open : (a g : ℕ) (next : Position) → h ≡ Open a g next → Skipping s AfterAttributes at₀ next.at
+  pub after_open : (a g : ℕ) (next : Position) → h ≡ Open a g next → Skipping s AfterAttributes at₀ next.at
   after_open a g next e = record {
     forward = omega (arith, walk.forward, (open_moves s at h moves a g next e).0.forward);
     goes = λ r rest. walk.goes r λ k before f end δ reads done.

@@ -59,6 +59,9 @@ lowest_lower p q = lowest_both p q (λ n at b h. inl h) (λ n at b h none_first.
 
 -- ---- laws of the lower of two
 
+pub lower_first : (a b : MaybeWrong) (n at : ℕ) (k : Breach) (m other : ℕ) (l : Breach) → a ≡ At n at k → b ≡ At m other l → at ≤ other → At n at k ≡ lower_wrong a b
+lower_first a b n at k m other l p q h = rw (p, q, le-leb at other h) refl
+
 pub lower_nowhere : (w : MaybeWrong) → lower_wrong w None ≡ w
 lower_nowhere None = refl
 lower_nowhere (Some w) = refl

@@ -51,7 +51,7 @@ agrees_where_stay n places P Q g (refused f at) (Err e) says st h = h
 agrees_where_stay n places P Q g unfinished r says st h = h
 
 -- What it tells that a statement may stand here.
-record MayStand (count : ℕ) (s : List ℕ) (before at code : ℕ) (next : Position) : Type 0 where
+pub record MayStand (count : ℕ) (s : List ℕ) (before at code : ℕ) (next : Position) : Type 0 where
   pub read : command (statement_context before) s at ≡ Moved code next
   pub template_there : templates_there count (statement_read s at code) ≡ true
   pub few : before < most_points
@@ -104,7 +104,7 @@ module _ (count : ℕ) (s : List ℕ) (before at : ℕ) where
   stands_by_tests code code' next next' false true false e₁ e₂ e₃ e on r = never_ends _ _ _ _ e
   stands_by_tests code code' next next' false false b₃ e₁ e₂ e₃ e on r = never_ends _ _ _ _ e
 
-  may_stand : (d : Decoded) (code : ℕ) (next : Position) → d ≡ tested_statement count s before at → d ≡ Moved code next → (code ≡ 0x3F → ⊥) → MayStand count s before at code next
+  pub may_stand : (d : Decoded) (code : ℕ) (next : Position) → d ≡ tested_statement count s before at → d ≡ Moved code next → (code ≡ 0x3F → ⊥) → MayStand count s before at code next
   may_stand d code next d_is e on = by_decoded (command (statement_context before) s at) refl (sym d_is ∙ e)
     where
       by_decoded : (d : Decoded) → command (statement_context before) s at ≡ d → tested_here count s before at d ≡ Moved code next → MayStand count s before at code next

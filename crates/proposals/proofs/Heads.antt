@@ -17,8 +17,8 @@ use Rattle.strings.specs.Inner.Promises.{holds_value}
 use Rattle.states.specs.Inner.Promises.{GraphTaken, ValuesTaken}
 use Rattle.proposals.specs.declared.Sort.{Sort}
 use Rattle.proposals.specs.declared.Sort.TheVariants.{Roots, Edges, Listed, Any, Origins, AttributeOrigins}
-use Rattle.proposals.specs.Inner.Bytes.{prefix_bytes, member_items, members, firsts, seconds, limit, prefix_of, listed_of, is_held, MayStand, MayBe, place_bytes, row_bytes, sort_bytes, template_bytes, string_bytes, entry_bytes, head_bytes, entry_at, Counted, FewBytes}
-use Rattle.proposals.proofs.Each.{each_same}
+use Rattle.proposals.specs.Inner.Bytes.{prefix_bytes, member_items, members, firsts, seconds, limit, prefix_of, listed_of, is_held, MayStand, MayBe, place_bytes, row_bytes, sort_bytes, template_bytes, string_bytes, entry_bytes, head_bytes, entry_at, items_at, headed_at, entries_bytes, Counted, FewBytes}
+use Rattle.proposals.proofs.Each.{each_same, each_most}
 use Rattle.proposals.proofs.Members.{members_most, members_same}
 use Rattle.proposals.proofs.Sorts.{may_stand, may_be, template_most}
 
@@ -105,6 +105,10 @@ module _ (templates : ℕ) (few : templates < 32) where
       go false = omega (arith, string_most (E.string (v - 4)))
 
   module _ (work : List ℕ) where
+    pub entries_most : (n : ℕ) → n ≤ 256 → length (entries_bytes templates work n) ≤ 100664064
+    unfolding entries_bytes
+    entries_most n l = each_most (headed_at templates work) n 256 393219 l (λ i m. head_most (i / 8) (i % 8) 393216 (items_at templates work i) (entry_most_lem (entry_at work (i / 8)) (i % 8)))
+
     pub few_bytes : (n : ℕ) (lengths : List ℕ) → Counted templates work n lengths → FewBytes n lengths
     few_bytes n lengths counted i l = rw (counted i l) (entry_most_lem (entry_at work (i / 8)) (i % 8))
 

@@ -37,6 +37,10 @@ module _ (graph : List ℕ) (n gaps : ℕ) where
   pub edges_past : (g all : ℕ) → member gaps g ≡ false → EdgesTo g all → EdgesTo (g + 1) all
   edges_past g all absent so_far G keeps m = so_far G keeps m ∙ sym (one_more g (λ k. member gaps k && G (edge n k m)) ∙ rw absent refl)
 
+  -- Those of all gaps.
+  pub edges_by_lem : (r : ℕ) → EdgesTo 8 r → (G : Summary) → Keeps graph G → (m : ℕ) → member r m ≡ edges_by G n gaps m
+  edges_by_lem r h = h
+
 -- The edges from a template, of those to templates of a set.
 abbrev pub EdgesAt : Summary → List ℕ → ℕ → ℕ → ℕ → Type 0
 EdgesAt G gaps yields i w = (m : ℕ) → member w m ≡ (edges_by G i (get_or gaps i 0) m && member yields m)
