@@ -198,6 +198,21 @@ module _ (work : List ℕ) (p x : ℕ) (has : HasPoint work p) (l : x < 4) where
       held c true e = rw e (holds_joined (graph_words work p x) from (graph_words after p x) word c (words_in c e))
       held c false e = rw e refl
 
+-- A word of an entry that is joined to another, or to itself, is still its own.
+pub row_read : (work now : List ℕ) (p x q z first from i gained : ℕ) → x < 4 → z < 4 → first ≡ graph_place p x → from ≡ graph_place q z → i < 544
+    → RowJoined work (graph_words work q z) first i now gained → get_or now (from + i) 0 ≡ get_or (graph_words work q z) i 0
+row_read work now p x q z first from i gained l m at at' low R = R.rest (from + i) away ∙ ap (λ (k : ℕ). get_or work (k + i) 0) at' ∙ sym (graph_word work q z i low)
+  where
+    away : (from + i < first) ⊎ (first + i ≤ from + i)
+    away = elim (side from first) [
+      | inl a ↦ elim (graphs_apart p x q z l m (λ e. apart a e.0 e.1)) [ inl b ↦ inl (omega arith) | inr b ↦ absurd (omega arith) ]
+      | inr (inl a) ↦ inr (omega arith)
+      | inr (inr a) ↦ inr (omega arith)
+    ]
+      where
+        apart : from < first → q ≡ p → z ≡ x → ⊥
+        apart a e f = omega arith
+
 -- An entry that lies within another is joined to it already.
 pub entry_within : (work : List ℕ) (p x q z first from : ℕ) → HasPoint work p → x < 4 → first ≡ graph_place p x → from ≡ graph_place q z → LiesWithin work from first
     → GraphJoined work p x (graph_words work q z) work false

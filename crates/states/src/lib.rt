@@ -136,11 +136,17 @@ pub fn join_entry(work: &mut [u64], p: usize, x: usize, q: usize, z: usize) -> b
     requires { HasPoint work.old p × (x < 4) × HasPoint work.old q × (z < 4) }
     ensures { GraphJoined work.old p x (graph_words work.old q z) work.new result }
 {
-    if lies_within(work, graph_place(q, z), graph_place(p, x)) {
+    let first = graph_place(p, x);
+    let from = graph_place(q, z);
+    if lies_within(work, from, first) {
         return false;
     }
-    let from = graph_at(work, q, z);
-    join_graph(work, p, x, &from)
+    let mut gained: u64 = 0;
+    for i in 0..GRAPH_WORDS {
+        let more = work[from + i];
+        gained = sets::union(gained, join_word(work, first + i, more));
+    }
+    gained != 0
 }
 
 // A string variable at a point can also take these values; whether its words have changed.
