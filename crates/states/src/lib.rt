@@ -53,9 +53,11 @@ pub fn is_blank(work: &[u64], p: usize, x: usize) -> bool
     ensures { result ≡ true → (points : ℕ) (c : Claim) → (entries_in points work.now p).template x c ≡ false }
 {
     let first = graph_place(p, x);
-    work[first..first + GRAPH_WORDS]
-        .iter()
-        .all(|&word| word == 0)
+    let mut all: u64 = 0;
+    for &word in &work[first..first + GRAPH_WORDS] {
+        all = sets::union(all, word);
+    }
+    all == 0
 }
 
 // The entry of a string variable at a point.
