@@ -104,19 +104,36 @@ pub fn is_allowed(context: Context, code: u8) -> bool
     }
 }
 
-// How many bytes follow a command's first byte.
+// How many bytes follow a command's first byte: an arm for each format, which become a table of numbers. Arms joined by the number become a
+// table of jumps.
 #[tactic(auto, unfolding(crate::specs::Commands::operand_bytes, crate::specs::Commands::operands_of))]
 pub fn operand_bytes(code: u8) -> usize
     ensures { result ≡ operand_bytes code }
 {
     match code {
-        0x01 | 0x02 | 0x03 | 0x05 | 0x14 | 0x15 | 0x22 | 0x23 | 0x28 | 0x41 | 0x47 => 1,
-        0x16 | 0x24 | 0x25 | 0x40 | 0x44 | 0x45 | 0x46 => 2,
+        0x01 | 0x05 | 0x23 => 1,
+        0x02 | 0x14 | 0x28 => 1,
+        0x03 | 0x15 => 1,
+        0x16 => 2,
         0x17 => 9,
-        0x30 | 0x31 | 0x32 | 0x33 => 4,
-        0x34 | 0x37 | 0x42 | 0x43 => 3,
-        0x35 | 0x36 => 6,
+        0x22 => 1,
+        0x24 => 2,
+        0x25 => 2,
+        0x30 | 0x32 => 4,
+        0x31 => 4,
+        0x33 => 4,
+        0x34 | 0x37 => 3,
+        0x35 => 6,
+        0x36 => 6,
         0x39 => 5,
+        0x40 => 2,
+        0x41 => 1,
+        0x42 => 3,
+        0x43 => 3,
+        0x44 => 2,
+        0x45 => 2,
+        0x46 => 2,
+        0x47 => 1,
         _ => 0,
     }
 }
