@@ -5,8 +5,7 @@ use mathlib.Core.List.{List, [], ◌∷◌, ◌++◌, append_assoc, append-nil}
 use native.Mathlib.Numerals.{add-one}
 use native.Mathlib.Omega.{arith}
 use lib.ListN.{length, set, take, drop, length-set, length-append, length-drop, drop_of_length-le}
-use lib.Seq.{paste, sets, sets-eq, drop-drop, take-take, take_all, length-take-le, drop_at, take-append_seam, drop-set-lt, drop-set-add, take-set-le}
-use Rattle.std.proofs.lemmas.List.{drop-take}
+use lib.Seq.{paste, sets, sets-eq, drop-drop, take_all, length-take-le, drop_at, take-append_seam, drop-set-lt, drop-set-add, take-set-le}
 use Rattle.memory.specs.Inner.Laid.{laid, Writes}
 
 pub laid_nil : (out : List ℕ) (at : ℕ) → laid out at [] ≡ out
@@ -39,12 +38,6 @@ laid_paste out at bs n fits few =
     append_assoc (take at out) (take n bs) (drop (at + n) out)
     ∙ ap (λ (i : ℕ). take at out ++ (take n bs ++ drop (at + i) out)) (sym k)
     ∙ sym (laid_is out at (take n bs) (omega arith))
-
--- What ends before a place is the same in the part before it.
-pub within_front : (out : List ℕ) (from n at : ℕ) → from + n ≤ at → take n (drop from (take at out)) ≡ take n (drop from out)
-within_front out from n at h =
-    let s : at ≡ from + (at - from) = omega arith in
-    ap (λ (k : ℕ). take n (drop from (take k out))) s ∙ ap (take n) (drop-take from (at - from) out) ∙ take-take n (at - from) (drop from out) (omega arith)
 
 -- The part from a place on was lent, written from its start on, and comes back.
 pub part_laid : (xs ys : List ℕ) (p : ℕ) (bs : List ℕ) → p + length bs ≤ length xs → ys ≡ laid (take (length xs - p) (drop p xs)) 0 bs

@@ -19,8 +19,7 @@ pub fn copy(out: &mut [u8], from: usize, at: usize, count: usize) -> usize
     requires { (from + count ≤ at) × (at + count ≤ length out.old) }
     ensures { Writes out.old at (take count (drop from out.old)) result out.new }
 {
-    let (front, back) = out.split_at_mut(at);
-    back[..count].copy_from_slice(&front[from..from + count]);
+    out.copy_within(from..from + count, at);
     at + count
 }
 
