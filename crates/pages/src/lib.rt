@@ -253,7 +253,8 @@ pub fn gaps_of(s: &[u8], templates: &Templates) -> [u64; 32]
     table
 }
 
-// What lists of items are read in: bytes, of which kind they are, and the set of elements that have a rule.
+// What lists of items are read in: bytes, of which kind they are, and the set of elements that have a rule. Its methods take it by value: lent,
+// it would be loaded anew for every item.
 #[derive(Clone, Copy)]
 struct Reading<'a> {
     kind: Kind,
@@ -264,8 +265,8 @@ struct Reading<'a> {
 impl<'a> Reading<'a> {
     // A list of items below `depth` open elements, up to and with what ends it.
     #[cycle(read_item_read_items)]
-    fn read_items(&self, here: Position, depth: usize) -> Result<Position, ReadError>
-        ensures { ItemsRead self.now.kind (member self.now.declared) self.now.s.now depth here.at result }
+    fn read_items(self, here: Position, depth: usize) -> Result<Position, ReadError>
+        ensures { ItemsRead self.entry.kind (member self.entry.declared) self.entry.s.now depth here.at result }
     {
         let end = end_of(depth);
         let mut p = here;
@@ -279,8 +280,8 @@ impl<'a> Reading<'a> {
 
     // Text, blank text, a gap, or an element with its attributes and contents.
     #[cycle(read_item_read_items)]
-    fn read_item(&self, here: Position, depth: usize) -> Result<Position, ReadError>
-        ensures { ItemRead self.now.kind (member self.now.declared) self.now.s.now depth here.at result }
+    fn read_item(self, here: Position, depth: usize) -> Result<Position, ReadError>
+        ensures { ItemRead self.entry.kind (member self.entry.declared) self.entry.s.now depth here.at result }
     {
         let d = here.item_command(self.s, self.kind.allowed().items);
         let Decoded::Moved(code, next) = d else {
@@ -306,8 +307,8 @@ impl<'a> Reading<'a> {
     }
 
     // The attributes straight after `23 e`: none is named twice.
-    fn read_attributes(&self, here: Position) -> Result<Position, ReadError>
-        ensures { AttributesRead self.now.kind self.now.s.now [] here.at result }
+    fn read_attributes(self, here: Position) -> Result<Position, ReadError>
+        ensures { AttributesRead self.entry.kind self.entry.s.now [] here.at result }
     {
         let context = self.kind.allowed().attributes;
         let mut seen: u64 = 0;

@@ -12,7 +12,7 @@ use Rattle.pages.proofs.Reading.+read_item_read_items.Goals as goal
 
 pub read_item-item_command-d-requires : goal.read_item-item_command-d-requires
 read_item-item_command-d-requires t c =
-    rw c.allowed.ensures.items (item_permitted c.args.self.now.kind)
+    rw c.allowed.ensures.items (item_permitted c.args.self.kind)
 
 pub read_item-returns-in_default : goal.read_item-returns-in_default
 read_item-returns-in_default t c = search item_refused
@@ -40,7 +40,7 @@ read_item-overflow_add-depth t c =
 
 pub read_item-read_items-requires : goal.read_item-read_items-requires
 read_item-read_items-requires t c =
-    let stands : command c.allowed.result.items c.args.self.now.s.now c.args.here.at ≡ Moved c.in-Moved.code c.in-Moved.next = sym c.item_command-d.ensures ∙ c.in-Moved.is in
+    let stands : command c.allowed.result.items c.args.self.s.now c.args.here.at ≡ Moved c.in-Moved.code c.in-Moved.next = sym c.item_command-d.ensures ∙ c.in-Moved.is in
     let m = moved _ _ _ _ _ stands in
     let i = attributes_onward _ _ _ _ _ _ c.in_ok-inside.was c.read_attributes.ensures m.inside in
     (omega (arith, i, m.forward), tt)

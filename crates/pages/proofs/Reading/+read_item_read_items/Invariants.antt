@@ -10,10 +10,10 @@ use Rattle.pages.specs.Inner.Promises.{ItemsRead}
 use Rattle.pages.proofs.Reading.+read_item_read_items.Given as goal
 
 abbrev pub decreases-read_item : goal.decreases-read_item
-decreases-read_item l = (length l.self.now.s.now - l.here.at) + (length l.self.now.s.now - l.here.at)
+decreases-read_item l = (length l.self.s.now - l.here.at) + (length l.self.s.now - l.here.at)
 
 abbrev pub decreases-read_items : goal.decreases-read_items
-decreases-read_items l = (length l.self.now.s.now - l.here.at) + (length l.self.now.s.now - l.here.at) + 1
+decreases-read_items l = (length l.self.s.now - l.here.at) + (length l.self.s.now - l.here.at) + 1
 
 abbrev pub invariant-read_items-loop-next : goal.invariant-read_items-loop-next
 invariant-read_items-loop-next l = (l.initial.p.at ≤ l.p.at) × ((r : Result Position ReadError) → ItemsRead l.self.kind (member l.self.declared) l.self.s.now l.depth l.p.at r → ItemsRead l.self.kind (member l.self.declared) l.self.s.now l.depth l.initial.p.at r)

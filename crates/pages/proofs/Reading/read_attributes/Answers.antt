@@ -16,7 +16,7 @@ unfolding is_in
 loop-context-init c = ([], member_zero, λ k e r h. h)
 
 pub attribute_command-d-requires : goal.attribute_command-d-requires
-attribute_command-d-requires c = rw c.allowed-context.ensures.attributes (string_permitted c.args.self.now.kind)
+attribute_command-d-requires c = rw c.allowed-context.ensures.attributes (string_permitted c.args.self.kind)
 
 pub returns-in_default : goal.returns-in_default
 returns-in_default c = c.loop-context.invariant.2 _ c.allowed-context.ensures.attributes _
@@ -24,15 +24,15 @@ returns-in_default c = c.loop-context.invariant.2 _ c.allowed-context.ensures.at
 
 pub has-requires : goal.has-requires
 has-requires c =
-    let stands : command c.allowed-context.result.attributes c.args.self.now.s.now c.loop-context.p.at ≡ Moved c.in-Moved.field-0 c.in-Moved.next = sym c.attribute_command-d.ensures ∙ c.in-Moved.is in
-    let most = attribute_range c.args.self.now.kind _ _ _ _ (rw c.allowed-context.ensures.attributes at stands) in
+    let stands : command c.allowed-context.result.attributes c.args.self.s.now c.loop-context.p.at ≡ Moved c.in-Moved.field-0 c.in-Moved.next = sym c.attribute_command-d.ensures ∙ c.in-Moved.is in
+    let most = attribute_range c.args.self.kind _ _ _ _ (rw c.allowed-context.ensures.attributes at stands) in
     omega (arith, c.operand-name.ensures)
 
 pub loop-context-preserved : goal.loop-context-preserved
 unfolding is_in
 loop-context-preserved c =
     let inv = c.loop-context.invariant in (
-      byte c.args.self.now.s.now (c.loop-context.p.at + 1) ∷ inv.0,
+      byte c.args.self.s.now (c.loop-context.p.at + 1) ∷ inv.0,
       λ a. c.with-seen.ensures a ∙ rw (c.operand-name.ensures, inv.1 a),
       λ k is r h. inv.2 k is r (attributes_next _ _ is _ _ _ _ inv.1 _ c.byte_at.ensures _ c.is_allowed.ensures c.loop-context-test.true
           _ c.attribute_command-d.ensures _ _ c.in-Moved.is _ c.operand-name.ensures _ c.has.ensures c.if-has.false r h),
@@ -45,13 +45,13 @@ returns-then-has c = c.loop-context.invariant.2 _ c.allowed-context.ensures.attr
 
 pub with-seen-requires : goal.with-seen-requires
 with-seen-requires c =
-    let stands : command c.allowed-context.result.attributes c.args.self.now.s.now c.loop-context.p.at ≡ Moved c.in-Moved.field-0 c.in-Moved.next = sym c.attribute_command-d.ensures ∙ c.in-Moved.is in
-    let most = attribute_range c.args.self.now.kind _ _ _ _ (rw c.allowed-context.ensures.attributes at stands) in
+    let stands : command c.allowed-context.result.attributes c.args.self.s.now c.loop-context.p.at ≡ Moved c.in-Moved.field-0 c.in-Moved.next = sym c.attribute_command-d.ensures ∙ c.in-Moved.is in
+    let most = attribute_range c.args.self.kind _ _ _ _ (rw c.allowed-context.ensures.attributes at stands) in
     omega (arith, c.operand-name.ensures)
 
 pub loop-context-smaller : goal.loop-context-smaller
 loop-context-smaller c =
-    let stands : command c.allowed-context.result.attributes c.args.self.now.s.now c.loop-context.p.at ≡ Moved c.in-Moved.field-0 c.in-Moved.next = sym c.attribute_command-d.ensures ∙ c.in-Moved.is in
+    let stands : command c.allowed-context.result.attributes c.args.self.s.now c.loop-context.p.at ≡ Moved c.in-Moved.field-0 c.in-Moved.next = sym c.attribute_command-d.ensures ∙ c.in-Moved.is in
     let m = moved _ _ _ _ _ stands in
     omega (arith, m.forward, m.inside)
 
