@@ -12,6 +12,8 @@ use Rattle.summaries.specs.Summaries.{Summary}
 use Rattle.graphs.specs.Inner.Graphs.{holds, Keeps}
 use Rattle.patterns.specs.Inner.Rounds.{any_below}
 use Rattle.sets.proofs.Laws.{member_zero}
+use Rattle.sets.proofs.Booleans.{and_both, and_left, and_right, alike}
+use Rattle.patterns.proofs.Tests.{any_below_lem, below_any}
 use Rattle.reach.specs.Inner.Promises.{edges_by, EdgeTable}
 use Rattle.reach.proofs.Filling.{Filled}
 
@@ -37,9 +39,21 @@ module _ (graph : List ℕ) (n gaps : ℕ) where
   pub edges_past : (g all : ℕ) → member gaps g ≡ false → EdgesTo g all → EdgesTo (g + 1) all
   edges_past g all absent so_far G keeps m = so_far G keeps m ∙ sym (one_more g (λ k. member gaps k && G (edge n k m)) ∙ rw absent refl)
 
-  -- Those of all gaps.
-  pub edges_by_lem : (r : ℕ) → EdgesTo 8 r → (G : Summary) → Keeps graph G → (m : ℕ) → member r m ≡ edges_by G n gaps m
-  edges_by_lem r h = h
+  -- Those of all gaps: what every gap of the set leads to, and nothing else.
+  pub edges_by_lem : n < 32 → (r : ℕ) → ((g k : ℕ) → g < 8 → member gaps g ≡ true → holds graph (edge n g k) ≡ true → member r k ≡ true)
+      → ((k : ℕ) → member r k ≡ true → (g : ℕ) × (g < 8) × (member gaps g ≡ true) × (holds graph (edge n g k) ≡ true))
+      → (G : Summary) → Keeps graph G → (m : ℕ) → member r m ≡ edges_by G n gaps m
+  edges_by_lem low r adds no_other G keeps m = alike (member r m) (edges_by G n gaps m) to back
+    where
+      to : member r m ≡ true → edges_by G n gaps m ≡ true
+      to e =
+          let (i, l, held, t) = no_other m e in
+          any_below_lem 8 (λ k. member gaps k && G (edge n k m)) i l (and_both _ _ held (keeps.same (edge n i m) (low, l) ∙ t))
+
+      back : edges_by G n gaps m ≡ true → member r m ≡ true
+      back e =
+          let (i, l, p) = below_any 8 (λ k. member gaps k && G (edge n k m)) e in
+          adds i m l (and_left (member gaps i) (G (edge n i m)) p) (sym (keeps.same (edge n i m) (low, l)) ∙ and_right (member gaps i) (G (edge n i m)) p)
 
 -- The edges from a template, of those to templates of a set.
 abbrev pub EdgesAt : Summary → List ℕ → ℕ → ℕ → ℕ → Type 0
