@@ -8,7 +8,6 @@ use Rattle.verdicts.specs.declared.Cover.TheVariants.{Start, Step}
 use Rattle.verdicts.specs.declared.Refusal.{Refusal}
 use Rattle.verdicts.specs.declared.Verdict.{Verdict}
 use Rattle.verdicts.specs.declared.Verdict.TheVariants.{Refused}
-use Rattle.verdicts.specs.Printed as printed
 use Rattle.verdicts.specs.Printed.{cover_numbers, numbers_of}
 use Rattle.commands.specs.declared.Position.{Position}
 use Rattle.commands.specs.declared.ReadError.{ReadError}
@@ -19,6 +18,7 @@ use Rattle.jobs.specs.declared.ScriptRead.{ScriptRead}
 use Rattle.jobs.specs.Job.{Script, Job, job}
 use Rattle.jobs.specs.Inner.Promises.{JobKept, JobReads}
 use Rattle.jobs.specs.JobVerdict.{AllCovered, ScriptVerdict, start_uncovered, step_uncovered, JobVerdict, unreadable, readable}
+use Rattle.jobs.proofs.Told.{unreadable_at}
 use Rattle.pages.specs.Inner.Gaps.{GapsTable}
 use Rattle.covering.specs.Inner.Promises.{Covers}
 use Rattle.covering.proofs.Laws.{tables_of}
@@ -55,7 +55,7 @@ module _ (s : List ℕ) (j : Job) (end : ℕ) (reads : job s ≡ whole j end) wh
       }
 
 -- 1 to 8.
-pub refused : (s heads : List ℕ) (r : Result (ScriptRead × Position) ReadError) → JobReads s heads r → (e : ReadError) → r ≡ Err e → (f : Refusal) → f ≡ printed.unreadable e.form e.at 0
+pub refused : (s heads : List ℕ) (r : Result (ScriptRead × Position) ReadError) → JobReads s heads r → (e : ReadError) → r ≡ Err e → (f : Refusal) → f ≡ unreadable_at 0 e
     → JobVerdict s (numbers_of (Refused f))
 refused s heads r h e q f is = rw is (unreadable (agrees_with_refuses (JobKept s heads) (job s) r e q h))
 

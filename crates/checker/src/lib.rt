@@ -44,13 +44,13 @@ fn is_right(right: &Option<Graph>, graph: &Graph) -> bool
 // Each show in turn, the lowest point first. A show of the graph that was found right last is right as well.
 fn first_fault(
     s: &[u8],
-    vocabulary: Tables,
-    tables: TemplateTables,
+    vocabulary: &Tables,
+    tables: &TemplateTables,
     templates: &Templates,
     points: &Points,
     heads: &[usize; 256],
 ) -> Result<(), Refusal>
-    ensures { (j : Job) → ReadAt s.now vocabulary tables templates.now.count templates.now.starts points.now.count points.now.places heads.now j → AllCovered j.script (entries j.proposal) → ScriptVerdict j.script (entries j.proposal) (numbers_of (verdict_of result)) }
+    ensures { (j : Job) → ReadAt s.now vocabulary.now tables.now templates.now.count templates.now.starts points.now.count points.now.places heads.now j → AllCovered j.script (entries j.proposal) → ScriptVerdict j.script (entries j.proposal) (numbers_of (verdict_of result)) }
 {
     let mut right: Option<Graph> = None;
     for p in 0..points.count {
@@ -71,24 +71,31 @@ fn first_fault(
 }
 
 // The verdict of a job that was read: 9 and 10, then the shows.
-fn check_read(s: &[u8], heads: &[usize; 256], read: ScriptRead) -> Result<(), Refusal>
-    ensures { (j : Job) (end : ℕ) → job s.now ≡ whole j end → JobKept s.now heads.now j read → ScriptVerdict j.script (entries j.proposal) (numbers_of (verdict_of result)) }
+fn check_read(s: &[u8], heads: &[usize; 256], read: &ScriptRead) -> Result<(), Refusal>
+    ensures { (j : Job) (end : ℕ) → job s.now ≡ whole j end → JobKept s.now heads.now j read.now → ScriptVerdict j.script (entries j.proposal) (numbers_of (verdict_of result)) }
 {
     let gaps = pages::gaps_of(s, &read.templates);
     covering::first_uncovered(s, &gaps, &read.points, heads).map_err(Refusal::Cover)?;
     let tables = shows::tables_of(s, gaps, &read.templates);
-    first_fault(s, read.tables, tables, &read.templates, &read.points, heads)
+    first_fault(
+        s,
+        &read.tables,
+        &tables,
+        &read.templates,
+        &read.points,
+        heads,
+    )
 }
 
-// The verdict of a job: 1 to 8 where it cannot be read.
+// The verdict of a job: 1 to 8 where it cannot be read. What was read is lent on; through `map_err` and `?` it would be copied.
 fn check_job(job: &[u8]) -> Result<(), Refusal>
     ensures { JobVerdict job.now (numbers_of (verdict_of result)) }
 {
     let mut heads = [0usize; 256];
-    let (read, _) = jobs::read_job(job, &mut heads).map_err(|e| verdicts::unreadable(
-        e.form, e.at, 0,
-    ))?;
-    check_read(job, &heads, read)
+    match jobs::read_job(job, &mut heads) {
+        Ok((read, _)) => check_read(job, &heads, &read),
+        Err(e) => Err(verdicts::unreadable(e.form, e.at, 0)),
+    }
 }
 
 // The verdict of a job. Acceptance means that every run of it, over any list of choices, shows only right pages, whatever its

@@ -341,17 +341,18 @@ fn search_rule(
 // All clauses of all rules, for the templates that are reached; `standing` has the templates in which each element stands.
 pub fn search_rules(
     s: &[u8],
-    vocabulary: Tables,
+    vocabulary: &Tables,
     standing: &[u64; 64],
     graph: &Graph,
     templates: &Templates,
     reached: u64,
 ) -> Option<Wrong>
-    ensures { SearchesRules s.now vocabulary.declared vocabulary.rules standing.now graph.now templates.now.starts templates.now.count reached result }
+    ensures { SearchesRules s.now vocabulary.now.declared vocabulary.now.rules standing.now graph.now templates.now.starts templates.now.count reached result }
 {
+    let declared = vocabulary.declared;
     let mut lowest = None;
     for e in 0..64 {
-        if sets::has(vocabulary.declared, e as u8) {
+        if sets::has(declared, e as u8) {
             let chosen = sets::common(reached, standing[e]);
             let from = vocabulary.rules[e].clauses;
             let found = search_rule(s, e as u8, from, graph, templates, chosen);

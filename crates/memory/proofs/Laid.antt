@@ -1,16 +1,20 @@
 -- Bytes laid into a buffer: writers in sequence, what a caller reads off, the part of a buffer that was lent, and bytes that are copied.
-use Prim.Native.Nat.{ℕ, suc, ◌+◌, ◌-◌, ◌≤◌}
+use Prim.Native.Nat.{ℕ, suc, ◌+◌, ◌-◌, ◌≤◌, ◌<◌}
 use mathlib.Core.Path.{◌≡◌, refl, sym, ap, ◌∙◌}
 use mathlib.Core.List.{List, [], ◌∷◌, ◌++◌, append_assoc, append-nil}
 use native.Mathlib.Numerals.{add-one}
 use native.Mathlib.Omega.{arith}
-use lib.ListN.{length, set, take, drop, length-set, length-append, length-drop, drop_of_length-le}
-use lib.Seq.{paste, sets, sets-eq, drop-drop, take_all, length-take-le, drop_at, take-append_seam, drop-set-lt, drop-set-add, take-set-le}
+use lib.ListN.{length, get_or, set, take, drop, length-set, length-append, length-drop, drop_of_length-le}
+use lib.Seq.{paste, sets, sets-eq, drop-drop, take_all, take-suc, length-take-le, drop_at, take-append_seam, drop-set-lt, drop-set-add, take-set-le, get_or-take, get_or-drop}
 use Rattle.memory.specs.Inner.Laid.{laid, Writes}
 
 pub laid_nil : (out : List ℕ) (at : ℕ) → laid out at [] ≡ out
 unfolding laid
 laid_nil out at = refl
+
+pub laid_one : (out : List ℕ) (at b : ℕ) → set out at b ≡ laid out at (b ∷ [])
+unfolding laid
+laid_one out at b = refl
 
 pub laid_length : (out : List ℕ) (at : ℕ) (bs : List ℕ) → length (laid out at bs) ≡ length out
 unfolding laid
@@ -94,3 +98,39 @@ laid_before out at (b ∷ bs) k n h =
     ∙ ap (λ (i : ℕ). take n (drop k (set out i b))) s
     ∙ ap (take n) (drop-set-add k out (at - k) b)
     ∙ take-set-le n (drop k out) (at - k) b (omega arith)
+
+-- ---- bytes that are copied further up
+
+laid_byte : (out : List ℕ) (at : ℕ) (bs : List ℕ) (k : ℕ) → k < at → get_or (laid out at bs) k 0 ≡ get_or out k 0
+laid_byte out at bs k l = sym (alone (laid out at bs)) ∙ ap (λ (xs : List ℕ). get_or xs 0 0) (laid_before out at bs k 1 (omega arith)) ∙ alone out
+  where
+    alone : (xs : List ℕ) → get_or (take 1 (drop k xs)) 0 0 ≡ get_or xs k 0
+    alone xs = let e : k + 0 ≡ k = omega arith in get_or-take 1 (drop k xs) 0 0 (omega arith) ∙ get_or-drop k xs 0 0 ∙ ap (λ (i : ℕ). get_or xs i 0) e
+
+-- One more after what was laid.
+laid_snoc : (out : List ℕ) (at : ℕ) (bs : List ℕ) (i : ℕ) → i < length bs → set (laid out at (take i bs)) (at + i) (get_or bs i 0) ≡ laid out at (take (i + 1) bs)
+laid_snoc out at bs i h =
+    let n : length (take i bs) ≡ i = length-take-le i bs (omega arith) in
+    let s : take (i + 1) bs ≡ take i bs ++ (get_or bs i 0 ∷ []) = rw (add-one i) (take-suc bs i 0 h) in
+    laid_one (laid out at (take i bs)) (at + i) (get_or bs i 0)
+    ∙ ap (λ (k : ℕ). laid (laid out at (take i bs)) (at + k) (get_or bs i 0 ∷ [])) (sym n)
+    ∙ laid_append out at (take i bs) (get_or bs i 0 ∷ [])
+    ∙ ap (laid out at) (sym s)
+
+module _ (out : List ℕ) (from at count : ℕ) where
+  -- The first bytes are copied.
+  abbrev pub Copied : ℕ → List ℕ → Type 0
+  Copied i half = half ≡ laid out at (take i (drop from out))
+
+  pub copied_none : Copied 0 out
+  copied_none = sym (laid_nil out at)
+
+  module _ (below : from + count ≤ at) (fits : at + count ≤ length out) where
+    pub copied_more : (i : ℕ) (half : List ℕ) → i < count → Copied i half → Copied (i + 1) (set half (at + i) (get_or half (from + i) 0))
+    copied_more i half l e =
+        let byte : get_or half (from + i) 0 ≡ get_or (drop from out) i 0 = ap (λ (xs : List ℕ). get_or xs (from + i) 0) e ∙ laid_byte out at (take i (drop from out)) (from + i) (omega arith) ∙ sym (get_or-drop from out i 0) in
+        rw (byte, e) (laid_snoc out at (drop from out) i (omega (arith, length-drop from out)))
+
+    pub copied_all : (i : ℕ) (half : List ℕ) → i ≡ count → Copied i half → Writes out at (take count (drop from out)) (at + count) half
+    copied_all i half s e =
+        (omega (arith, length-take-le count (drop from out) (omega (arith, length-drop from out))), e ∙ ap (λ (k : ℕ). laid out at (take k (drop from out))) s)

@@ -14,12 +14,15 @@ pub fn put(out: &mut [u8], at: usize, bytes: &[u8]) -> usize
     next
 }
 
-// Bytes that stand before an offset are stored again from it on; the next offset.
+// Bytes that stand before an offset are stored again from it on, one by one, which takes less time than the library's `copy_within`; the next
+// offset.
 pub fn copy(out: &mut [u8], from: usize, at: usize, count: usize) -> usize
     requires { (from + count ≤ at) × (at + count ≤ length out.old) }
     ensures { Writes out.old at (take count (drop from out.old)) result out.new }
 {
-    out.copy_within(from..from + count, at);
+    for i in 0..count {
+        out[at + i] = out[from + i];
+    }
     at + count
 }
 

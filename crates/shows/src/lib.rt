@@ -158,13 +158,13 @@ fn lowest_root(roots: u64, classes: [[u64; 4]; 32], count: usize) -> Option<usiz
 // 12, 14 or 15: the lowest wrong element. Its attributes and contents are told before its clauses.
 fn wrong_elements(
     s: &[u8],
-    vocabulary: Tables,
-    tables: TemplateTables,
+    vocabulary: &Tables,
+    tables: &TemplateTables,
     templates: &Templates,
     graph: &Graph,
     classes: [[u64; 4]; 32],
 ) -> Option<Wrong>
-    ensures { WrongElements s.now vocabulary tables templates.now.count templates.now.starts graph.now classes result }
+    ensures { WrongElements s.now vocabulary.now tables.now templates.now.count templates.now.starts graph.now classes result }
 {
     let count = templates.count;
     let yields = reach::yielding(classes, count);
@@ -185,12 +185,12 @@ fn wrong_elements(
 // What is wrong in the show of a graph, 11 before a wrong element.
 pub fn decide(
     s: &[u8],
-    vocabulary: Tables,
-    tables: TemplateTables,
+    vocabulary: &Tables,
+    tables: &TemplateTables,
     templates: &Templates,
     graph: &Graph,
 ) -> Result<(), WrongShow>
-    ensures { DecidesShow s.now vocabulary tables templates.now.count templates.now.starts graph.now result }
+    ensures { DecidesShow s.now vocabulary.now tables.now templates.now.count templates.now.starts graph.now result }
 {
     if MOST_TEMPLATES < templates.count {
         return Ok(());

@@ -1,19 +1,16 @@
--- The bytes copied are those that stand from the first offset on.
-use mathlib.Core.Path.{ap, ◌∙◌}
 use native.Mathlib.Omega.{arith}
-use Prim.Native.Nat.{◌+◌, ◌-◌, ◌≤◌}
-use mathlib.Core.Path.{◌≡◌}
-use lib.ListN.{length, drop, length-drop}
-use lib.Seq.{paste, length-take-le}
-use Rattle.memory.proofs.Laid.{laid_paste}
+use Rattle.memory.proofs.Laid.{copied_none, copied_more, copied_all}
 use Rattle.memory.proofs.copy.Goals as goal
 
+pub loop-i-init : goal.loop-i-init
+loop-i-init c = copied_none c.args.out.now c.args.from c.args.at c.args.count
+
+pub loop-i-preserved : goal.loop-i-preserved
+loop-i-preserved c =
+    let args = c.args in
+    copied_more args.out.now args.from args.at args.count c.requires.0 c.requires.1 c.loop-i.i c.loop-i.out c.loop-i-test.true c.loop-i.invariant
+
 pub returns : goal.returns
-returns c = let out = c.args.out.now in
-    let from = c.args.from in
-    let n = c.args.count in
-    let few : n ≤ length (drop from out) = omega (arith, length-drop from out, c.requires) in
-    let e : from + n - from ≡ n = omega arith in (
-      omega (arith, length-take-le n (drop from out) few),
-      c.copy_within.ensures.after ∙ ap (paste out c.args.at (drop from out)) e ∙ laid_paste out c.args.at (drop from out) n c.requires.1 few,
-    )
+returns c =
+    let args = c.args in
+    copied_all args.out.now args.from args.at args.count c.requires.0 c.requires.1 c.loop-i.i c.loop-i.out (omega arith) c.loop-i.invariant
