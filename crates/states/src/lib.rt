@@ -72,12 +72,17 @@ pub fn values_at(work: &[u64], p: usize, y: usize) -> Values
     Values::Named(strings::of_number(work[first]))
 }
 
-// Whether the words from two places on are the same.
+// Whether the words from two places on are the same. Their differences are gathered without an early exit: many can be compared at once, which
+// takes less time than `==` of slices.
 fn same_words(work: &[u64], a: usize, b: usize, count: usize) -> bool
     requires { (a + count ≤ length work.now) × (b + count ≤ length work.now) }
     ensures { result ≡ true → take count (drop a work.now) ≡ take count (drop b work.now) }
 {
-    work[a..a + count] == work[b..b + count]
+    let mut differences: u64 = 0;
+    for i in 0..count {
+        differences = differences | (work[a + i] ^ work[b + i]);
+    }
+    differences == 0
 }
 
 // Whether the words of a variable's entry are the same at two points: then the same is held there. Variables 4 to 7 are the string variables.
