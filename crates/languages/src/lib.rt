@@ -170,14 +170,14 @@ pub struct Patterned {
     pub next: Position,
 }
 
-// What the sets of items of template n are worked out with: a scheme, and what each gap takes.
+// What the sets of items of template n are worked out with: a scheme. What each gap takes is lent beside it: as a field it would be copied
+// for every template of every round.
 #[derive(Clone, Copy)]
 struct Walk<'a> {
     s: &'a [u8],
     r: Scheme,
     graph: &'a Graph,
     n: usize,
-    takes: &'a [[u64; 4]; 8],
     ghost there: { n < 32 },
 }
 
@@ -185,10 +185,10 @@ impl Walk<'_> {
     // The set of the element e whose attributes stand here: that of its one content, if its attributes have something to take and the list
     // inside it has a pattern.
     #[cycle(element_patterns_list_patterns)]
-    fn element_patterns(&self, here: Position, e: u8) -> Patterned
+    fn element_patterns(&self, takes: &[[u64; 4]; 8], here: Position, e: u8) -> Patterned
         requires { e < 64 }
         ensures forward { here.at ≤ result.next.at }
-        ensures patterned { ElementPatterns self.now.s.now here.at e self.now.r self.now.graph.now self.now.n self.now.takes.now result }
+        ensures patterned { ElementPatterns self.now.s.now here.at e self.now.r self.now.graph.now self.now.n takes.now result }
     {
         let filled = attributes_take(self.s, here, self.graph, self.n);
         let after = filled.next;
@@ -198,7 +198,7 @@ impl Walk<'_> {
                 next: after,
             };
         }
-        let inside = self.list_patterns(after);
+        let inside = self.list_patterns(takes, after);
         let set = inside.set;
         if pattern_sets::is_empty(set) {
             return inside;
@@ -212,14 +212,16 @@ impl Walk<'_> {
     // The set of the items from here on, up to what ends them: the product of the sets of the items, from what its gaps take. As soon as an
     // item has no pattern, the list has none.
     #[cycle(element_patterns_list_patterns)]
-    fn list_patterns(&self, start: Position) -> Patterned
+    fn list_patterns(&self, takes: &[[u64; 4]; 8], start: Position) -> Patterned
         ensures forward { start.at ≤ result.next.at }
-        ensures patterned { ListPatterns self.now.s.now start.at self.now.r self.now.graph.now self.now.n self.now.takes.now result }
+        ensures patterned { ListPatterns self.now.s.now start.at self.now.r self.now.graph.now self.now.n takes.now result }
     {
+        // Held apart from `self`, whose fields each text would load anew.
+        let s = self.s;
         let mut line = line_of(pattern_sets::only(EMPTY));
         let mut here = start;
         loop {
-            match pages::item_here(self.s, here) {
+            match pages::item_here(s, here) {
                 ItemHere::Text(next) => {
                     here = next;
                     if sets::has(line.contents, TEXT) {
@@ -230,7 +232,7 @@ impl Walk<'_> {
                 ItemHere::Gap(g, next) => {
                     here = next;
                     if sets::has(line.gaps, g) {
-                        let longer = with_gap(self.r, line, self.takes, g);
+                        let longer = with_gap(self.r, line, takes, g);
                         let set = longer.set;
                         if pattern_sets::is_empty(set) {
                             return Patterned { set, next };
@@ -239,7 +241,7 @@ impl Walk<'_> {
                     }
                 }
                 ItemHere::Element(e, inside) => {
-                    let element = self.element_patterns(inside, e);
+                    let element = self.element_patterns(takes, inside, e);
                     let set = element.set;
                     if pattern_sets::is_empty(set) {
                         return element;
@@ -320,9 +322,8 @@ impl Settler<'_> {
             r: self.r,
             graph: self.graph,
             n,
-            takes: &takes,
         };
-        walk.list_patterns(Position::new(self.templates.starts[n]))
+        walk.list_patterns(&takes, Position::new(self.templates.starts[n]))
             .set
     }
 

@@ -9,17 +9,17 @@ use Rattle.languages.proofs.Walk.+element_patterns_list_patterns.Goals as goal
 
 pub element_patterns-returns-then-not-filled : goal.element_patterns-returns-then-not-filled
 element_patterns-returns-then-not-filled t c = let a = c.args in
-    record { forward = c.attributes_take-filled.ensures.forward; patterned = unfilled _ _ a.e a.self.now.r _ _ a.self.now.takes.now c.attributes_take-filled.result c.attributes_take-filled.ensures.filled (not-true _ c.if-not-filled.true) _ c.empty.ensures }
+    record { forward = c.attributes_take-filled.ensures.forward; patterned = unfilled _ _ a.e a.self.now.r _ _ a.takes.now c.attributes_take-filled.result c.attributes_take-filled.ensures.filled (not-true _ c.if-not-filled.true) _ c.empty.ensures }
 
 pub element_patterns-returns-then-is_empty : goal.element_patterns-returns-then-is_empty
 element_patterns-returns-then-is_empty t c = let a = c.args in
-    record { forward = omega (arith, c.attributes_take-filled.ensures.forward, c.list_patterns-inside.ensures.forward); patterned = stuck _ _ a.e a.self.now.r _ _ a.self.now.takes.now c.attributes_take-filled.result c.attributes_take-filled.ensures.filled c.list_patterns-inside.result c.list_patterns-inside.ensures.patterned c.is_empty.result c.is_empty.ensures c.if-is_empty.true }
+    record { forward = omega (arith, c.attributes_take-filled.ensures.forward, c.list_patterns-inside.ensures.forward); patterned = stuck _ _ a.e a.self.now.r _ _ a.takes.now c.attributes_take-filled.result c.attributes_take-filled.ensures.filled c.list_patterns-inside.result c.list_patterns-inside.ensures.patterned c.is_empty.result c.is_empty.ensures c.if-is_empty.true }
 
 pub element_patterns-returns : goal.element_patterns-returns
 element_patterns-returns t c = let a = c.args in
     record {
       forward = omega (arith, c.attributes_take-filled.ensures.forward, c.list_patterns-inside.ensures.forward);
-      patterned = full _ _ a.e a.self.now.r _ _ a.self.now.takes.now c.attributes_take-filled.result c.attributes_take-filled.ensures.filled c.list_patterns-inside.result c.list_patterns-inside.ensures.patterned c.is_empty.result c.is_empty.ensures c.if-is_empty.false (not-false _ c.if-not-filled.false)
+      patterned = full _ _ a.e a.self.now.r _ _ a.takes.now c.attributes_take-filled.result c.attributes_take-filled.ensures.filled c.list_patterns-inside.result c.list_patterns-inside.ensures.patterned c.is_empty.result c.is_empty.ensures c.if-is_empty.false (not-false _ c.if-not-filled.false)
           _ c.single.ensures _ c.only.ensures;
     }
 
@@ -52,7 +52,7 @@ pub list_patterns-returns-then-is_empty : goal.list_patterns-returns-then-is_emp
 list_patterns-returns-then-is_empty t c = let q = c.in-Gap.is in
     record {
       forward = omega (arith, c.loop-next.invariant.forward, (gap_moves _ _ _ c.item_here.ensures.moves _ _ q).0.forward);
-      patterned = list_had _ _ _ _ c.args.self.now.takes.now _ _ (list_none _ _ _ _ _ _ _ _ _ _ c.loop-next.invariant _ c.item_here.ensures.is _ _ q c.with_gap-longer.result c.with_gap-longer.ensures c.is_empty.result c.if-is_empty.true c.is_empty.ensures _ refl);
+      patterned = list_had _ _ _ _ c.args.takes.now _ _ (list_none _ _ _ _ _ _ _ _ _ _ c.loop-next.invariant _ c.item_here.ensures.is _ _ q c.with_gap-longer.result c.with_gap-longer.ensures c.is_empty.result c.if-is_empty.true c.is_empty.ensures _ refl);
     }
 
 pub list_patterns-loop-next-smaller-then-has-2 : goal.list_patterns-loop-next-smaller-then-has-2
@@ -81,7 +81,7 @@ pub list_patterns-returns-then-is_empty-2 : goal.list_patterns-returns-then-is_e
 list_patterns-returns-then-is_empty-2 t c = let q = c.in-Element.is in
     record {
       forward = omega (arith, c.loop-next.invariant.forward, (element_moves _ _ _ c.item_here.ensures.moves _ _ q).0.forward, c.element_patterns-element.ensures.forward);
-      patterned = list_had _ _ _ _ c.args.self.now.takes.now _ _ (list_nothing _ _ _ _ _ _ _ _ _ _ c.loop-next.invariant _ c.item_here.ensures.is _ _ q c.element_patterns-element.result c.element_patterns-element.ensures.patterned c.is_empty-in-Element.result c.is_empty-in-Element.ensures c.if-is_empty-2.true);
+      patterned = list_had _ _ _ _ c.args.takes.now _ _ (list_nothing _ _ _ _ _ _ _ _ _ _ c.loop-next.invariant _ c.item_here.ensures.is _ _ q c.element_patterns-element.result c.element_patterns-element.ensures.patterned c.is_empty-in-Element.result c.is_empty-in-Element.ensures c.if-is_empty-2.true);
     }
 
 pub list_patterns-has-requires-in-Element : goal.list_patterns-has-requires-in-Element
@@ -120,4 +120,4 @@ list_patterns-loop-next-preserved t c = let q = c.in-Blank.is in
 
 pub list_patterns-returns-in-End : goal.list_patterns-returns-in-End
 list_patterns-returns-in-End t c = let q = c.in-End.is in
-    record { forward = omega (arith, c.loop-next.invariant.forward, end_moves _ _ _ c.item_here.ensures.moves _ q); patterned = list_had _ _ _ _ c.args.self.now.takes.now _ _ (list_ends _ _ _ _ _ _ _ _ c.loop-next.line _ c.loop-next.invariant _ c.item_here.ensures.is _ q) }
+    record { forward = omega (arith, c.loop-next.invariant.forward, end_moves _ _ _ c.item_here.ensures.moves _ q); patterned = list_had _ _ _ _ c.args.takes.now _ _ (list_ends _ _ _ _ _ _ _ _ c.loop-next.line _ c.loop-next.invariant _ c.item_here.ensures.is _ q) }

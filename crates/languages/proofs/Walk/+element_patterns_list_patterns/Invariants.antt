@@ -12,7 +12,7 @@ abbrev pub decreases-list_patterns : goal.decreases-list_patterns
 decreases-list_patterns l = (length l.self.now.s.now - l.start.at) + (length l.self.now.s.now - l.start.at) + 1
 
 abbrev pub invariant-list_patterns-loop-next : goal.invariant-list_patterns-loop-next
-invariant-list_patterns-loop-next l = ListTo l.self.s.now l.self.r l.self.graph.now l.self.n l.self.takes.now (LentSets l.self.r l.self.graph.now l.self.n l.self.takes.now) (λ φs G M X known. known) l.initial.here.at l.line l.here.at
+invariant-list_patterns-loop-next l = ListTo l.self.s.now l.self.r l.self.graph.now l.self.n l.takes (LentSets l.self.r l.self.graph.now l.self.n l.takes) (λ φs G M X known. known) l.initial.here.at l.line l.here.at
 
 abbrev pub decreases-list_patterns-loop-next : goal.decreases-list_patterns-loop-next
 decreases-list_patterns-loop-next l = length l.self.s.now - l.here.at
