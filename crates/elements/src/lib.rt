@@ -132,34 +132,28 @@ fn has_pattern(takes: bool, inner: [u64; 4]) -> bool
     !pattern_sets::is_empty(inner)
 }
 
-// What the items of template n are searched with: a clause. What each gap takes is lent beside it: as a field it would be copied for every
-// template and clause.
+// What the items of template n are searched with: a clause, and what each gap takes.
 #[derive(Clone, Copy)]
 struct Search<'a> {
     s: &'a [u8],
     clause: Clause,
     n: usize,
     graph: &'a Graph,
+    takes: &'a [[u64; 4]; 8],
     ghost there: { n < 32 },
 }
 
 impl Search<'_> {
     // The element e here, whose attributes stand at `start`: itself, if it has the clause's name, and those inside it.
     #[cycle(search_element_search_items)]
-    fn search_element(
-        &self,
-        takes: &[[u64; 4]; 8],
-        here: Position,
-        e: u8,
-        start: Position,
-    ) -> FoundElement
+    fn search_element(&self, here: Position, e: u8, start: Position) -> FoundElement
         ensures forward { start.at ≤ result.next.at }
-        ensures searched { SearchesElement self.now.s.now here.at e start self.now.clause self.now.graph.now takes.now self.now.n result }
+        ensures searched { SearchesElement self.now.s.now here.at e start self.now.clause self.now.graph.now self.now.takes.now self.now.n result }
     {
         let clause = self.clause;
         if e != clause.element {
             let filled = languages::attributes_take(self.s, start, self.graph, self.n);
-            let list = self.search_items(takes, filled.next);
+            let list = self.search_items(filled.next);
             return FoundElement {
                 yields: has_pattern(filled.takes, list.set),
                 wrong: list.wrong,
@@ -174,7 +168,7 @@ impl Search<'_> {
             self.graph,
             self.n,
         );
-        let list = self.search_items(takes, attributes.next);
+        let list = self.search_items(attributes.next);
         let fails = can_fail(self.s, clause, attributes.set, list.set);
         let own = wrong_if(fails, self.n, here.at, clause.place);
         FoundElement {
@@ -187,11 +181,11 @@ impl Search<'_> {
     // The items from here on, up to and with what ends them: the lowest wrong element, and the patterns of the list, which are the product of
     // those of the items. After an item without a pattern there is none.
     #[cycle(search_element_search_items)]
-    fn search_items(&self, takes: &[[u64; 4]; 8], start: Position) -> FoundItems
+    fn search_items(&self, start: Position) -> FoundItems
         ensures forward { start.at ≤ result.next.at }
-        ensures searched { SearchesItems self.now.s.now start.at self.now.clause self.now.graph.now takes.now self.now.n result }
+        ensures searched { SearchesItems self.now.s.now start.at self.now.clause self.now.graph.now self.now.takes.now self.now.n result }
     {
-        // Held apart from `self`, whose fields each text would load anew.
+        // Loaded once; through `self` it would be for every text.
         let s = self.s;
         let scheme = self.clause.scheme;
         let mut line = languages::line_of(pattern_sets::only(EMPTY));
@@ -209,12 +203,12 @@ impl Search<'_> {
                 ItemHere::Gap(g, next) => {
                     here = next;
                     if sets::has(line.gaps, g) {
-                        let longer = languages::with_gap(scheme, line, takes, g);
+                        let longer = languages::with_gap(scheme, line, self.takes, g);
                         line = longer;
                     }
                 }
                 ItemHere::Element(e, inside) => {
-                    let found = self.search_element(takes, here, e, inside);
+                    let found = self.search_element(here, e, inside);
                     wrong = patterns::lower(wrong, found.wrong);
                     here = found.next;
                     let longer = languages::with_element(scheme, line, e, found.yields);
@@ -248,8 +242,9 @@ fn search_template(
         clause,
         n,
         graph,
+        takes: &takes,
     };
-    search.search_items(&takes, start).wrong
+    search.search_items(start).wrong
 }
 
 // One clause, for the templates of a set, from the sets that are settled by its scheme. Template 0 has no element. The bytes, the graph and

@@ -170,8 +170,8 @@ pub struct Patterned {
     pub next: Position,
 }
 
-// What the sets of items of template n are worked out with: a scheme. What each gap takes is lent beside it: as a field it would be copied
-// for every template of every round.
+// What the sets of items of template n are worked out with: a scheme. What each gap takes is lent beside the struct; with a reference to it
+// in a field the compiler copies the table once more for each template.
 #[derive(Clone, Copy)]
 struct Walk<'a> {
     s: &'a [u8],
@@ -216,7 +216,7 @@ impl Walk<'_> {
         ensures forward { start.at ≤ result.next.at }
         ensures patterned { ListPatterns self.now.s.now start.at self.now.r self.now.graph.now self.now.n takes.now result }
     {
-        // Held apart from `self`, whose fields each text would load anew.
+        // Loaded once; through `self` it would be for every text.
         let s = self.s;
         let mut line = line_of(pattern_sets::only(EMPTY));
         let mut here = start;

@@ -15,7 +15,7 @@ search_element-returns-then-e-clause t c = let args = c.args in
     let w = args.self.now in
     record {
       forward = omega (arith, c.attributes_take-filled.ensures.forward, c.search_items-list.ensures.forward);
-      searched = other_element w.s.now args.here.at args.e args.start w.clause w.graph.now args.takes.now w.n c.search_items-list.result
+      searched = other_element w.s.now args.here.at args.e args.start w.clause w.graph.now w.takes.now w.n c.search_items-list.result
           c.if-e-clause.true c.attributes_take-filled.result c.attributes_take-filled.ensures.filled c.search_items-list.ensures.searched c.has_pattern.result c.has_pattern.ensures;
     }
 
@@ -27,7 +27,7 @@ search_element-returns t c = let args = c.args in
     let w = args.self.now in
     record {
       forward = omega (arith, c.attribute_patterns-attributes.ensures.forward, c.search_items-list-2.ensures.forward);
-      searched = own_element w.s.now args.here.at args.e args.start w.clause w.graph.now args.takes.now w.n c.search_items-list-2.result
+      searched = own_element w.s.now args.here.at args.e args.start w.clause w.graph.now w.takes.now w.n c.search_items-list-2.result
           c.if-e-clause.false c.attribute_patterns-attributes.result c.attribute_patterns-attributes.ensures.patterned c.search_items-list-2.ensures.searched c.can_fail-fails.result c.can_fail-fails.ensures c.wrong_if-own.result c.wrong_if-own.ensures c.has_pattern-2.result c.has_pattern-2.ensures c.lower.result c.lower.ensures;
     }
 

@@ -12,7 +12,7 @@ abbrev pub decreases-search_items : goal.decreases-search_items
 decreases-search_items l = (length l.self.now.s.now - l.start.at) + (length l.self.now.s.now - l.start.at) + 1
 
 abbrev pub invariant-search_items-loop-next : goal.invariant-search_items-loop-next
-invariant-search_items-loop-next l = Going l.self.s.now l.self.clause l.self.graph.now l.takes l.self.n l.initial.here.at l.line l.here.at l.wrong
+invariant-search_items-loop-next l = Going l.self.s.now l.self.clause l.self.graph.now l.self.takes.now l.self.n l.initial.here.at l.line l.here.at l.wrong
 
 abbrev pub decreases-search_items-loop-next : goal.decreases-search_items-loop-next
 decreases-search_items-loop-next l = length l.self.s.now - l.here.at
