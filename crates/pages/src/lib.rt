@@ -253,11 +253,10 @@ pub fn gaps_of(s: &[u8], templates: &Templates) -> [u64; 32]
     table
 }
 
-// What lists of items are read in: bytes, of which kind they are, and the set of elements that have a rule. Its methods take it by value: lent,
-// it would be loaded anew for every item.
+// What lists of items are read in: bytes, and the set of elements that have a rule. Its methods take it by value: lent, it would be loaded anew
+// for every item. Their kind stands beside it: a copy, which every element takes, is slow with a field of one byte among words.
 #[derive(Clone, Copy)]
 struct Reading<'a> {
-    kind: Kind,
     declared: u64,
     s: &'a [u8],
 }
@@ -265,8 +264,8 @@ struct Reading<'a> {
 impl<'a> Reading<'a> {
     // A list of items below `depth` open elements, up to and with what ends it.
     #[cycle(read_item_read_items)]
-    fn read_items(self, here: Position, depth: usize) -> Result<Position, ReadError>
-        ensures { ItemsRead self.entry.kind (member self.entry.declared) self.entry.s.now depth here.at result }
+    fn read_items(self, kind: Kind, here: Position, depth: usize) -> Result<Position, ReadError>
+        ensures { ItemsRead kind (member self.entry.declared) self.entry.s.now depth here.at result }
     {
         let end = end_of(depth);
         let mut p = here;
@@ -274,16 +273,16 @@ impl<'a> Reading<'a> {
             if let Some(next) = p.past(self.s, end) {
                 return Ok(next);
             }
-            p = self.read_item(p, depth)?;
+            p = self.read_item(kind, p, depth)?;
         }
     }
 
     // Text, blank text, a gap, or an element with its attributes and contents.
     #[cycle(read_item_read_items)]
-    fn read_item(self, here: Position, depth: usize) -> Result<Position, ReadError>
-        ensures { ItemRead self.entry.kind (member self.entry.declared) self.entry.s.now depth here.at result }
+    fn read_item(self, kind: Kind, here: Position, depth: usize) -> Result<Position, ReadError>
+        ensures { ItemRead kind (member self.entry.declared) self.entry.s.now depth here.at result }
     {
-        let d = here.item_command(self.s, self.kind.allowed().items);
+        let d = here.item_command(self.s, kind.allowed().items);
         let Decoded::Moved(code, next) = d else {
             return Err(d.refusal());
         };
@@ -296,21 +295,23 @@ impl<'a> Reading<'a> {
                 at: here.at,
             });
         }
-        if self.kind.allowed().nesting <= depth {
+        if kind.allowed().nesting <= depth {
             return Err(ReadError {
                 form: Form::TooMany,
                 at: here.at,
             });
         }
-        let inside = self.read_attributes(next)?;
-        self.read_items(inside, depth + 1)
+        let inside = self.read_attributes(kind, next)?;
+        // Taken apart and made anew: handed on as it is, the answer's room would be cleared for every item.
+        let after = self.read_items(kind, inside, depth + 1)?;
+        Ok(after)
     }
 
     // The attributes straight after `23 e`: none is named twice.
-    fn read_attributes(self, here: Position) -> Result<Position, ReadError>
-        ensures { AttributesRead self.entry.kind self.entry.s.now [] here.at result }
+    fn read_attributes(self, kind: Kind, here: Position) -> Result<Position, ReadError>
+        ensures { AttributesRead kind self.entry.s.now [] here.at result }
     {
-        let context = self.kind.allowed().attributes;
+        let context = kind.allowed().attributes;
         let mut seen: u64 = 0;
         let mut p = here;
         while commands::is_allowed(context, commands::byte_at(self.s, p.at)) {
@@ -336,12 +337,8 @@ impl<'a> Reading<'a> {
 pub fn read_page(declared: u64, s: &[u8]) -> Result<Position, ReadError>
     ensures { Agrees (items (enough s.now) Kind.Page (member declared) s.now 0 0) result }
 {
-    let reading = Reading {
-        kind: Kind::Page,
-        declared,
-        s,
-    };
-    reading.read_items(Position::new(0), 0)
+    let reading = Reading { declared, s };
+    reading.read_items(Kind::Page, Position::new(0), 0)
 }
 
 // The templates of a job, up to `2F`.
@@ -352,11 +349,7 @@ pub fn read_templates(
 ) -> Result<(Templates, Position), ReadError>
     ensures { TemplatesFrom (member declared) s.now here.at result }
 {
-    let reading = Reading {
-        kind: Kind::Template,
-        declared,
-        s,
-    };
+    let reading = Reading { declared, s };
     // Counts the templates beside the position that moves over them.
     let mut count: usize = 0;
     let mut starts = [0usize; 32];
@@ -377,6 +370,6 @@ pub fn read_templates(
         }
         count += 1;
         starts[count] = next.at;
-        p = reading.read_items(next, 0)?;
+        p = reading.read_items(Kind::Template, next, 0)?;
     }
 }

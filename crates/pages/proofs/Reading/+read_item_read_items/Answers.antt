@@ -12,7 +12,7 @@ use Rattle.pages.proofs.Reading.+read_item_read_items.Goals as goal
 
 pub read_item-item_command-d-requires : goal.read_item-item_command-d-requires
 read_item-item_command-d-requires t c =
-    rw c.allowed.ensures.items (item_permitted c.args.self.kind)
+    rw c.allowed.ensures.items (item_permitted c.args.kind)
 
 pub read_item-returns-in_default : goal.read_item-returns-in_default
 read_item-returns-in_default t c = search item_refused
@@ -45,9 +45,14 @@ read_item-read_items-requires t c =
     let i = attributes_onward _ _ _ _ _ _ c.in_ok-inside.was c.read_attributes.ensures m.inside in
     (omega (arith, i, m.forward), tt)
 
+pub read_item-returns-in_err-after : goal.read_item-returns-in_err-after
+read_item-returns-in_err-after t c =
+    let up : c.from_residual-in_err-after.result ≡ Err c.in_err-after.field-0.0 = search rules in
+    rw up (item_element _ _ c.allowed.ensures.items _ _ _ _ _ c.item_command-d.ensures _ _ c.in-Moved.is c.if-code-ne35.false _ c.operand.ensures _ c.has.ensures _ c.allowed-2.ensures.nesting c.if-not-has.false c.if-allowed-depth.false _ c.read_attributes.ensures _ _ c.in_ok-inside.was (rw c.in_err-after.was at c.read_items.ensures))
+
 pub read_item-returns : goal.read_item-returns
 read_item-returns t c =
-    item_element _ _ c.allowed.ensures.items _ _ _ _ _ c.item_command-d.ensures _ _ c.in-Moved.is c.if-code-ne35.false _ c.operand.ensures _ c.has.ensures _ c.allowed-2.ensures.nesting c.if-not-has.false c.if-allowed-depth.false _ c.read_attributes.ensures _ _ c.in_ok-inside.was c.read_items.ensures
+    item_element _ _ c.allowed.ensures.items _ _ _ _ _ c.item_command-d.ensures _ _ c.in-Moved.is c.if-code-ne35.false _ c.operand.ensures _ c.has.ensures _ c.allowed-2.ensures.nesting c.if-not-has.false c.if-allowed-depth.false _ c.read_attributes.ensures _ _ c.in_ok-inside.was (rw c.in_ok-after.was at c.read_items.ensures)
 
 pub read_items-loop-next-init : goal.read_items-loop-next-init
 read_items-loop-next-init t c =

@@ -16,7 +16,7 @@ abbrev pub decreases-read_items : goal.decreases-read_items
 decreases-read_items l = (length l.self.s.now - l.here.at) + (length l.self.s.now - l.here.at) + 1
 
 abbrev pub invariant-read_items-loop-next : goal.invariant-read_items-loop-next
-invariant-read_items-loop-next l = (l.initial.p.at ≤ l.p.at) × ((r : Result Position ReadError) → ItemsRead l.self.kind (member l.self.declared) l.self.s.now l.depth l.p.at r → ItemsRead l.self.kind (member l.self.declared) l.self.s.now l.depth l.initial.p.at r)
+invariant-read_items-loop-next l = (l.initial.p.at ≤ l.p.at) × ((r : Result Position ReadError) → ItemsRead l.kind (member l.self.declared) l.self.s.now l.depth l.p.at r → ItemsRead l.kind (member l.self.declared) l.self.s.now l.depth l.initial.p.at r)
 
 abbrev pub decreases-read_items-loop-next : goal.decreases-read_items-loop-next
 decreases-read_items-loop-next l = length l.self.s.now - l.p.at

@@ -16,7 +16,7 @@ unfolding is_in
 loop-context-init c = ([], member_zero, λ k e r h. h)
 
 pub attribute_command-d-requires : goal.attribute_command-d-requires
-attribute_command-d-requires c = rw c.allowed-context.ensures.attributes (string_permitted c.args.self.kind)
+attribute_command-d-requires c = rw c.allowed-context.ensures.attributes (string_permitted c.args.kind)
 
 pub returns-in_default : goal.returns-in_default
 returns-in_default c = c.loop-context.invariant.2 _ c.allowed-context.ensures.attributes _
@@ -25,7 +25,7 @@ returns-in_default c = c.loop-context.invariant.2 _ c.allowed-context.ensures.at
 pub has-requires : goal.has-requires
 has-requires c =
     let stands : command c.allowed-context.result.attributes c.args.self.s.now c.loop-context.p.at ≡ Moved c.in-Moved.field-0 c.in-Moved.next = sym c.attribute_command-d.ensures ∙ c.in-Moved.is in
-    let most = attribute_range c.args.self.kind _ _ _ _ (rw c.allowed-context.ensures.attributes at stands) in
+    let most = attribute_range c.args.kind _ _ _ _ (rw c.allowed-context.ensures.attributes at stands) in
     omega (arith, c.operand-name.ensures)
 
 pub loop-context-preserved : goal.loop-context-preserved
@@ -46,7 +46,7 @@ returns-then-has c = c.loop-context.invariant.2 _ c.allowed-context.ensures.attr
 pub with-seen-requires : goal.with-seen-requires
 with-seen-requires c =
     let stands : command c.allowed-context.result.attributes c.args.self.s.now c.loop-context.p.at ≡ Moved c.in-Moved.field-0 c.in-Moved.next = sym c.attribute_command-d.ensures ∙ c.in-Moved.is in
-    let most = attribute_range c.args.self.kind _ _ _ _ (rw c.allowed-context.ensures.attributes at stands) in
+    let most = attribute_range c.args.kind _ _ _ _ (rw c.allowed-context.ensures.attributes at stands) in
     omega (arith, c.operand-name.ensures)
 
 pub loop-context-smaller : goal.loop-context-smaller
