@@ -254,7 +254,7 @@ pub fn gaps_of(s: &[u8], templates: &Templates) -> [u64; 32]
 }
 
 // What lists of items are read in: bytes, and the set of elements that have a rule. Its methods take it by value: lent, it would be loaded anew
-// for every item. Their kind stands beside it: a copy, which every element takes, is slow with a field of one byte among words.
+// for every item. The kind of the lists is no field, since every element copies the struct, and a field of one byte makes that slow.
 #[derive(Clone, Copy)]
 struct Reading<'a> {
     declared: u64,
@@ -302,7 +302,7 @@ impl<'a> Reading<'a> {
             });
         }
         let inside = self.read_attributes(kind, next)?;
-        // Taken apart and made anew: handed on as it is, the answer's room would be cleared for every item.
+        // As the last expression this call would have the room for its answer cleared for every item.
         let after = self.read_items(kind, inside, depth + 1)?;
         Ok(after)
     }
